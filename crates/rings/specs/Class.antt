@@ -1,0 +1,22 @@
+-- The class of a reading (01, 'Rules the work stands on'): Loose is no prenecklace; Opening, with its lyn, is a prenecklace and no necklace;
+-- Repeating, with its period, is a necklace and no Lyndon word; Single is a Lyndon word.
+-- Assumes nothing.
+use Prim.Native.Nat.{ℕ}
+use mathlib.Core.Bool.{true, false}
+use mathlib.Core.List.{List}
+use Rattle.rings.specs.declared.Class.{Class}
+use Rattle.rings.specs.declared.Class.the-variants.{Loose, Opening, Repeating, Single}
+use Rattle.rings.specs.Necklace.{necklace, lyndon, period}
+use Rattle.rings.specs.Prenecklace.{prenecklace, lyn}
+
+-- the class of a necklace
+unfoldable pub necklaceClass : List ℕ → Class
+necklaceClass w = elim (lyndon w) [ true ↦ Single | false ↦ Repeating (period w) ]
+
+-- the class of a prenecklace
+unfoldable pub prenecklaceClass : List ℕ → Class
+prenecklaceClass w = elim (necklace w) [ true ↦ necklaceClass w | false ↦ Opening (lyn w) ]
+
+-- the class of a reading
+unfoldable pub classOf : List ℕ → Class
+classOf w = elim (prenecklace w) [ true ↦ prenecklaceClass w | false ↦ Loose ]

@@ -1,0 +1,1 @@
+// No code: this crate holds definitions (specs/) and laws (proofs/) about readings as lists.
