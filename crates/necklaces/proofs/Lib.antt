@@ -1,0 +1,4 @@
+-- The theorems. In order: words as sequences (Run, Repeat, Ring), and then the same of lists.
+pub mod Run
+pub mod Repeat
+pub mod Raise
