@@ -4,3 +4,4 @@ pub mod Split
 pub mod Search
 pub mod Sequence
 pub mod Lex
+pub mod Turn
