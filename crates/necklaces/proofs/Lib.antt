@@ -2,3 +2,8 @@
 pub mod Run
 pub mod Repeat
 pub mod Raise
+pub mod Words
+pub mod Lyndon
+pub mod Fundamental
+pub mod Classes
+pub mod Begin

@@ -1,13 +1,23 @@
 -- The class of a reading (01, 'Rules the work stands on'): Loose is no prenecklace; Opening, with its lyn, is a prenecklace and no necklace;
 -- Repeating, with its period, is a necklace and no Lyndon word; Single is a Lyndon word.
--- Assumes nothing.
+--     Classed w c    w is of class c, by the page's sentence for c
+--     classOf w      the class of w
+-- That each reading has exactly one class, `classOf w`: `necklaces`, proofs/Classes. Assumes nothing.
 use Prim.Native.Nat.{ℕ}
+use mathlib.Core.Path.{_≡_}
 use mathlib.Core.Bool.{true, false}
 use mathlib.Core.List.{List}
 use Rattle.rings.specs.declared.Class.{Class}
 use Rattle.rings.specs.declared.Class.the-variants.{Loose, Opening, Repeating, Single}
 use Rattle.rings.specs.Necklace.{necklace, lyndon, period}
 use Rattle.rings.specs.Prenecklace.{prenecklace, lyn}
+
+-- w is of this class
+abbrev pub Classed : List ℕ → Class → Type 0
+Classed w Loose = prenecklace w ≡ false
+Classed w (Opening p) = (prenecklace w ≡ true) × (necklace w ≡ false) × (lyn w ≡ p)
+Classed w (Repeating p) = (necklace w ≡ true) × (lyndon w ≡ false) × (period w ≡ p)
+Classed w Single = lyndon w ≡ true
 
 -- the class of a necklace
 unfoldable pub necklaceClass : List ℕ → Class
