@@ -5,3 +5,4 @@ pub mod Search
 pub mod Sequence
 pub mod Lex
 pub mod Turn
+pub mod Readings
