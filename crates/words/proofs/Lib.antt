@@ -6,3 +6,4 @@ pub mod Sequence
 pub mod Lex
 pub mod Turn
 pub mod Readings
+pub mod Count
