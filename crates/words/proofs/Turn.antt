@@ -1,7 +1,8 @@
 -- Laws of turns (specs/Turn), for i up to the length of w.
 --     length-turn, turn-low, turn-high, getD-turn-low, getD-turn-high    length and sectors of a turn
 --     turn-zero, turn-length, turn-one, turn-suc                         turning by i is i times turning by one
---     turn-turn, turn-turn-past, turn-back                               turns of turns
+--     turn-turn, turn-turn-past, turn-back, turn-comm                    turns of turns
+--     turn-again, turn-between                                           a turn of a turn is a turn, and each is one of each other
 --     reading-turn, reading-reverse                                      a turn of a reading, and its reversal, are readings
 --     getD-reverse, reverse-turn                                         sectors and turns of the reversal
 -- Assumes nothing.
@@ -14,7 +15,7 @@ use lib.ListN.{length, take, drop, getD, length-append, length-take, length-drop
 use lib.Seq.{take-length, drop-length, take-append-le, drop-append-le, take-at, drop-at, take-add, drop-drop, getD-append-add, getD-append-seam, getD-take, getD-drop}
 use Rattle.words.specs.Turn.{turn}
 use Rattle.words.specs.Readings.{Reading}
-use Rattle.words.proofs.Split.{lt, eq, gt, tri}
+use Rattle.words.proofs.Split.{Tri, lt, eq, gt, tri}
 use Rattle.words.proofs.Sequence.{sec, place}
 
 -- ---- length and sectors
@@ -81,6 +82,36 @@ turn-back i w h = let e : i + (length w - i) ≡ length w = omega arith in turn-
 pub turn-turn-past : (i j m : ℕ) (w : List ℕ) → i ≤ length w → j ≤ length w → i + j ≡ length w + m → turn j (turn i w) ≡ turn m w
 turn-turn-past i j m w h k e =
     let s : j ≡ (length w - i) + m = omega arith in rw (s, ← turn-turn (length w - i) m (turn i w) (rw (length-turn i w h) (omega arith)), turn-back i w h)
+
+-- two turns may change places
+pub turn-comm : (i j : ℕ) (w : List ℕ) → i ≤ length w → j ≤ length w → turn j (turn i w) ≡ turn i (turn j w)
+turn-comm i j w h k =
+    elim (tri (i + j) (length w)) [
+      | lt l ↦ turn-turn i j w (omega arith) ∙ sym (turn-turn j i w (omega arith) ∙ ap (λ m. turn m w) (omega arith))
+      | eq l ↦ turn-turn i j w (omega arith) ∙ sym (turn-turn j i w (omega arith) ∙ ap (λ m. turn m w) (omega arith))
+      | gt l ↦ turn-turn-past i j (i + j - length w) w h k (omega arith) ∙ sym (turn-turn-past j i (i + j - length w) w k h (omega arith))
+    ]
+
+-- a turn of a turn is a turn by less than the length
+pub turn-again : (i j : ℕ) (w : List ℕ) → 0 < length w → i ≤ length w → j ≤ length w → (m : ℕ) × (m < length w) × (turn j (turn i w) ≡ turn m w)
+turn-again i j w z h k =
+    elim (tri (i + j) (length w)) [
+      | lt l ↦ (i + j, l, turn-turn i j w (omega arith))
+      | eq l ↦ (0, z, turn-turn-past i j 0 w h k (omega arith))
+      | gt l ↦ past (tri (i + j - length w) (length w)) l
+    ]
+  where
+    past : Tri (i + j - length w) (length w) → length w < i + j → (m : ℕ) × (m < length w) × (turn j (turn i w) ≡ turn m w)
+    past (lt e) l = (i + j - length w, e, turn-turn-past i j (i + j - length w) w h k (omega arith))
+    past (eq e) l = (0, z, turn-turn-past i j (length w) w h k (omega arith) ∙ turn-length w ∙ sym (turn-zero w))
+    past (gt e) l = absurd (omega arith)
+
+-- each turn is a turn of each other turn
+pub turn-between : (i j : ℕ) (w : List ℕ) → 0 < length w → i ≤ length w → j ≤ length w → (m : ℕ) × (m < length w) × (turn m (turn i w) ≡ turn j w)
+turn-between i j w z h k = back (turn-again (length w - i) j (turn i w) (rw (length-turn i w h) z) (rw (length-turn i w h) (omega arith)) (rw (length-turn i w h) k))
+  where
+    back : (m : ℕ) × (m < length (turn i w)) × (turn j (turn (length w - i) (turn i w)) ≡ turn m (turn i w)) → (m : ℕ) × (m < length w) × (turn m (turn i w) ≡ turn j w)
+    back (m, l, e) = (m, rw (length-turn i w h) at l, sym e ∙ ap (turn j) (turn-back i w h))
 
 -- ---- readings
 
