@@ -7,3 +7,5 @@ pub mod Lyndon
 pub mod Fundamental
 pub mod Classes
 pub mod Begin
+pub mod Next
+pub mod Moves

@@ -1,7 +1,7 @@
 -- Steps and walks (01, 'Walks'): the next reading of a kind, the moves to it, and a full walk.
 -- A kind is a test of readings: prenecklace, necklace, lyndon, or a necklace with given counts.
 -- Assumes nothing.
-use Prim.Native.Nat.{ℕ, _+_}
+use Prim.Native.Nat.{ℕ, zero, suc, _+_}
 use mathlib.Core.Path.{_≡_}
 use mathlib.Core.Bool.{Bool, _&&_}
 use mathlib.Core.Option.{Option, none, some}
@@ -31,6 +31,15 @@ passed w none u = aboveOf prenecklace w u
 -- the moves from w to the answer: the prenecklaces of the same n and k passed on the way
 unfoldable pub moves : ℕ → List ℕ → Option (List ℕ) → ℕ
 moves k w answer = count (passed w answer) (readings (length w) k)
+
+-- how many readings of n and k are of the kind
+unfoldable pub howMany : (List ℕ → Bool) → ℕ → ℕ → ℕ
+howMany kind n k = count kind (readings n k)
+
+-- how many readings of k shades and of 1 to n sectors together are of the kind
+unfoldable pub howManyTo : (List ℕ → Bool) → ℕ → ℕ → ℕ
+howManyTo kind zero k = 0
+howManyTo kind (suc n) k = howManyTo kind n k + howMany kind (suc n) k
 
 -- a full walk from w: the rings it comes to, each the next of the kind after the one before, until there is none; and the sum of the moves
 pub data FullWalk (kind : List ℕ → Bool) (k : ℕ) : List ℕ → List (List ℕ) → ℕ → Type 0 where

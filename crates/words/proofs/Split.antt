@@ -1,9 +1,10 @@
 -- Telling cases apart, with the fact that each case knows.
 --     Test b, test b         b is true, or b is false
 --     Tri a b, tri a b       a < b, a ≡ b, or b < a
---     both, both-left, both-right    a conjunction of two tests
---     either, neither        a disjunction of two tests
---     clash                  no test is both
+--     both, both-left, both-right, not-left, not-right    a conjunction of two tests
+--     either, either-left, either-right                   a disjunction of two tests
+--     clash, refuted, forced                              no test is both true and false, and one of the two it is
+--     agree                                               two tests that pass together are equal
 -- Assumes nothing.
 use Prim.Native.Nat.{ℕ, _<_, _≤_}
 use mathlib.Core.Path.{_≡_, refl, sym, _∙_}
@@ -46,6 +47,14 @@ both-left false b e = absurd (false≢true e)
 pub both-right : (a b : Bool) → (a && b) ≡ true → b ≡ true
 both-right true b e = e
 both-right false b e = absurd (false≢true e)
+
+-- a conjunction fails where one half does
+pub not-left : (a b : Bool) → a ≡ false → (a && b) ≡ false
+not-left a b e = rw e
+
+pub not-right : (a b : Bool) → b ≡ false → (a && b) ≡ false
+not-right true b e = e
+not-right false b e = refl
 
 pub either-left : (a b : Bool) → a ≡ true → (a || b) ≡ true
 either-left a b p = rw p
