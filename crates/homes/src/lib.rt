@@ -1,0 +1,1 @@
+// Nothing runs here: the theorems about home readings, shifts and periods stand in proofs/.
