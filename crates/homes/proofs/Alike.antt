@@ -47,13 +47,16 @@ same-ring-turn v w z e h = one-home-turn v w z e (same-ring-true v w h)
 pub turn-same-ring : (v w : List ℕ) (i : ℕ) → 0 < length w → i ≤ length w → turn i w ≡ v → sameRing v w ≡ true
 turn-same-ring v w i z l t = true-same-ring v w (turn-one-home v w i z l t)
 
+-- a reading is of its own ring
 pub same-ring-refl : (w : List ℕ) → sameRing w w ≡ true
 same-ring-refl w = true-same-ring w w refl
 
+-- same ring is the same the other way round
 pub same-ring-sym : (v w : List ℕ) → sameRing v w ≡ sameRing w v
 same-ring-sym v w =
     agree (sameRing v w) (sameRing w v) (λ h. true-same-ring w v (sym (same-ring-true v w h))) (λ h. true-same-ring v w (sym (same-ring-true w v h)))
 
+-- readings of the same ring as a third are of the same ring
 pub same-ring-trans : (u v w : List ℕ) → sameRing u v ≡ true → sameRing v w ≡ true → sameRing u w ≡ true
 same-ring-trans u v w p q = true-same-ring u w (same-ring-true u v p ∙ same-ring-true v w q)
 

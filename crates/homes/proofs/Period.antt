@@ -25,14 +25,17 @@ use Rattle.rings.specs.Necklace.{repeatsBy, period}
 
 -- ---- repeating by p
 
+-- what repeats a reading divides its length
 pub repeats-divides : (w : List ℕ) (p : ℕ) → repeatsBy w p ≡ true → length w % p ≡ 0
 unfolding repeatsBy
 repeats-divides w p h = eqb-true (length w % p) 0 (both-left (eqb (length w % p) 0) (same (turn p w) w) h)
 
+-- turning by what repeats a reading changes nothing
 pub repeats-turn : (w : List ℕ) (p : ℕ) → repeatsBy w p ≡ true → turn p w ≡ w
 unfolding repeatsBy
 repeats-turn w p h = same-true (turn p w) w (both-right (eqb (length w % p) 0) (same (turn p w) w) h)
 
+-- what divides the length, with turning by it changing nothing, repeats the reading
 pub repeats-by : (w : List ℕ) (p : ℕ) → length w % p ≡ 0 → turn p w ≡ w → repeatsBy w p ≡ true
 unfolding repeatsBy
 repeats-by w p d t = both (eqb (length w % p) 0) (same (turn p w) w) (eq-eqb (length w % p) 0 d) (true-same (turn p w) w t)
@@ -115,6 +118,7 @@ unfoldable pub turnsBack : List ℕ → ℕ
 turnsBack w = suc (least (length w) (λ i. same (turn (suc i) w) w))
 
 module _ (w : List ℕ) (z : 0 < length w) where
+  -- no fewer turns than that, but for none, change nothing
   pub back-least : (i : ℕ) → 0 < i → turn i w ≡ w → turnsBack w ≤ i
   unfolding turnsBack
   back-least zero y t = absurd (omega arith)

@@ -37,22 +37,27 @@ pub all-weaken : {P Q : List ℕ → Type 0} {ws : List (List ℕ)} → ((w : Li
 all-weaken h nothing = nothing
 all-weaken h (also {w} p ps) = also (h w p) (all-weaken h ps)
 
+-- what holds of each word of two lists holds of each of the two joined
 pub all-append : {P : List ℕ → Type 0} {vs ws : List (List ℕ)} → All P vs → All P ws → All P (vs ++ ws)
 all-append nothing q = q
 all-append (also p ps) q = also p (all-append ps q)
 
+-- what holds of each word of joined lists holds of each of the first
 pub all-left : {P : List ℕ → Type 0} (vs ws : List (List ℕ)) → All P (vs ++ ws) → All P vs
 all-left [] ws h = nothing
 all-left (v ∷ vs) ws (also p h) = also p (all-left vs ws h)
 
+-- what holds of each word of joined lists holds of each of the second
 pub all-right : {P : List ℕ → Type 0} (vs ws : List (List ℕ)) → All P (vs ++ ws) → All P ws
 all-right [] ws h = h
 all-right (v ∷ vs) ws (also p h) = all-right vs ws h
 
+-- what holds of each image holds of each word of the mapped list
 pub all-map : {P : List ℕ → Type 0} (g : List ℕ → List ℕ) (ws : List (List ℕ)) → All (λ w. P (g w)) ws → All P (map g ws)
 all-map g [] h = nothing
 all-map g (w ∷ ws) (also p h) = also p (all-map g ws h)
 
+-- what holds of each word of the mapped list holds of each image
 pub all-unmap : {P : List ℕ → Type 0} (g : List ℕ → List ℕ) (ws : List (List ℕ)) → All P (map g ws) → All (λ w. P (g w)) ws
 all-unmap g [] h = nothing
 all-unmap g (w ∷ ws) (also p h) = also p (all-unmap g ws h)

@@ -37,9 +37,11 @@ unfolding turn
 turn-high i w l m j e h =
     place (sec (drop i w ++ take i w)) m (length (drop i w) + j) (simp length-drop (omega arith)) ∙ getD-append-add (drop i w) (take i w) j 0 ∙ getD-take i w j 0 (omega arith)
 
+-- the same, with the place in the reading computed
 pub getD-turn-low : (i : ℕ) (w : List ℕ) (m : ℕ) → i + m < length w → getD (turn i w) m 0 ≡ getD w (i + m) 0
 getD-turn-low i w m h = turn-low i w m (i + m) refl h
 
+-- the same, with the place in the reading computed
 pub getD-turn-high : (i : ℕ) (w : List ℕ) → i ≤ length w → (m : ℕ) → length w ≤ i + m → m < length w → getD (turn i w) m 0 ≡ getD w (i + m - length w) 0
 getD-turn-high i w l m h k = turn-high i w l m (i + m - length w) (omega arith) k
 
