@@ -9,3 +9,7 @@ pub mod Classes
 pub mod Begin
 pub mod Next
 pub mod Moves
+pub mod Walk
+pub mod Bound
+pub mod Sums
+pub mod FullWalk

@@ -4,7 +4,7 @@
 --     next-reading, next-is-run, next-prenecklace, next-lyn-low    it is a reading of the same n and k, a prenecklace, and its lyn is the place that was raised
 --     next-before, next-upTo    it is above, and no prenecklace above is below it
 --     next-some, next-none      it is the next prenecklace; where every sector is k - 1 nothing of any kind is above
---     low-or-full               there is a place to raise exactly when not every sector is k - 1
+--     low-or-full, next-none-full    there is a place to raise, and a next prenecklace, exactly when not every sector is k - 1
 -- Assumes nothing.
 use Prim.Native.Nat.{ℕ, zero, suc, _+_, _-_, _%_, _<_, _≤_}
 use mathlib.Core.Path.{_≡_, refl, sym, ap, _∙_}
@@ -14,8 +14,8 @@ use mathlib.Core.Option.{none, some}
 use mathlib.Core.List.{List, [], _∷_, _++_}
 use native.Mathlib.Omega.{arith}
 use native.Mathlib.Nat.{mod-lt}
-use lib.ListN.{length, getD, take, length-append, List·getD-append, replicate}
-use lib.Seq.{length-take-le, getD-take, getD-at}
+use lib.ListN.{length, getD, take, length-append, List·getD-append, replicate, length-replicate, getD-replicate}
+use lib.Seq.{length-take-le, getD-take, getD-at, ext-getD}
 use borrow.Author.Tests.{ltb-true, ltb-false, lt-ltb, le-ltb}
 use Rattle.words.specs.Search.{greatest, tab}
 use Rattle.words.specs.Order.{before, upTo}
@@ -172,3 +172,23 @@ pub next-none : (kind : List ℕ → Bool) (k : ℕ) (w : List ℕ) → lastLow 
 unfolding nextOf aboveOf
 next-none kind k w z =
     first-nothing (length w) k (aboveOf kind w) (λ u reading. rw (none-before k w u z reading))
+
+-- there is a place to raise exactly when not every sector is k - 1
+pub low-or-full : (n k : ℕ) (w : List ℕ) → Reading n k w → (lastLow k w ≡ 0) ↔ (w ≡ replicate n (k - 1))
+low-or-full n k w reading = (
+  λ z. ext-getD 0 w (replicate n (k - 1)) (reading .long ∙ sym (length-replicate n (k - 1))) (λ i b. top i z (rw (reading .long) at b) ∙ sym (getD-replicate n i (k - 1) 0 (rw (reading .long) at b))),
+  λ e. elim (tri 0 (lastLow k w)) [ lt z ↦ absurd (omega (arith, low-at k w z, same-sector e (lastLow k w - 1) (omega (arith, low-le k w, reading .long)))) | eq z ↦ sym z | gt z ↦ absurd (omega arith) ],
+)
+  where
+    top : (i : ℕ) → lastLow k w ≡ 0 → i < n → getD w i 0 ≡ k - 1
+    top i z b = omega (arith, low-none k w i (omega arith) (omega (arith, reading .long)), reading .shades i b)
+
+    same-sector : w ≡ replicate n (k - 1) → (i : ℕ) → i < n → getD w i 0 ≡ k - 1
+    same-sector e i b = ap (λ (u : List ℕ). getD u i 0) e ∙ getD-replicate n i (k - 1) 0 b
+
+-- there is a next prenecklace exactly when the reading is not all k - 1
+pub next-none-full : (n k : ℕ) (w : List ℕ) → Reading n k w → prenecklace w ≡ true → (nextOf prenecklace k w ≡ none) ↔ (w ≡ replicate n (k - 1))
+next-none-full n k w reading pre = (
+  λ e. low-or-full n k w reading .0 (elim (tri 0 (lastLow k w)) [ lt z ↦ absurd (let q = next-some k w z pre (rw (reading .long) reading) in let x : _≡_ {A = ℕ} 0 1 = cc in omega arith) | eq z ↦ sym z | gt z ↦ absurd (omega arith) ]),
+  λ e. next-none prenecklace k w (low-or-full n k w reading .1 e),
+)

@@ -1,6 +1,6 @@
 -- Laws of `total` and `count` of specs/Readings.
 --     sumBelow k f                                     the sum of f over the numbers below k
---     sum-cong, sum-zero, sum-one                      its laws
+--     sum-cong, sum-add, sum-zero, sum-one             its laws
 --     total-append, total-map, total-fan               totals over joined, mapped and fanned lists
 --     total-cong, total-zero, total-le, total-add      totals of equal, absent, smaller and added values
 --     count-cong, count-zero, count-le, count-split    the same of counts: a test that splits in two counts as the two together
@@ -30,6 +30,12 @@ pub sum-cong : (k : ℕ) (f g : ℕ → ℕ) → ((b : ℕ) → b < k → f b �
 unfolding sumBelow
 sum-cong zero f g h = refl
 sum-cong (suc k) f g h = omega (arith, sum-cong k f g (λ b l. h b (omega arith)), h k (omega arith))
+
+-- the sum of sums is the sum of the sums
+pub sum-add : (k : ℕ) (f g : ℕ → ℕ) → sumBelow k (λ b. f b + g b) ≡ sumBelow k f + sumBelow k g
+unfolding sumBelow
+sum-add zero f g = refl
+sum-add (suc k) f g = omega (arith, sum-add k f g)
 
 -- a sum of nothing is nothing
 pub sum-zero : (k : ℕ) (f : ℕ → ℕ) → ((b : ℕ) → b < k → f b ≡ 0) → sumBelow k f ≡ 0

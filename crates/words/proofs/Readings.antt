@@ -190,3 +190,9 @@ first-is n k f v r p h = go (first f (readings n k)) refl
     go : (o : Option (List ℕ)) → first f (readings n k) ≡ o → o ≡ some v
     go none e = clash (f v) p (nothing-first n k f e v r)
     go (some u) e = let s = first-some n k f u e in ap some (upTo-antisym u v (s .2 v r p) (h u (s .0) (s .1)))
+
+-- two tests that agree on a list find the same
+pub first-cong : (f g : List ℕ → Bool) (ws : List (List ℕ)) → All (λ w. f w ≡ g w) ws → first f ws ≡ first g ws
+unfolding first
+first-cong f g [] nothing = refl
+first-cong f g (w ∷ ws) (also e a) = elim (test (g w)) [ passes q ↦ rw (e, q, first) | fails q ↦ rw (e, q, first) (first-cong f g ws a) ]
