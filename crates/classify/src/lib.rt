@@ -1,0 +1,37 @@
+// Classifying a reading (01, 'Rules the work stands on').
+
+use rings::Class;
+
+ghost use mathlib.Core.Path.{_≡_};
+ghost use Rattle.rings.specs.Class.{classOf};
+
+// The class of any bytes, whatever the number of shades. One scan from left to right: the first i sectors are a run of p, that is,
+// a prenecklace whose lyn is p (000, Theorem 2.1). No bytes at all count as a necklace of period 1, as the definitions have it.
+pub fn class_of(s: &[u8]) -> Class
+    ensures { λ r. ⌜ r ≡ classOf (now (s .entry)) ⌝ }
+{
+    let n = s.len();
+    if n < 1 {
+        return Class::Repeating(1);
+    }
+    let mut p: usize = 1;
+    let mut i: usize = 1;
+    while i < n {
+        let here = s[i];
+        let opposite = s[i - p];
+        if here < opposite {
+            return Class::Loose;
+        }
+        if opposite < here {
+            p = i + 1;
+        }
+        i += 1;
+    }
+    if p == n {
+        return Class::Single;
+    }
+    if n % p == 0 {
+        return Class::Repeating(p);
+    }
+    Class::Opening(p)
+}
