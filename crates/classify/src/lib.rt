@@ -1,7 +1,6 @@
 // Classifying a reading (01, 'Rules the work stands on').
 
 use rings::Class;
-
 ghost use mathlib.Core.Path.{_≡_};
 ghost use Rattle.rings.specs.Class.{classOf};
 

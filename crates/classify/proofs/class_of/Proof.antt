@@ -56,14 +56,15 @@ loop-less c = search needs
 
 -- src/lib.rt:19:5
 loop-again : tie.Need-loop-again Inv-loop μ-loop
-loop-again c = 
+loop-again c =
     let l = c .before .before .before .before .before .loop in
-    let w = c .before .before .before .before .before .before .before .args .s .now in
-    ( omega arith
-    , ⊎-elim
-      (λ m. rw (m .1) (scan-greater w (l .i) (l .p) (l .inv .1) (m .0 .taken)))
-      (λ m. rw (m .1) (scan-same w (l .i) (l .p) (l .inv .1) (omega (arith, c .before .if2 .left, m .0 .left))))
-      (c .if3 .came))
+    let w = c .before .before .before .before .before .before .before .args .s .now in (
+      omega arith,
+      ⊎-elim
+          (λ m. rw (m .1) (scan-greater w (l .i) (l .p) (l .inv .1) (m .0 .taken)))
+          (λ m. rw (m .1) (scan-same w (l .i) (l .p) (l .inv .1) (omega (arith, c .before .if2 .left, m .0 .left))))
+          (c .if3 .came),
+    )
 
 -- src/lib.rt:31:9
 returns-3 : tie.Need-returns-3 Inv-loop μ-loop
