@@ -1,0 +1,35 @@
+-- The number and the place of each refusal (01, 'Refusal numbers': the columns 'No.' and 'Place').
+--     numberOf r    its number, 1 to 12
+--     placeOf r     its place; 0 for a case that carries none
+-- Assumes nothing.
+use Prim.Native.Nat.{ℕ}
+use Rattle.refusal.specs.declared.Refusal.{Refusal}
+use Rattle.refusal.specs.declared.Refusal.the-variants.{Length, Shades, Sector, Room, OffWalk, Counts, Cut, Mark, NotHome, Pair, Line, TooMany}
+
+abbrev pub numberOf : Refusal → ℕ
+numberOf (Length p) = 1
+numberOf (Shades p) = 2
+numberOf (Sector p) = 3
+numberOf Room = 4
+numberOf OffWalk = 5
+numberOf Counts = 6
+numberOf (Cut p) = 7
+numberOf (Mark p) = 8
+numberOf (NotHome p) = 9
+numberOf Pair = 10
+numberOf Line = 11
+numberOf TooMany = 12
+
+abbrev pub placeOf : Refusal → ℕ
+placeOf (Length p) = p
+placeOf (Shades p) = p
+placeOf (Sector p) = p
+placeOf Room = 0
+placeOf OffWalk = 0
+placeOf Counts = 0
+placeOf (Cut p) = p
+placeOf (Mark p) = p
+placeOf (NotHome p) = p
+placeOf Pair = 0
+placeOf Line = 0
+placeOf TooMany = 0

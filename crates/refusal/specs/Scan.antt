@@ -1,0 +1,19 @@
+-- What the two scans over lent lists promise their callers.
+--     Scanned s m r    r is the first place of s that is not below m, or the length
+--     Told b P         the answer b to the question whether P holds
+-- Assumes nothing.
+use Prim.Native.Nat.{ℕ, _<_, _≤_}
+use mathlib.Core.Bool.{Bool, true, false}
+use mathlib.Core.List.{List}
+use lib.ListN.{length, getD}
+
+-- r is the first place of s that is not below m, or the length of s where all are
+pub record Scanned (s : List ℕ) (m r : ℕ) : Type 0 where
+  pub within : r ≤ length s
+  pub first : (i : ℕ) → i < r → getD s i 0 < m
+  pub here : r < length s → m ≤ getD s r 0
+
+-- yes: P holds; no: it does not
+abbrev pub Told : Bool → Type 0 → Type 0
+Told true P = P
+Told false P = P → ⊥
