@@ -105,10 +105,10 @@ module _ (kind : List ℕ → Bool) (k : ℕ) where
 abbrev pub zeros : ℕ → List ℕ
 zeros n = replicate n 0
 
-length-zeros : (n : ℕ) → length (zeros n) ≡ n
+pub length-zeros : (n : ℕ) → length (zeros n) ≡ n
 length-zeros n = length-replicate n 0
 
-zeros-at : (n i : ℕ) → getD (zeros n) i 0 ≡ 0
+pub zeros-at : (n i : ℕ) → getD (zeros n) i 0 ≡ 0
 zeros-at n i =
     elim (tri i n) [
       | lt h ↦ getD-replicate n i 0 0 h

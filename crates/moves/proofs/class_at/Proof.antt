@@ -1,0 +1,26 @@
+use Prim.Native.Nat.{ℕ, suc, _≤_, _<_, _+_, _-_}
+use mathlib.Core.Path.{_≡_, _∙_, sym, ap, refl}
+use mathlib.Core.Logic.{⊎-elim}
+use native.Mathlib.Omega.{arith}
+use lib.ListN.{length, getD, take, drop, set}
+use borrow.Author.Needs.{needs}
+use Rattle.moves.proofs.Standing.{at-single, at-repeating, at-opening}
+use Rattle.moves.proofs.class_at.Statement.{statement}
+use Rattle.moves.proofs.class_at.Tie as tie
+use Rattle.moves.proofs.class_at.Reads as reads
+use Rattle.moves.proofs.class_at.Lts as lts
+
+returns : tie.Need-returns
+returns c = at-single _ _ (c .if1 .taken)
+
+rem-if2 : tie.Need-rem-if2
+rem-if2 c = search needs
+
+returns-2 : tie.Need-returns-2
+returns-2 c = at-repeating _ _ (c .before .if1 .left) (c .if2 .taken)
+
+returns-3 : tie.Need-returns-3
+returns-3 c = at-opening _ _ (c .before .if1 .left) (c .if2 .left)
+
+pub class-at-spec : {M : Type 1} → statement M
+class-at-spec = tie.close (tie.spec returns rem-if2 returns-2 returns-3)

@@ -1,0 +1,35 @@
+use Prim.Native.Nat.{ℕ, suc, _≤_, _<_, _+_, _-_}
+use mathlib.Core.Path.{_≡_, _∙_, sym, ap, refl}
+use mathlib.Core.Logic.{⊎-elim}
+use native.Mathlib.Omega.{arith}
+use lib.ListN.{length, getD, take, drop, set}
+use borrow.Author.Needs.{needs}
+use Rattle.moves.proofs.of_kind.Statement.{statement}
+use Rattle.moves.proofs.of_kind.Tie as tie
+use Rattle.moves.proofs.of_kind.Reads as reads
+use Rattle.moves.proofs.of_kind.Lts as lts
+
+enum-told : tie.Need-enum-told
+enum-told c = search needs
+
+enum-told-2 : tie.Need-enum-told-2
+enum-told-2 c = search needs
+
+rem-result : tie.Need-rem-result
+rem-result c = search needs
+
+enum-told-3 : tie.Need-enum-told-3
+enum-told-3 c = search needs
+
+returns : tie.Need-returns
+returns c = search needs
+
+returns-2 : tie.Need-returns-2
+returns-2 c = rw (c .enum-told2 .given .1)
+
+returns-3 : tie.Need-returns-3
+returns-3 c = rw (c .enum-told3 .given .1)
+
+pub of-kind-spec : {M : Type 1} → statement M
+of-kind-spec =
+    tie.close (tie.spec enum-told enum-told-2 rem-result enum-told-3 returns returns-2 returns-3)

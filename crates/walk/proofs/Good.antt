@@ -1,0 +1,193 @@
+-- A record that passed its checks is the record of its ring; and what the code's tests of a class say.
+--     one-class, same-class      two classes with equal case and number are one
+--     loose-class                a reading is Loose exactly where it is no prenecklace
+--     off-loose, off-tag, off-value, on-class    the answers of `on_walk`
+--     good-ready, good-tail, good-is             what the checks of a record show
+--     start-off, start-on, start-is              what a start tests, and the record that it makes
+--     moved-is                   the record that a step makes is the record of its ring
+-- Assumes nothing.
+use Prim.Native.Nat.{ℕ, zero, suc, _+_, _-_, _<_, _≤_}
+use mathlib.Core.Path.{_≡_, refl, sym, ap, _∙_}
+use mathlib.Core.Bool.{Bool, true, false, _&&_}
+use mathlib.Core.Option.{none, some}
+use mathlib.Core.List.{List, _++_}
+use native.Mathlib.Omega.{arith}
+use lib.ListN.{length, getD, take, drop, replicate, take-append-drop, length-drop, length-replicate, getD-replicate}
+use lib.Seq.{ext-getD, getD-take, getD-drop, length-take-le}
+use lib.Dec.{eqb, ltb}
+use borrow.Author.Tests.{eq-eqb, ne-eqb, eqb-true, lt-ltb, le-ltb}
+use Rattle.words.specs.Readings.{Reading}
+use Rattle.words.proofs.Split.{Test, passes, fails, test, both, both-left, both-right, not-left, not-right, clash}
+use Rattle.words.proofs.Sequence.{sec}
+use Rattle.rings.specs.declared.Class.{Class}
+use Rattle.rings.specs.declared.Class.the-variants.{Loose, Opening, Repeating, Single}
+use Rattle.rings.specs.Prenecklace.{prenecklace, lyn}
+use Rattle.rings.specs.Class.{Classed, classOf}
+use Rattle.rings.specs.Steps.{nextOf, moves}
+use Rattle.necklaces.proofs.Lyndon.{lyn-run}
+use Rattle.necklaces.proofs.Classes.{classed, lyndon-necklace}
+use Rattle.necklaces.proofs.Words.{necklace-prenecklace}
+use Rattle.necklaces.proofs.FullWalk.{next-facts}
+use Rattle.refusal.specs.declared.Refusal.the-variants.{OffWalk}
+use Rattle.refusal.specs.Order.{Passed, Given}
+use Rattle.refusal.specs.Calls.{ringLimit, walkRecord, walkStart, oneReading}
+use Rattle.walk.specs.declared.Walk.{Walk}
+use Rattle.moves.specs.declared.Kind as K
+use Rattle.moves.specs.Kinds.{kindOf, classAt}
+use Rattle.walk.specs.Record.{ringOf, laidOut, walkOf, tagOf, valueOf, sameClass, isLoose, onWalk, walkAsked}
+use Rattle.moves.specs.Going.{Ready}
+use Rattle.moves.proofs.Standing.{kind-only, class-at}
+
+-- ---- classes
+
+-- two classes with equal case and number are one
+pub one-class : (a b : Class) → tagOf a ≡ tagOf b → valueOf a ≡ valueOf b → a ≡ b
+one-class Loose Loose e f = refl
+one-class Loose (Opening q) e f = absurd (omega arith)
+one-class Loose (Repeating q) e f = absurd (omega arith)
+one-class Loose Single e f = absurd (omega arith)
+one-class (Opening p) Loose e f = absurd (omega arith)
+one-class (Opening p) (Opening q) e f = ap Opening f
+one-class (Opening p) (Repeating q) e f = absurd (omega arith)
+one-class (Opening p) Single e f = absurd (omega arith)
+one-class (Repeating p) Loose e f = absurd (omega arith)
+one-class (Repeating p) (Opening q) e f = absurd (omega arith)
+one-class (Repeating p) (Repeating q) e f = ap Repeating f
+one-class (Repeating p) Single e f = absurd (omega arith)
+one-class Single Loose e f = absurd (omega arith)
+one-class Single (Opening q) e f = absurd (omega arith)
+one-class Single (Repeating q) e f = absurd (omega arith)
+one-class Single Single e f = refl
+
+pub same-class : (a b : Class) → sameClass a b ≡ true → a ≡ b
+same-class a b h =
+    one-class a b (eqb-true (tagOf a) (tagOf b) (both-left (eqb (tagOf a) (tagOf b)) (eqb (valueOf a) (valueOf b)) h)) (eqb-true (valueOf a) (valueOf b) (both-right (eqb (tagOf a) (tagOf b)) (eqb (valueOf a) (valueOf b)) h))
+
+-- a reading is Loose exactly where it is no prenecklace
+pub loose-class : (v : List ℕ) → isLoose (classOf v) ≡ true → prenecklace v ≡ false
+loose-class v h = go (classOf v) (classed v) h
+  where
+    go : (c : Class) → Classed v c → isLoose c ≡ true → prenecklace v ≡ false
+    go Loose d e = d
+    go (Opening p) d e = clash false e refl
+    go (Repeating p) d e = clash false e refl
+    go Single d e = clash false e refl
+
+pub tight-class : (v : List ℕ) → isLoose (classOf v) ≡ false → prenecklace v ≡ true
+tight-class v h = go (classOf v) (classed v) h
+  where
+    go : (c : Class) → Classed v c → isLoose c ≡ false → prenecklace v ≡ true
+    go Loose d e = clash true refl e
+    go (Opening p) d e = d .0
+    go (Repeating p) d e = necklace-prenecklace v (d .0)
+    go Single d e = necklace-prenecklace v (lyndon-necklace v d)
+
+-- ---- the answers of `on_walk`
+
+module _ (v : List ℕ) (c found : Class) (is : found ≡ classOf v) where
+  pub off-loose : isLoose found ≡ true → false ≡ onWalk v c
+  unfolding onWalk
+  off-loose h = sym (not-left (prenecklace v) (sameClass c (classOf v)) (loose-class v (rw is at h)))
+
+  pub off-tag : (tagOf c ≡ tagOf found → ⊥) → false ≡ onWalk v c
+  unfolding onWalk
+  off-tag h =
+      sym (not-right (prenecklace v) (sameClass c (classOf v)) (not-left (eqb (tagOf c) (tagOf (classOf v))) (eqb (valueOf c) (valueOf (classOf v))) (ne-eqb (tagOf c) (tagOf (classOf v)) (rw is at h))))
+
+  pub off-value : (valueOf c ≡ valueOf found → ⊥) → false ≡ onWalk v c
+  unfolding onWalk
+  off-value h =
+      sym (not-right (prenecklace v) (sameClass c (classOf v)) (not-right (eqb (tagOf c) (tagOf (classOf v))) (eqb (valueOf c) (valueOf (classOf v))) (ne-eqb (valueOf c) (valueOf (classOf v)) (rw is at h))))
+
+  pub on-class : isLoose found ≡ false → tagOf c ≡ tagOf found → valueOf c ≡ valueOf found → true ≡ onWalk v c
+  unfolding onWalk
+  on-class h t u =
+      sym
+      (both (prenecklace v) (sameClass c (classOf v)) (tight-class v (rw is at h))
+      (both (eqb (tagOf c) (tagOf (classOf v))) (eqb (valueOf c) (valueOf (classOf v))) (eq-eqb (tagOf c) (tagOf (classOf v)) (rw is at t)) (eq-eqb (valueOf c) (valueOf (classOf v)) (rw is at u))))
+
+-- ---- a record that passed its checks
+
+-- the checks but the last passed; the last passes, or fails
+pub pass-walk : (n k : ℕ) (ring : List ℕ) (b : Bool) → Passed (walkRecord n k ring true) → b ≡ true → Passed (walkRecord n k ring b)
+pass-walk n k ring b h e = (h .0, e)
+
+pub off-walk : (n k : ℕ) (ring : List ℕ) (b : Bool) → Passed (walkRecord n k ring true) → b ≡ false → Given (walkRecord n k ring b) OffWalk
+off-walk n k ring b h e = (h .0, λ t. clash b t e)
+
+-- its sectors are below k up to n, and below 1 past it
+limit-low : (n k i : ℕ) → i < n → ringLimit n k i ≡ k
+limit-low n k i h = rw (lt-ltb i n h, ringLimit)
+
+limit-past : (n k i : ℕ) → n ≤ i → ringLimit n k i ≡ 1
+limit-past n k i h = rw (le-ltb i n h, ringLimit)
+
+module _ (w : Walk) (good : Passed (walkAsked w)) (size : length (w .ring) ≡ 64) where
+  fits : w .n ≤ 64
+  fits = good .0 .0 .0 .0 .0 .0 .1
+
+  own : prenecklace (ringOf w) ≡ true
+  unfolding onWalk
+  own = both-left (prenecklace (ringOf w)) (sameClass (w .class) (classOf (ringOf w))) (good .1)
+
+  pub good-long : length (ringOf w) ≡ w .n
+  good-long = length-take-le (w .n) (w .ring) (omega (arith, fits))
+
+  pub good-ready : Ready (w .n) (w .k) (w .ring)
+  good-ready =
+      record {
+        pos = good .0 .0 .0 .0 .0 .0 .0;
+        fits = fits;
+        shades = good .0 .0 .0 .0 .1 .0;
+        few = good .0 .0 .0 .0 .1 .1;
+        reading = record { long = good-long; shades = λ i b. rw (getD-take (w .n) (w .ring) i 0 b) (omega (arith, good .0 .0 .0 .1 i (omega (arith, fits)), limit-low (w .n) (w .k) i b)) };
+        pre = own;
+      }
+
+  -- the sectors past n are 0
+  pub good-tail : drop (w .n) (w .ring) ≡ replicate (64 - w .n) 0
+  good-tail =
+      ext-getD 0 (drop (w .n) (w .ring)) (replicate (64 - w .n) 0) (length-drop (w .n) (w .ring) ∙ ap (λ (x : ℕ). x - w .n) size ∙ sym (length-replicate (64 - w .n) 0))
+      (λ i b.
+      let l : w .n + i < length (w .ring) = omega (arith, length-drop (w .n) (w .ring)) in
+      let z : getD (w .ring) (w .n + i) 0 ≡ 0 = omega (arith, good .0 .0 .0 .1 (w .n + i) l, limit-past (w .n) (w .k) (w .n + i) (omega arith)) in
+      getD-drop (w .n) (w .ring) i 0 ∙ z ∙ sym (getD-replicate (64 - w .n) i 0 0 (omega (arith, length-drop (w .n) (w .ring)))))
+
+-- the record that a step makes is the record of its ring
+module _ (kind : K.Kind) (n k p : ℕ) (start ring : List ℕ) (ready : Ready n k start) (tail : drop n start ≡ replicate (64 - n) 0) (size : length ring ≡ 64)
+    (next : nextOf (kindOf kind) k (take n start) ≡ some (take n ring)) (kept : drop n ring ≡ drop n start) (is : lyn (take n ring) ≡ p) where
+  v : List ℕ
+  v = take n ring
+
+  long : length (take n ring) ≡ n
+  long = length-take-le n ring (omega (arith, ready .fits))
+
+  pre : prenecklace (take n ring) ≡ true
+  pre = kind-only kind (take n ring) (next-facts (kindOf kind) k (take n start) (take n ring) next .2)
+
+  pub moved-is : record { n = n; k = k; ring = ring; class = classAt n p } ≡ walkOf k (take n ring)
+  moved-is =
+      λ i.
+      record {
+        n = sym long i;
+        k = k;
+        ring = (sym (take-append-drop n ring) ∙ ap (λ (t : List ℕ). take n ring ++ t) (kept ∙ tail ∙ ap (λ (x : ℕ). replicate (64 - x) 0) (sym long))) i;
+        class = class i;
+      }
+    where
+      class : classAt n p ≡ classOf (take n ring)
+      class =
+          sym
+          (class-at (take n ring) (lyn (take n ring)) (lyn-run (take n ring) (omega (arith, long, ready .pos)) pre) ∙ ap (λ (x : ℕ). classAt x (lyn (take n ring))) long ∙ ap (classAt n) is)
+
+-- ---- a start, from a reading that passed 1, 2, 3
+
+module _ (s : List ℕ) (k : ℕ) (found : Class) (passed : Passed (oneReading s k)) (is : found ≡ classOf s) where
+  pub start-off : isLoose found ≡ true → Given (walkStart s k (prenecklace s)) OffWalk
+  start-off h = (passed .0, λ t. clash (prenecklace s) t (loose-class s (rw is at h)))
+
+  pub start-on : isLoose found ≡ false → Passed (walkStart s k (prenecklace s))
+  start-on h = (passed .0, tight-class s (rw is at h))
+
+  pub start-is : (ring : List ℕ) → ring ≡ laidOut s → record { n = length s; k = k; ring = ring; class = found } ≡ walkOf k s
+  start-is ring e = λ i. record { n = length s; k = k; ring = e i; class = is i }

@@ -1,0 +1,49 @@
+use Prim.Native.Nat.{ℕ, suc, _≤_, _<_, _+_, _-_}
+use mathlib.Core.Path.{_≡_, _∙_, sym, ap, refl}
+use mathlib.Core.Logic.{⊎-elim}
+use native.Mathlib.Omega.{arith}
+use lib.ListN.{length, getD, take, drop, set}
+use borrow.Author.Needs.{needs}
+use Rattle.rings.specs.Prenecklace.{prenecklace}
+use Rattle.refusal.specs.Calls.{walkStart}
+use Rattle.refusal.proofs.More.{more-walk}
+use Rattle.walk.proofs.start.Statement.{statement}
+use Rattle.walk.proofs.start.Tie as tie
+use Rattle.walk.proofs.start.Reads as reads
+use Rattle.walk.proofs.start.Lts as lts
+use Rattle.refusal.proofs.check_reading.Reads as check-reading-reads
+use Rattle.walk.proofs.empty.Reads as empty-reads
+use Rattle.walk.proofs.start_good.Reads as start-good-reads
+
+check-reading-requires : tie.Need-check-reading-requires
+check-reading-requires c κs = search needs
+
+enum-known-v : tie.Need-enum-known-v
+enum-known-v c = search needs
+
+empty-requires : tie.Need-empty-requires
+empty-requires c κs = search needs
+
+enum-told : tie.Need-enum-told
+enum-told c = search needs
+
+start-good-requires : tie.Need-start-good-requires
+start-good-requires c κs = rw (c .enum-told .given .1) at (c .before .before .check-reading .ensures)
+
+returns : tie.Need-returns
+returns c = (more-walk (walkStart (c .before .before .before .before .before .before .args .s .now) (c .before .before .before .before .before .before .args .k) (prenecklace (c .before .before .before .before .before .before .args .s .now))) (c .before .before .v .given .0 .0) (rw (c .before .before .v .given .1) at (c .before .before .before .before .check-reading .ensures)), c .empty .ensures)
+
+returns-2 : tie.Need-returns-2
+returns-2 c = search needs
+
+pub start-spec : {M : Type 1} → statement M
+start-spec =
+    tie.close
+    (tie.spec
+    check-reading-requires
+    enum-known-v
+    empty-requires
+    enum-told
+    start-good-requires
+    returns
+    returns-2)
