@@ -1,18 +1,16 @@
 -- The scan of `class_of`, over plain lists: what each turn of its loop, and each of its answers, rests on.
 -- Assumes nothing.
-use Prim.Native.Nat.{ℕ, zero, suc, _+_, _-_, _%_, _<_, _≤_}
-use mathlib.Core.Path.{_≡_, refl, sym, ap, _∙_}
-use mathlib.Core.Bool.{true, false}
+use Prim.Native.Nat.{ℕ, suc, _+_, _-_, _%_, _<_, _≤_}
+use mathlib.Core.Path.{_≡_, refl, sym}
 use mathlib.Core.List.{List, [], _∷_}
 use native.Mathlib.Omega.{arith}
 use native.Mathlib.Numerals.{add-one}
 use lib.ListN.{length, getD}
 use Rattle.words.proofs.Sequence.{sec}
-use Rattle.rings.specs.declared.Class.{Class}
 use Rattle.rings.specs.declared.Class.the-variants.{Loose, Opening, Repeating, Single}
 use Rattle.rings.specs.Class.{classOf}
 use Rattle.rings.specs.Open.{open-all}
-use Rattle.necklaces.proofs.Run.{Run, Lyn, lyn-self, lyn-one, same, smaller, greater}
+use Rattle.necklaces.proofs.Run.{Run, lyn-self, lyn-one, same, smaller, greater}
 use Rattle.necklaces.proofs.Classes.{class-loose, class-opening, class-repeating, class-single}
 
 -- one sector is a run of 1

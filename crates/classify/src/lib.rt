@@ -1,8 +1,27 @@
 // Classifying a reading (01, 'Rules the work stands on').
 
+use refusal::Checked;
+use refusal::Refusal;
 use rings::Class;
 ghost use mathlib.Core.Path.{_≡_};
 ghost use Rattle.rings.specs.Class.{classOf};
+ghost use Rattle.classify.specs.Says.{ClassifySays};
+
+// What classifying answers.
+pub enum Classified {
+    Is(Class),
+    Refused(Refusal),
+}
+
+// The class of a reading, or refusal 1, 2 or 3.
+pub fn classify(s: &[u8], k: usize) -> Classified
+    ensures { λ r. ⌜ ClassifySays (now (s .entry)) k r ⌝ }
+{
+    match refusal::check_reading(s, k) {
+        Checked::Refused(r) => Classified::Refused(r),
+        Checked::Good => Classified::Is(class_of(s)),
+    }
+}
 
 // The class of any bytes, whatever the number of shades. One scan from left to right: the first i sectors are a run of p, that is,
 // a prenecklace whose lyn is p (000, Theorem 2.1). No bytes at all count as a necklace of period 1, as the definitions have it.

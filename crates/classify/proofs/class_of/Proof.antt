@@ -1,16 +1,13 @@
-use Prim.Native.Nat.{ℕ, suc, _≤_, _<_, _+_, _-_}
-use mathlib.Core.Path.{_≡_, _∙_, sym, ap, refl}
+-- `classify::class_of` meets its contract. The loop's invariant: the first i sectors are a run of p. Assumes nothing.
+use Prim.Native.Nat.{_≤_, _-_}
 use mathlib.Core.Logic.{⊎-elim}
 use native.Mathlib.Omega.{arith}
-use lib.ListN.{length, getD, take, drop, set}
 use borrow.Author.Needs.{needs}
 use Rattle.words.proofs.Sequence.{sec}
 use Rattle.necklaces.proofs.Run.{Run}
 use Rattle.classify.proofs.Scan.{scan-empty, scan-start, scan-same, scan-greater, scan-smaller, scan-single, scan-repeating, scan-opening}
 use Rattle.classify.proofs.class_of.Statement.{statement}
 use Rattle.classify.proofs.class_of.Tie as tie
-use Rattle.classify.proofs.class_of.Reads as reads
-use Rattle.classify.proofs.class_of.Lts as lts
 
 abbrev Inv-loop : tie.InvT-loop
 Inv-loop s n p₀ i₀ p i = (i ≤ n) × Run (sec s) i p
@@ -18,43 +15,33 @@ Inv-loop s n p₀ i₀ p i = (i ≤ n) × Run (sec s) i p
 abbrev μ-loop : tie.MeasureT-loop
 μ-loop s n p₀ i₀ p i = n - i
 
--- src/lib.rt:15:9
 returns : tie.Need-returns Inv-loop μ-loop
 returns c = scan-empty _ (c .if1 .taken)
 
--- src/lib.rt:19:5
 loop-holds : tie.Need-loop-holds Inv-loop μ-loop
 loop-holds c = (omega arith, scan-start (c .before .args .s .now))
 
--- src/lib.rt:20:20
 shared-slice-read-here : tie.Need-shared-slice-read-here Inv-loop μ-loop
 shared-slice-read-here c = search needs
 
--- src/lib.rt:21:26
 sub-opposite : tie.Need-sub-opposite Inv-loop μ-loop
 sub-opposite c = c .before .before .loop .inv .1 .fits
 
--- src/lib.rt:21:24
 shared-slice-read-opposite : tie.Need-shared-slice-read-opposite Inv-loop μ-loop
 shared-slice-read-opposite c = omega (arith, c .before .before .before .loop .inv .1 .pos)
 
--- src/lib.rt:23:13
 returns-2 : tie.Need-returns-2 Inv-loop μ-loop
 returns-2 c = scan-smaller _ _ _ (c .before .before .before .before .loop .inv .1) (c .before .before .before .loop-test .taken) (c .if2 .taken)
 
--- src/lib.rt:26:17
 add-p : tie.Need-add-p Inv-loop μ-loop
 add-p c = search needs
 
--- src/lib.rt:28:9
 add-i : tie.Need-add-i Inv-loop μ-loop
 add-i c = search needs
 
--- src/lib.rt:19:5
 loop-less : tie.Need-loop-less Inv-loop μ-loop
 loop-less c = search needs
 
--- src/lib.rt:19:5
 loop-again : tie.Need-loop-again Inv-loop μ-loop
 loop-again c =
     let l = c .before .before .before .before .before .loop in
@@ -66,19 +53,15 @@ loop-again c =
           (c .if3 .came),
     )
 
--- src/lib.rt:31:9
 returns-3 : tie.Need-returns-3 Inv-loop μ-loop
 returns-3 c = let l = c .before .before .loop in scan-single _ (l .i) (l .p) (l .inv .1) (l .inv .0) (c .before .loop-test .left) (c .if4 .taken)
 
--- src/lib.rt:33:8
 rem-if5 : tie.Need-rem-if5 Inv-loop μ-loop
 rem-if5 c = c .before .before .loop .inv .1 .pos
 
--- src/lib.rt:34:9
 returns-4 : tie.Need-returns-4 Inv-loop μ-loop
 returns-4 c = let l = c .before .before .before .loop in scan-repeating _ (l .i) (l .p) (l .inv .1) (l .inv .0) (c .before .before .loop-test .left) (c .before .if4 .left) (c .if5 .taken)
 
--- src/lib.rt:10:1
 returns-5 : tie.Need-returns-5 Inv-loop μ-loop
 returns-5 c = let l = c .before .before .before .loop in scan-opening _ (l .i) (l .p) (l .inv .1) (l .inv .0) (c .before .before .loop-test .left) (c .if5 .left)
 

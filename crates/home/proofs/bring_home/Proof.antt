@@ -1,0 +1,61 @@
+-- `home::bring_home` meets its contract: what the check answers, or else the turn by the shift. Assumes nothing.
+use mathlib.Core.Path.{_∙_, refl}
+use native.Mathlib.Omega.{arith}
+use lib.ListN.{length}
+use borrow.Author.Needs.{needs}
+use Rattle.home.proofs.Answers.{passed-pos, passed-room, shift-fits, turned-home}
+use Rattle.refusal.specs.Calls.{withRoom}
+use Rattle.home.proofs.bring_home.Statement.{statement}
+use Rattle.home.proofs.bring_home.Tie as tie
+
+check-room-requires : tie.Need-check-room-requires
+check-room-requires c κs = search needs
+
+enum-known-r : tie.Need-enum-known-r
+enum-known-r c = search needs
+
+enum-told : tie.Need-enum-told
+enum-told c = search needs
+
+least-shift-requires : tie.Need-least-shift-requires
+least-shift-requires c κs = let a = c .before .before .before .before .before .args in passed-pos (withRoom (a .s .now) (a .k) (length (a .out .now))) (rw (c .enum-told .given .1) at (c .before .before .check-room .ensures))
+
+period-of-requires : tie.Need-period-of-requires
+period-of-requires c κs = let a = c .before .before .before .before .before .before .args in passed-pos (withRoom (a .s .now) (a .k) (length (a .out .now))) (rw (c .before .enum-told .given .1) at (c .before .before .before .check-room .ensures))
+
+write-turn-requires : tie.Need-write-turn-requires
+write-turn-requires c κs =
+    let a = c .before .before .before .before .before .before .before .before .args in
+    let g = rw (c .before .before .before .enum-told .given .1) at (c .before .before .before .before .before .check-room .ensures) in
+    let z = passed-pos (withRoom (a .s .now) (a .k) (length (a .out .now))) g in
+    omega (arith, shift-fits (a .s .now) (c .before .before .least-shift .result) z (c .before .before .least-shift .ensures), passed-room (a .s .now) (a .k) (length (a .out .now)) g)
+
+returns : tie.Need-returns
+returns c = (rw (c .before .r .given .1) at (c .before .before .before .check-room .ensures), refl)
+
+same-length : tie.Need-same-length
+same-length c = search needs
+
+returns-2 : tie.Need-returns-2
+returns-2 c =
+    let i = c .before .before .before .before .before .least-shift in
+    record {
+      passed = rw (c .before .before .before .before .before .before .enum-told .given .1) at (c .before .before .before .before .before .before .before .before .check-room .ensures);
+      ring = c .before .before .write-turn .ensures ∙ turned-home (c .before .before .before .before .before .before .before .before .before .before .before .args .s .now) (i .result) (i .ensures);
+      turns = i .ensures;
+      repeats = c .before .before .before .before .period-of .ensures;
+    }
+
+pub bring-home-spec : {M : Type 1} → statement M
+bring-home-spec =
+    tie.close
+    (tie.spec
+    check-room-requires
+    enum-known-r
+    enum-told
+    least-shift-requires
+    period-of-requires
+    write-turn-requires
+    returns
+    same-length
+    returns-2)
