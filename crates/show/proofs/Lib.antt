@@ -1,0 +1,1 @@
+-- No laws: each function has its proof beside this file, where it needs one.

@@ -1,0 +1,80 @@
+use Prim.Native.Nat.{ℕ, suc, _≤_, _<_, _+_, _-_}
+use mathlib.Core.Path.{_≡_, _∙_, sym, ap, refl}
+use mathlib.Core.Logic.{⊎-elim}
+use native.Mathlib.Omega.{arith}
+use lib.ListN.{length, getD, take, drop, set, length-take}
+use borrow.Author.Needs.{needs}
+use Rattle.walk_vectors.proofs.list.Statement.{statement}
+use Rattle.walk_vectors.proofs.list.Tie as tie
+use Rattle.walk_vectors.proofs.list.Reads as reads
+use Rattle.walk_vectors.proofs.list.Lts as lts
+use Rattle.show.proofs.text.Reads as text-reads
+use Rattle.walk.proofs.next_prenecklace.Reads as next-prenecklace-reads
+use Rattle.walk_vectors.proofs.from_zeros.Reads as from-zeros-reads
+use Rattle.walk_vectors.proofs.print_mark.Reads as print-mark-reads
+use Rattle.walk_vectors.proofs.print_ring.Reads as print-ring-reads
+
+abbrev Inv-loop : tie.InvT-loop
+Inv-loop n k marks w₀ count₀ t9 w count = count ≤ 100
+
+abbrev μ-loop : tie.MeasureT-loop
+μ-loop n k marks w₀ count₀ t9 w count = 100 - count
+
+from-zeros-requires : tie.Need-from-zeros-requires Inv-loop μ-loop
+from-zeros-requires c κs = search needs
+
+loop-holds : tie.Need-loop-holds Inv-loop μ-loop
+loop-holds c = search needs
+
+print-ring-requires : tie.Need-print-ring-requires Inv-loop μ-loop
+print-ring-requires c κs = search needs
+
+print-mark-requires : tie.Need-print-mark-requires Inv-loop μ-loop
+print-mark-requires c κs = search needs
+
+slice-aggregate-text : tie.Need-slice-aggregate-text Inv-loop μ-loop
+slice-aggregate-text c = search needs
+
+text-requires : tie.Need-text-requires Inv-loop μ-loop
+text-requires c κs = search needs
+
+next-prenecklace-requires : tie.Need-next-prenecklace-requires Inv-loop μ-loop
+next-prenecklace-requires c κs = search needs
+
+enum-told : tie.Need-enum-told Inv-loop μ-loop
+enum-told c = search needs
+
+add-count : tie.Need-add-count Inv-loop μ-loop
+add-count c = search needs
+
+loop-less : tie.Need-loop-less Inv-loop μ-loop
+loop-less c = search needs
+
+loop-again : tie.Need-loop-again Inv-loop μ-loop
+loop-again c = search needs
+
+returns : tie.Need-returns Inv-loop μ-loop
+returns c = search needs
+
+returns-2 : tie.Need-returns-2 Inv-loop μ-loop
+returns-2 c = search needs
+
+pub list-spec : {M : Type 1} → statement M
+list-spec =
+    tie.close
+    (tie.spec
+    Inv-loop
+    μ-loop
+    from-zeros-requires
+    loop-holds
+    print-ring-requires
+    print-mark-requires
+    slice-aggregate-text
+    text-requires
+    next-prenecklace-requires
+    enum-told
+    add-count
+    loop-less
+    loop-again
+    returns
+    returns-2)
