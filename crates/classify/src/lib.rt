@@ -23,8 +23,9 @@ pub fn classify(s: &[u8], k: usize) -> Classified
     }
 }
 
-// The class of any bytes, whatever the number of shades. One scan from left to right: the first i sectors are a run of p, that is,
-// a prenecklace whose lyn is p (000, Theorem 2.1). No bytes at all count as a necklace of period 1, as the definitions have it.
+// The class of any bytes, whatever the number of shades. One scan from left to right: the first i sectors are a run of i - j, that is,
+// a prenecklace whose lyn is i - j, so that sector j is the one that sector i is held to (000, Theorem 2.1). No bytes at all count as a necklace of
+// period 1, as the definitions have it.
 pub fn class_of(s: &[u8]) -> Class
     ensures { λ r. ⌜ r ≡ classOf (now (s .entry)) ⌝ }
 {
@@ -32,19 +33,22 @@ pub fn class_of(s: &[u8]) -> Class
     if n < 1 {
         return Class::Repeating(1);
     }
-    let mut p: usize = 1;
+    let mut j: usize = 0;
     let mut i: usize = 1;
     while i < n {
         let here = s[i];
-        let opposite = s[i - p];
+        let opposite = s[j];
         if here < opposite {
             return Class::Loose;
         }
-        if opposite < here {
-            p = i + 1;
+        if here == opposite {
+            j += 1;
+        } else {
+            j = 0;
         }
         i += 1;
     }
+    let p = n - j;
     if p == n {
         return Class::Single;
     }

@@ -1,4 +1,5 @@
--- What the two scans over lent lists promise their callers.
+-- What the scans over lent lists promise their callers.
+--     NoneAbove s r    no sector of s is above r
 --     Scanned s m r    r is the first place of s that is not below m, or the length
 --     Told b P         the answer b to the question whether P holds
 -- Assumes nothing.
@@ -6,6 +7,10 @@ use Prim.Native.Nat.{ℕ, _<_, _≤_}
 use mathlib.Core.Bool.{Bool, true, false}
 use mathlib.Core.List.{List}
 use lib.ListN.{length, getD}
+
+-- no sector of s is above r
+abbrev pub NoneAbove : List ℕ → ℕ → Type 0
+NoneAbove s r = (i : ℕ) → i < length s → getD s i 0 ≤ r
 
 -- r is the first place of s that is not below m, or the length of s where all are
 pub record Scanned (s : List ℕ) (m r : ℕ) : Type 0 where

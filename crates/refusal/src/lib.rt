@@ -5,7 +5,7 @@ ghost use mathlib.Core.Bool.{true};
 ghost use Rattle.refusal.specs.Numbers.{numberOf, placeOf};
 ghost use Rattle.refusal.specs.Order.{CheckSays, Fits};
 ghost use Rattle.refusal.specs.Calls.{numbers, oneReading, twoReadings, withRoom, countedFirst, countedNext, walkRecord};
-ghost use Rattle.refusal.specs.Scan.{Scanned, Told};
+ghost use Rattle.refusal.specs.Scan.{NoneAbove, Scanned, Told};
 
 // a case for each row of the table; a case whose place is always 0 carries none
 pub enum Refusal {
@@ -88,10 +88,29 @@ fn check_numbers(n: usize, second: usize, k: usize) -> Checked
     Checked::Good
 }
 
+// A sector that no sector is above. There is no early way out, so that many sectors are looked at at once.
+fn greatest(s: &[u8]) -> u8
+    ensures { λ r. ⌜ NoneAbove (now (s .entry)) r ⌝ }
+{
+    let mut top: u8 = 0;
+    let mut i = 0;
+    while i < s.len() {
+        let here = s[i];
+        if top < here {
+            top = here;
+        }
+        i += 1;
+    }
+    top
+}
+
 // The first sector that is not below the limit, or the length.
 fn first_bad(s: &[u8], limit: usize) -> usize
     ensures { λ r. ⌜ Scanned (now (s .entry)) limit r ⌝ }
 {
+    if (greatest(s) as usize) < limit {
+        return s.len();
+    }
     let mut i = 0;
     while i < s.len() {
         if (s[i] as usize) >= limit {

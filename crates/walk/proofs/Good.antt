@@ -4,6 +4,7 @@
 --     off-loose, off-tag, off-value, on-class    the answers of `on_walk`
 --     good-ready, good-tail, good-is             what the checks of a record show
 --     start-off, start-on, start-is              what a start tests, and the record that it makes
+--     ring-of, walk-good                         the record of a ring passes its checks
 --     moved-is                   the record that a step makes is the record of its ring
 -- Assumes nothing.
 use Prim.Native.Nat.{ℕ, zero, suc, _+_, _-_, _<_, _≤_}
@@ -12,12 +13,12 @@ use mathlib.Core.Bool.{Bool, true, false, _&&_}
 use mathlib.Core.Option.{none, some}
 use mathlib.Core.List.{List, _++_}
 use native.Mathlib.Omega.{arith}
-use lib.ListN.{length, getD, take, drop, replicate, take-append-drop, length-drop, length-replicate, getD-replicate}
-use lib.Seq.{ext-getD, getD-take, getD-drop, length-take-le}
+use lib.ListN.{length, getD, take, drop, replicate, List·getD-append, take-append-drop, length-drop, length-replicate, getD-replicate}
+use lib.Seq.{take-append-seam, getD-append-add, ext-getD, getD-take, getD-drop, length-take-le}
 use lib.Dec.{eqb, ltb}
 use borrow.Author.Tests.{eq-eqb, ne-eqb, eqb-true, lt-ltb, le-ltb}
-use Rattle.words.specs.Readings.{Reading}
-use Rattle.words.proofs.Split.{Test, passes, fails, test, both, both-left, both-right, not-left, not-right, clash}
+use Rattle.words.specs.Readings.{Sized, Shaded, Reading}
+use Rattle.words.proofs.Split.{Tri, lt, eq, gt, tri, Test, passes, fails, test, both, both-left, both-right, not-left, not-right, clash}
 use Rattle.words.proofs.Sequence.{sec}
 use Rattle.rings.specs.declared.Class.{Class}
 use Rattle.rings.specs.declared.Class.the-variants.{Loose, Opening, Repeating, Single}
@@ -27,7 +28,7 @@ use Rattle.rings.specs.Steps.{nextOf, moves}
 use Rattle.necklaces.proofs.Lyndon.{lyn-run}
 use Rattle.necklaces.proofs.Classes.{classed, lyndon-necklace}
 use Rattle.necklaces.proofs.Words.{necklace-prenecklace}
-use Rattle.necklaces.proofs.FullWalk.{next-facts}
+use Rattle.necklaces.proofs.FullWalk.{next-facts, zeros, zeros-at}
 use Rattle.refusal.specs.declared.Refusal.the-variants.{OffWalk}
 use Rattle.refusal.specs.Order.{Passed, Given}
 use Rattle.refusal.specs.Calls.{ringLimit, walkRecord, walkStart, oneReading}
@@ -191,3 +192,36 @@ module _ (s : List ℕ) (k : ℕ) (found : Class) (passed : Passed (oneReading s
 
   pub start-is : (ring : List ℕ) → ring ≡ laidOut s → record { n = length s; k = k; ring = ring; class = found } ≡ walkOf k s
   start-is ring e = λ i. record { n = length s; k = k; ring = e i; class = is i }
+
+-- ---- the record of a ring passes its checks
+
+-- its ring
+pub ring-of : (k : ℕ) (v : List ℕ) → ringOf (walkOf k v) ≡ v
+ring-of k v = take-append-seam v (zeros (64 - length v))
+
+-- each class is its own
+same-class-refl : (c : Class) → sameClass c c ≡ true
+same-class-refl c =
+    both (eqb (tagOf c) (tagOf c)) (eqb (valueOf c) (valueOf c)) (eq-eqb (tagOf c) (tagOf c) refl) (eq-eqb (valueOf c) (valueOf c) refl)
+
+pub walk-good : (n k : ℕ) (v : List ℕ) → Sized n → Shaded k → Reading n k v → prenecklace v ≡ true → Passed (walkAsked (walkOf k v))
+unfolding onWalk
+walk-good n k v sized shaded reading pre =
+    let e = reading .long in (
+      ((((((omega arith, omega arith), tt), shaded), below), tt), tt),
+      rw (ring-of k v) (both (prenecklace v) (sameClass (classOf v) (classOf v)) pre (same-class-refl (classOf v))),
+    )
+  where
+    below : (i : ℕ) → i < length (laidOut v) → getD (laidOut v) i 0 < ringLimit (length v) k i
+    below i h =
+        elim (tri i (length v)) [
+          | lt l ↦ rw (limit-low (length v) k i l, List·getD-append v (zeros (64 - length v)) 0 i l) (reading .shades i (omega (arith, reading .long)))
+          | eq l ↦ past i (omega arith)
+          | gt l ↦ past i (omega arith)
+        ]
+      where
+        past : (i : ℕ) → length v ≤ i → getD (laidOut v) i 0 < ringLimit (length v) k i
+        past i l =
+            let q : length v + (i - length v) ≡ i = omega arith in
+            let z : getD (laidOut v) i 0 ≡ 0 = ap (λ (x : ℕ). getD (laidOut v) x 0) (sym q) ∙ getD-append-add v (zeros (64 - length v)) (i - length v) 0 ∙ zeros-at (64 - length v) (i - length v) in
+            omega (arith, z, limit-past (length v) k i l)

@@ -12,7 +12,6 @@ use mathlib.Core.Option.{none, some}
 use mathlib.Core.List.{List, [], _∷_}
 use native.Mathlib.Omega.{arith}
 use lib.ListN.{length, take, replicate}
-use lib.Seq.{take-append-seam}
 use Rattle.rings.specs.Necklace.{necklace}
 use Rattle.rings.specs.Prenecklace.{prenecklace}
 use Rattle.rings.specs.Next.{lastLow}
@@ -25,11 +24,7 @@ use Rattle.walk.specs.declared.Walk.{Walk}
 use Rattle.walk.specs.declared.Outcome.the-variants.{Moved, Done}
 use Rattle.walk.specs.Record.{ringOf, walkOf}
 use Rattle.walk.specs.Says.{StartSays, StepSays, Onto, Ended}
-use Rattle.walk.proofs.Good.{good-ready, good-long}
-
--- the ring of the record of a ring
-pub ring-of : (k : ℕ) (v : List ℕ) → ringOf (walkOf k v) ≡ v
-ring-of k v = take-append-seam v (zeros (64 - length v))
+use Rattle.walk.proofs.Good.{good-ready, good-long, ring-of}
 
 -- ---- one step
 

@@ -183,8 +183,9 @@ pub fn start(s: &[u8], k: usize) -> Started
 
 // ---- the steps
 
-// A step from a record that passed its checks.
-fn step_good(w: Walk, kind: Kind) -> Stepped
+// A step from a record that passed its checks. No public call: it is here for a caller that has the record from a start or a step, as the listing
+// has, and need not have it scanned again.
+pub fn step_good(w: Walk, kind: Kind) -> Stepped
     requires { ⌜ Passed (walkAsked w) ⌝ }
     ensures { λ r. ⌜ StepSays (kindOf kind) w (r .walk) (r .outcome) ⌝ }
 {
