@@ -1,0 +1,142 @@
+-- Texts put into a buffer piece after piece.
+--     placed-append, placed-length           two pieces after each other are one; the buffer keeps its length
+--     placed-none, placed-copy, placed-whole    a text copied character by character
+--     placed-sector, placed-sectors          sectors written as digits one by one
+--     length-two, length-refused, length-ring, ring-two     how long the lines are, and of which pieces
+--     fits-not, fits-behind                  whether a text fits
+--     put-no, put-room, put-yes              what is promised of a text that does not fit, and of one that does
+--     one-put                                a text, a buffer and a place determine the answer and the buffer afterwards
+-- Assumes nothing.
+use Prim.Native.Nat.{ℕ, zero, suc, _+_, _-_, _<_, _≤_}
+use mathlib.Core.Path.{_≡_, refl, sym, ap, _∙_}
+use mathlib.Core.Bool.{Bool, true, false, not}
+use mathlib.Core.List.{List, [], _∷_, _++_, map, append-assoc}
+use native.Mathlib.Omega.{arith}
+use native.Mathlib.Numerals.{add-one}
+use native.Mathlib.Decide.{decLt}
+use lib.Dec.{leb}
+use lib.ListN.{length, getD, take, set, length-append, length-map}
+use lib.Seq.{sets, length-sets, sets-eq, take-suc, take-all}
+use borrow.Author.Tests.{le-leb, lt-leb, leb-true, leb-false, not-true, not-false}
+use Rattle.words.proofs.Split.{agree}
+use Rattle.text.specs.Decimal.{decimal}
+use Rattle.text.specs.Text.{twoNumbers, hexOf, ringLine, refusedLine}
+use Rattle.text.specs.Put.{PutSays, Placed}
+
+-- ---- pieces
+
+-- two runs of stores after each other are one
+sets-append : (s t b : List ℕ) (i j : ℕ) → i + length s ≡ j → sets b i (s ++ t) ≡ sets (sets b i s) j t
+sets-append [] t b i j e = let q : i ≡ j = omega arith in rw q
+sets-append (a ∷ s) t b i j e = sets-append s t (set b i a) (suc i) j (omega arith)
+
+module _ (b : List ℕ) (at : ℕ) where
+  -- nothing placed
+  pub placed-none : Placed b at [] (at + 0) b
+  placed-none = record { next = refl; bytes = refl }
+
+  -- a piece behind a piece
+  pub placed-append : (s : List ℕ) (r : ℕ) (b′ t : List ℕ) (r′ : ℕ) (b″ : List ℕ) → Placed b at s r b′ → Placed b′ r t r′ b″ → Placed b at (s ++ t) r′ b″
+  placed-append s r b′ t r′ b″ p q =
+      record {
+        next = omega (arith, p .next, q .next, length-append s t);
+        bytes = q .bytes ∙ ap (λ (x : List ℕ). sets x r t) (p .bytes) ∙ sym (sets-append s t b at r (sym (p .next)));
+      }
+
+  -- the buffer keeps its length
+  pub placed-length : (t : List ℕ) (r : ℕ) (b′ : List ℕ) → Placed b at t r b′ → length b′ ≡ length b
+  placed-length t r b′ p = ap length (p .bytes) ∙ length-sets b at t
+
+-- one character more of a text that is placed from `at` on
+pub placed-on : (b : List ℕ) (at : ℕ) (t : List ℕ) (r : ℕ) (b′ : List ℕ) (a : ℕ) → Placed b at t r b′ → Placed b at (t ++ (a ∷ [])) (r + 1) (set b′ r a)
+placed-on b at t r b′ a p = placed-append b at t r b′ (a ∷ []) (r + 1) (set b′ r a) p (record { next = refl; bytes = refl })
+
+-- a text copied up to place i, and one character more
+pub placed-copy : (b : List ℕ) (at i : ℕ) (t b′ : List ℕ) → i < length t → Placed b at (take i t) (at + i) b′ → Placed b at (take (i + 1) t) (at + (i + 1)) (set b′ (at + i) (getD t i 0))
+placed-copy b at i t b′ h p =
+    let e : at + i + 1 ≡ at + (i + 1) = omega arith in
+    let q : take (i + 1) t ≡ take i t ++ (getD t i 0 ∷ []) = rw (add-one i) (take-suc t i 0 h) in
+    rw q (rw e at (placed-on b at (take i t) (at + i) b′ (getD t i 0) p))
+
+-- and the whole text
+pub placed-whole : (b : List ℕ) (at i : ℕ) (t b′ : List ℕ) → length t ≤ i → Placed b at (take i t) (at + i) b′ → Placed b at t (at + i) b′
+placed-whole b at i t b′ h p = rw (take-all i t h) at p
+
+-- ---- sectors
+
+-- the digit at place i is that of the sector at i
+sector-at : (w : List ℕ) (i : ℕ) → i < length w → getD (map hexOf w) i 0 ≡ hexOf (getD w i 0)
+sector-at [] i h = absurd (omega arith)
+sector-at (a ∷ w) zero h = refl
+sector-at (a ∷ w) (suc i) h = sector-at w i (omega arith)
+
+-- sectors placed up to i, and one more
+pub placed-sector : (b : List ℕ) (at i : ℕ) (w b′ : List ℕ) (a : ℕ) → i < length w → a ≡ hexOf (getD w i 0) → Placed b at (take i (map hexOf w)) (at + i) b′ → Placed b at (take (i + 1) (map hexOf w)) (at + (i + 1)) (set b′ (at + i) a)
+placed-sector b at i w b′ a h e p =
+    let q : getD (map hexOf w) i 0 ≡ a = sector-at w i h ∙ sym e in
+    rw q at (placed-copy b at i (map hexOf w) b′ (simp length-map h) p)
+
+-- all sectors
+pub placed-sectors : (b : List ℕ) (at i : ℕ) (w b′ : List ℕ) → length w ≤ i → Placed b at (take i (map hexOf w)) (at + i) b′ → Placed b at (map hexOf w) (at + i) b′
+placed-sectors b at i w b′ h p = placed-whole b at i (map hexOf w) b′ (simp length-map h) p
+
+-- ---- the lines
+
+-- how long two numbers and their words are
+pub length-two : (head : List ℕ) (x : ℕ) (middle : List ℕ) (y : ℕ) → length (twoNumbers head x middle y) ≡ length head + length (decimal x) + length middle + length (decimal y) + 1
+unfolding twoNumbers
+length-two head x middle y = simp length-append
+
+-- the line of a refusal
+pub length-refused : (x : ℕ) → length (refusedLine x) ≡ length (decimal x) + 9
+unfolding refusedLine
+length-refused x = simp length-append (omega arith)
+
+-- a ring's line is its sectors and then two numbers
+pub ring-two : (w : List ℕ) (moves p : ℕ) → map hexOf w ++ twoNumbers (32 ∷ []) moves (32 ∷ []) p ≡ ringLine w moves p
+unfolding twoNumbers ringLine
+ring-two w moves p = simp append-assoc
+
+-- and how long it is
+pub length-ring : (w : List ℕ) (moves p : ℕ) → length (ringLine w moves p) ≡ length w + length (decimal moves) + length (decimal p) + 3
+length-ring w moves p =
+    sym (ap length (ring-two w moves p)) ∙ length-append (map hexOf w) (twoNumbers (32 ∷ []) moves (32 ∷ []) p)
+    ∙ rw (length-map w hexOf, length-two (32 ∷ []) moves (32 ∷ []) p) (omega arith)
+
+-- ---- whether a text fits
+
+-- `at` lies past the end
+pub fits-not : (room at need : ℕ) → room < at → false ≡ leb (at + need) room
+fits-not room at need h = sym (lt-leb (at + need) room (omega arith))
+
+-- and `at` itself lies within
+pub fits-behind : (room at need : ℕ) → at ≤ room → leb need (room - at) ≡ leb (at + need) room
+fits-behind room at need h =
+    agree (leb need (room - at)) (leb (at + need) room) (λ e. le-leb (at + need) room (omega (arith, leb-true need (room - at) e)))
+    (λ e. le-leb need (room - at) (omega (arith, leb-true (at + need) room e)))
+
+-- the answer f says that a text of l characters fits
+pub put-room : (room at need l : ℕ) (f : Bool) → need ≡ l → f ≡ leb (at + need) room → not f ≡ false → at + l ≤ room
+put-room room at need l f q e h = omega (arith, leb-true (at + need) room (sym e ∙ not-false f h))
+
+-- A text t of `need` characters, and the answer f whether it fits.
+module _ (b : List ℕ) (at : ℕ) (t : List ℕ) (need : ℕ) (f : Bool) (l : need ≡ length t) (e : f ≡ leb (at + need) (length b)) where
+  -- it does not fit, and nothing is written
+  pub put-no : not f ≡ true → PutSays b at t at b
+  put-no h =
+      let n : length b < at + need = leb-false (at + need) (length b) (sym e ∙ not-true f h) in
+      record { done = λ m. absurd (omega arith); full = λ m. (refl, refl) }
+
+  -- it fits, and is written
+  pub put-yes : not f ≡ false → (r : ℕ) (b′ : List ℕ) → Placed b at t r b′ → PutSays b at t r b′
+  put-yes h r b′ p =
+      let m = put-room (length b) at need (length t) f l e h in
+      record { done = λ i. (p .next, p .bytes ∙ sets-eq t b at m); full = λ i. absurd (omega arith) }
+
+-- a text, a buffer and a place determine the answer and the buffer afterwards
+pub one-put : (b : List ℕ) (at : ℕ) (t : List ℕ) (r s : ℕ) (x y : List ℕ) → PutSays b at t r x → PutSays b at t s y → (r ≡ s) × (x ≡ y)
+one-put b at t r s x y p q =
+    elim (decLt (length b) (at + length t)) [
+      | yes h ↦ (p .full h .0 ∙ sym (q .full h .0), p .full h .1 ∙ sym (q .full h .1))
+      | no h ↦ let l : at + length t ≤ length b = omega arith in (p .done l .0 ∙ sym (q .done l .0), p .done l .1 ∙ sym (q .done l .1))
+    ]

@@ -1,0 +1,9 @@
+-- Quoted text as the list of its characters' codes, so that specs/Text says what is printed as it is printed. Assumes nothing.
+use Prim.Native.Nat.{ℕ}
+use Prim.Native.Char.{Char, code}
+use Prim.Native.String.{String, [] as none, _∷_ as _then_}
+use mathlib.Core.List.{List, [], _∷_}
+
+abbrev pub ascii : String → List ℕ
+ascii none = []
+ascii (c then s) = code c ∷ ascii s
