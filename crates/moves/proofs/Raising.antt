@@ -2,9 +2,9 @@
 --     Over k w i, over-start, over-more, over-found, over-none    the search for the last place to raise, from the end: no place past i can be raised
 --     Copied u v i m, copied-start, copied-more, copied-end       the copying: the first m sectors of v repeat the first i of u
 -- Assumes nothing.
-use Prim.Native.Nat.{ℕ, zero, suc, _+_, _-_, _%_, _<_, _≤_}
+use Prim.Native.Nat.{ℕ, suc, _+_, _-_, _%_, _<_, _≤_}
 use mathlib.Core.Path.{_≡_, refl, sym, ap, _∙_}
-use mathlib.Core.Bool.{true, false}
+use mathlib.Core.Bool.{false}
 use mathlib.Core.List.{List}
 use native.Mathlib.Omega.{arith}
 use native.Mathlib.Numerals.{add-one}
@@ -13,7 +13,7 @@ use lib.ListN.{length, getD, set, length-set}
 use lib.Seq.{getD-set-same, getD-set-other, ext-getD}
 use borrow.Author.Tests.{lt-ltb, le-ltb}
 use Rattle.words.specs.Search.{greatest}
-use Rattle.words.proofs.Split.{Tri, lt, eq, gt, tri, clash}
+use Rattle.words.proofs.Split.{lt, eq, gt, tri, clash}
 use Rattle.words.proofs.Search.{greatest-is, greatest-at, greatest-le}
 use Rattle.rings.specs.Next.{lowAt, lastLow, raised, repeated}
 use Rattle.necklaces.proofs.Next.{length-raised, raised-low, raised-last, length-repeated, repeated-at}

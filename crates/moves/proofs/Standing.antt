@@ -7,11 +7,11 @@
 --     stands-on             it is not
 --     stands-rises          each move raises lyn
 -- Assumes nothing.
-use Prim.Native.Nat.{ℕ, zero, suc, _+_, _-_, _%_, _<_, _≤_}
+use Prim.Native.Nat.{ℕ, _+_, _-_, _%_, _<_, _≤_}
 use mathlib.Core.Path.{_≡_, refl, sym, ap, _∙_}
 use mathlib.Core.Logic.{⊎-elim, _⊎_, inl, inr}
-use mathlib.Core.Bool.{Bool, true, false}
-use mathlib.Core.Option.{none, some}
+use mathlib.Core.Bool.{true, false}
+use mathlib.Core.Option.{none}
 use mathlib.Core.List.{List, _++_}
 use native.Mathlib.Omega.{arith}
 use native.Mathlib.Numerals.{add-one}
@@ -21,18 +21,17 @@ use lib.Seq.{take-at, drop-at, length-take-le}
 use lib.Dec.{eqb}
 use borrow.Author.Tests.{eq-eqb, ne-eqb, eqb-true, eqb-false}
 use Rattle.words.specs.Readings.{Reading}
-use Rattle.words.proofs.Split.{Test, passes, fails, test, agree, clash, Tri, lt, eq, gt, tri}
+use Rattle.words.proofs.Split.{Test, passes, fails, test, agree, clash, lt, eq, gt, tri}
 use Rattle.words.proofs.Sequence.{sec}
-use Rattle.rings.specs.declared.Class.{Class}
 use Rattle.rings.specs.declared.Class.the-variants.{Single, Repeating, Opening}
 use Rattle.rings.specs.Necklace.{necklace, lyndon}
 use Rattle.rings.specs.Prenecklace.{prenecklace, lyn}
 use Rattle.rings.specs.Class.{classOf}
 use Rattle.rings.specs.Next.{lastLow, raised, repeated, nextPrenecklace}
-use Rattle.rings.specs.Steps.{nextOf, moves}
+use Rattle.rings.specs.Steps.{moves}
 use Rattle.necklaces.proofs.Run.{Run}
 use Rattle.necklaces.proofs.Words.{necklace-prenecklace}
-use Rattle.necklaces.proofs.Lyndon.{lyn-run, run-necklace, necklace-run, run-prenecklace}
+use Rattle.necklaces.proofs.Lyndon.{run-necklace, necklace-run, run-prenecklace}
 use Rattle.necklaces.proofs.Classes.{run-lyndon, lyndon-run, lyndon-necklace, class-single, class-repeating, class-opening}
 use Rattle.necklaces.proofs.Next.{low-le, low-at, length-next, next-is-run, next-lyn-low}
 use Rattle.necklaces.proofs.Walk.{Kind, Walked, walk-start, walk-found, walk-on, walk-done}

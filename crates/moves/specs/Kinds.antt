@@ -7,7 +7,7 @@ use mathlib.Core.Bool.{Bool, true, false}
 use mathlib.Core.List.{List}
 use lib.Dec.{eqb}
 use Rattle.rings.specs.declared.Class.{Class}
-use Rattle.rings.specs.declared.Class.the-variants.{Loose, Opening, Repeating, Single}
+use Rattle.rings.specs.declared.Class.the-variants.{Opening, Repeating, Single}
 use Rattle.rings.specs.Necklace.{necklace, lyndon}
 use Rattle.rings.specs.Prenecklace.{prenecklace}
 use Rattle.moves.specs.declared.Kind.{Kind}

@@ -3,7 +3,7 @@
 --     begins    a prenecklace begins a necklace: its run goes on until n times lyn sectors are filled
 --     begun     whatever begins a necklace is a prenecklace
 -- Assumes nothing.
-use Prim.Native.Nat.{ℕ, zero, suc, _+_, _-_, _*_, _%_, _<_, _≤_}
+use Prim.Native.Nat.{ℕ, _+_, _-_, _*_, _%_, _<_, _≤_}
 use mathlib.Core.Path.{_≡_, refl, sym, ap, _∙_}
 use mathlib.Core.Bool.{true}
 use mathlib.Core.List.{List, _++_}
@@ -13,7 +13,7 @@ use lib.ListN.{length, getD, length-append, List·getD-append}
 use lib.Seq.{getD-append-add}
 use Rattle.words.specs.Search.{tab}
 use Rattle.words.specs.Readings.{Reading}
-use Rattle.words.proofs.Split.{Tri, lt, eq, gt, tri}
+use Rattle.words.proofs.Split.{lt, eq, gt, tri}
 use Rattle.words.proofs.Search.{length-tab, getD-tab}
 use Rattle.words.proofs.Sequence.{sec}
 use Rattle.rings.specs.Necklace.{necklace}

@@ -5,30 +5,29 @@
 --     bound-necklace  from any prenecklace at most (n + 1) / 2 moves, rounded down, lead to the next necklace, or to Done
 --     bound-last      0 at the last ring
 -- Assumes nothing.
-use Prim.Native.Nat.{ℕ, zero, suc, _+_, _-_, _*_, _/_, _%_, _<_, _≤_}
-use mathlib.Core.Path.{_≡_, refl, sym, ap, _∙_}
+use Prim.Native.Nat.{ℕ, zero, suc, _+_, _-_, _/_, _%_, _<_, _≤_}
+use mathlib.Core.Path.{_≡_, refl, sym}
 use mathlib.Core.Logic.{⊎-elim}
-use mathlib.Core.Bool.{Bool, true, false, _&&_}
+use mathlib.Core.Bool.{Bool, true, false}
 use mathlib.Core.Option.{Option, none, some}
 use mathlib.Core.List.{List}
 use native.Mathlib.Omega.{arith}
 use native.Mathlib.Nat.{mod-lt, mod-le, mod-eq-sub-mod, eq-zero-or-pos}
 use lib.ListN.{length}
 use Rattle.words.specs.Order.{before, upTo}
-use Rattle.words.specs.Readings.{Reading, readings, first}
-use Rattle.words.proofs.Split.{Tri, lt, eq, gt, tri, Test, passes, fails, test, agree, both, both-left, both-right, not-left, not-right, refuted, clash}
-use Rattle.words.proofs.Lex.{Lex, ahead, equal, behind, lex, before-trans, before-upTo, before-not-upTo}
-use Rattle.words.proofs.Readings.{All, readings-all, all-weaken, first-cong, first-some}
+use Rattle.words.specs.Readings.{Reading, readings}
+use Rattle.words.proofs.Split.{lt, eq, gt, tri, Test, passes, fails, test, agree, both, both-left, both-right, clash}
+use Rattle.words.proofs.Lex.{ahead, equal, behind, lex, before-trans, before-upTo, before-not-upTo}
+use Rattle.words.proofs.Readings.{readings-all, all-weaken, first-cong, first-some}
 use Rattle.words.proofs.Sequence.{sec}
-use Rattle.rings.specs.Necklace.{necklace, lyndon}
+use Rattle.rings.specs.Necklace.{necklace}
 use Rattle.rings.specs.Prenecklace.{prenecklace, lyn}
 use Rattle.rings.specs.Next.{lastLow, nextPrenecklace, raised}
 use Rattle.rings.specs.Steps.{aboveOf, nextOf, moves}
-use Rattle.necklaces.proofs.Run.{Run}
 use Rattle.necklaces.proofs.Raise.{low-past, low-far}
 use Rattle.necklaces.proofs.Words.{necklace-prenecklace}
 use Rattle.necklaces.proofs.Lyndon.{lyn-run, run-necklace}
-use Rattle.necklaces.proofs.Next.{raised-at, low-le, length-next, next-before, next-reading, next-prenecklace, next-lyn-low, next-upTo, next-none}
+use Rattle.necklaces.proofs.Next.{raised-at, low-le, length-next, next-before, next-reading, next-prenecklace, next-lyn-low, next-upTo}
 use Rattle.necklaces.proofs.Moves.{Reaches, moves-first, moves-full}
 use Rattle.necklaces.proofs.Walk.{Kind, walk-start, walk-found}
 

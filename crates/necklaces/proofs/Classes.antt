@@ -5,24 +5,23 @@
 --     classed, one-class  each reading has exactly one class
 --     class-loose, class-opening, class-repeating, class-single    the class by the run of the sectors, for a scan from left to right
 -- Assumes nothing.
-use Prim.Native.Nat.{ℕ, zero, suc, _-_, _%_, _<_, _≤_}
-use mathlib.Core.Path.{_≡_, refl, sym, ap, _∙_}
+use Prim.Native.Nat.{ℕ, _-_, _%_, _<_, _≤_}
+use mathlib.Core.Path.{_≡_, refl}
 use mathlib.Core.Logic.{_↔_}
-use mathlib.Core.Bool.{Bool, true, false}
+use mathlib.Core.Bool.{true, false}
 use mathlib.Core.List.{List}
 use native.Mathlib.Omega.{arith}
-use native.Mathlib.Nat.{mod-self}
 use lib.ListN.{length}
-use Rattle.words.proofs.Split.{Test, passes, fails, test, both-left, refuted, clash}
+use Rattle.words.proofs.Split.{Test, passes, fails, test, both-left, refuted}
 use Rattle.words.proofs.Sequence.{sec, from, Less}
 use Rattle.rings.specs.declared.Class.{Class}
 use Rattle.rings.specs.declared.Class.the-variants.{Loose, Opening, Repeating, Single}
 use Rattle.rings.specs.Necklace.{necklace, period, lyndon}
 use Rattle.rings.specs.Prenecklace.{prenecklace, lyn}
 use Rattle.rings.specs.Class.{Classed, necklaceClass, prenecklaceClass, classOf}
-use Rattle.necklaces.proofs.Run.{Run, Lyn, lyn-self, run-one}
+use Rattle.necklaces.proofs.Run.{Run, lyn-self, run-one}
 use Rattle.necklaces.proofs.Words.{pre-of, necklace-prenecklace}
-use Rattle.necklaces.proofs.Lyndon.{run-necklace, necklace-run, period-run, lyndon-of, of-lyndon, lyndon-pos, lyn-run, run-lyn, run-prenecklace}
+use Rattle.necklaces.proofs.Lyndon.{run-necklace, necklace-run, period-run, lyndon-of, of-lyndon, lyn-run, run-lyn, run-prenecklace}
 
 pub lyndon-necklace : (w : List ℕ) → lyndon w ≡ true → necklace w ≡ true
 unfolding lyndon

@@ -8,22 +8,21 @@
 -- Assumes nothing.
 use Prim.Native.Nat.{ℕ, zero, suc, _+_, _-_, _<_, _≤_}
 use mathlib.Core.Path.{_≡_, refl, sym, ap, _∙_}
-use mathlib.Core.Bool.{Bool, true, false, _&&_}
+use mathlib.Core.Bool.{Bool, true}
 use mathlib.Core.Option.{Option, none, some}
 use mathlib.Core.List.{List, [], _∷_}
 use native.Mathlib.Omega.{arith}
 use lib.ListN.{length, getD, replicate, length-replicate, getD-replicate, List·getD-eq-default}
 use Rattle.words.specs.Order.{before, upTo, same}
 use Rattle.words.specs.Readings.{Reading, readings, bit, total, count}
-use Rattle.words.proofs.Split.{Tri, lt, eq, gt, tri, Test, passes, fails, test, both, both-left, both-right, refuted, clash}
+use Rattle.words.proofs.Split.{lt, eq, gt, tri, both, both-left, both-right, clash}
 use Rattle.words.proofs.Sequence.{sec, Less}
-use Rattle.words.proofs.Lex.{Lex, ahead, equal, behind, lex, same-refl, same-false, before-irrefl, before-trans, before-asym, before-upTo, before-not-upTo, before-less}
+use Rattle.words.proofs.Lex.{Lex, ahead, equal, behind, lex, same-refl, before-irrefl, before-trans, before-asym, before-not-upTo, before-less}
 use Rattle.words.proofs.Readings.{All, nothing, also, all-weaken, Increasing, empty, more, readings-all, first-some, nothing-first}
 use Rattle.words.proofs.Count.{count-split, count-one, count-zero, total-le, total-add}
 use Rattle.rings.specs.Necklace.{necklace}
 use Rattle.rings.specs.Prenecklace.{prenecklace}
 use Rattle.rings.specs.Steps.{aboveOf, nextOf, passed, moves, howMany, howManyTo, FullWalk, done, step}
-use Rattle.necklaces.proofs.Run.{Pre, Run}
 use Rattle.necklaces.proofs.Words.{of-pre, of-neck}
 use Rattle.necklaces.proofs.Moves.{moves-join, before-not-same, after-not-same}
 use Rattle.necklaces.proofs.Sums.{prenecklaces-necklaces}

@@ -5,8 +5,8 @@
 --     extend-smaller    b < c: w b is no prenecklace
 --     extend-iff        w b is a prenecklace exactly when c ≤ b
 -- Assumes nothing.
-use Prim.Native.Nat.{ℕ, zero, suc, _+_, _-_, _<_, _≤_}
-use mathlib.Core.Path.{_≡_, refl, sym, ap, _∙_}
+use Prim.Native.Nat.{ℕ, suc, _-_, _<_, _≤_}
+use mathlib.Core.Path.{_≡_, sym, _∙_}
 use mathlib.Core.Logic.{_↔_}
 use mathlib.Core.Bool.{true, false}
 use mathlib.Core.List.{List, [], _∷_, _++_}
@@ -14,8 +14,8 @@ use native.Mathlib.Omega.{arith}
 use native.Mathlib.Numerals.{add-one}
 use lib.ListN.{length, getD, length-append, List·getD-append}
 use lib.Seq.{getD-append-seam}
-use Rattle.words.proofs.Split.{Tri, lt, eq, gt, tri, refuted, clash}
-use Rattle.words.proofs.Sequence.{sec, place}
+use Rattle.words.proofs.Split.{lt, eq, gt, tri, refuted, clash}
+use Rattle.words.proofs.Sequence.{sec}
 use Rattle.rings.specs.Necklace.{lyndon}
 use Rattle.rings.specs.Prenecklace.{prenecklace, lyn}
 use Rattle.necklaces.proofs.Run.{Run, Lyn, same, smaller, greater, run-through, lyn-self}

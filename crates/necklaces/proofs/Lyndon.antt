@@ -6,29 +6,28 @@
 --     lyndon-below, below-lyndon    'necklace with period n' and 'below each of its other turns' agree
 --     lyndon-one                    each reading of one sector is a Lyndon word
 -- Assumes nothing.
-use Prim.Native.Nat.{ℕ, zero, suc, _+_, _-_, _*_, _/_, _%_, _<_, _≤_}
+use Prim.Native.Nat.{ℕ, suc, _+_, _-_, _*_, _/_, _%_, _<_, _≤_}
 use mathlib.Core.Path.{_≡_, refl, sym, ap, _∙_}
-use mathlib.Core.Logic.{_↔_, ⊎-elim}
-use mathlib.Core.Bool.{Bool, true, false, _&&_}
+use mathlib.Core.Logic.{⊎-elim}
+use mathlib.Core.Bool.{true, false}
 use mathlib.Core.List.{List, [], _∷_}
 use native.Mathlib.Omega.{arith}
-use native.Mathlib.Nat.{div-add-mod', mod-self, mod-eq-of-lt, add-mod-right, mul-add-mod-self-right, eq-zero-or-pos, mod-le}
+use native.Mathlib.Nat.{div-add-mod', mod-self, add-mod-right, mul-add-mod-self-right, eq-zero-or-pos, mod-le}
 use lib.ListN.{length, getD, take}
-use lib.Seq.{ext-getD, length-take-le, getD-take, take-length}
+use lib.Seq.{ext-getD, length-take-le, getD-take}
 use lib.Dec.{eqb}
-use borrow.Author.Tests.{eq-eqb, ne-eqb, eqb-true}
-use Rattle.words.specs.Search.{least, greatest}
+use borrow.Author.Tests.{eq-eqb, eqb-true}
 use Rattle.words.specs.Order.{before, same}
 use Rattle.words.specs.Turn.{turn}
-use Rattle.words.proofs.Split.{Tri, lt, eq, gt, tri, Test, passes, fails, test, both, both-left, both-right, refuted, clash}
-use Rattle.words.proofs.Search.{least-is, least-le, least-at, least-none, greatest-is, all-at, all-of}
-use Rattle.words.proofs.Sequence.{sec, from, Less, place, recast}
+use Rattle.words.proofs.Split.{lt, eq, gt, tri, both, both-left, both-right, refuted, clash}
+use Rattle.words.proofs.Search.{least-is, greatest-is, all-at, all-of}
+use Rattle.words.proofs.Sequence.{sec}
 use Rattle.words.proofs.Lex.{same-true, true-same, less-before, before-irrefl, before-upTo, upTo-refl}
 use Rattle.words.proofs.Turn.{length-turn, turn-low, turn-high, turn-zero}
 use Rattle.rings.specs.Necklace.{necklace, notAboveTurn, repeatsBy, period, lyndon, belowOtherTurns}
 use Rattle.rings.specs.Prenecklace.{prenecklace, lyn}
-use Rattle.necklaces.proofs.Run.{Pre, Lyn, Run, lyn-self, lyn-one, longest, run-one, has-run, run-pre, lyn-through}
-use Rattle.necklaces.proofs.Repeat.{run-rep, neck, no-neck, neck-pre}
+use Rattle.necklaces.proofs.Run.{Lyn, Run, lyn-self, lyn-one, longest, has-run, run-pre, lyn-through}
+use Rattle.necklaces.proofs.Repeat.{run-rep, neck, no-neck}
 use Rattle.necklaces.proofs.Words.{pre-of, of-pre, neck-of, of-neck, turned, necklace-prenecklace}
 
 module _ (w : List ℕ) (p : ℕ) (r : Run (sec w) (length w) p) where

@@ -5,19 +5,19 @@
 --     moves-full       nothing is passed where every sector is k - 1
 --     moves-join       the moves to v and all moves above v are all moves above w
 -- Assumes nothing.
-use Prim.Native.Nat.{ℕ, zero, suc, _+_, _<_, _≤_}
-use mathlib.Core.Path.{_≡_, refl, sym, ap, _∙_}
+use Prim.Native.Nat.{ℕ, suc, _+_, _<_}
+use mathlib.Core.Path.{_≡_, refl}
 use mathlib.Core.Bool.{Bool, true, false, _&&_}
 use mathlib.Core.Option.{Option, none, some}
 use mathlib.Core.List.{List}
 use native.Mathlib.Omega.{arith}
 use lib.ListN.{length}
 use Rattle.words.specs.Order.{before, upTo, same}
-use Rattle.words.specs.Readings.{Reading, readings, bit, count}
+use Rattle.words.specs.Readings.{Reading, readings, bit}
 use Rattle.words.proofs.Split.{Test, passes, fails, test, both, both-left, both-right, not-right, refuted, clash}
-use Rattle.words.proofs.Lex.{Lex, ahead, equal, behind, lex, same-true, same-refl, same-false, before-irrefl, before-trans, before-asym, upTo-refl, before-upTo, before-not-upTo, upTo-before-trans, before-upTo-trans, upTo-antisym, upTo-not-before}
+use Rattle.words.proofs.Lex.{Lex, ahead, equal, behind, lex, same-true, same-refl, same-false, before-irrefl, before-trans, before-asym, upTo-refl, before-upTo, before-not-upTo, upTo-before-trans, upTo-not-before}
 use Rattle.words.proofs.Readings.{readings-all}
-use Rattle.words.proofs.Count.{count-zero, count-split, count-cong, count-one}
+use Rattle.words.proofs.Count.{count-zero, count-split, count-one}
 use Rattle.rings.specs.Prenecklace.{prenecklace}
 use Rattle.rings.specs.Next.{lastLow, nextPrenecklace}
 use Rattle.rings.specs.Steps.{aboveOf, passed, moves}

@@ -6,29 +6,28 @@
 --     next-some, next-none      it is the next prenecklace; where every sector is k - 1 nothing of any kind is above
 --     low-or-full, next-none-full    there is a place to raise, and a next prenecklace, exactly when not every sector is k - 1
 -- Assumes nothing.
-use Prim.Native.Nat.{ℕ, zero, suc, _+_, _-_, _%_, _<_, _≤_}
+use Prim.Native.Nat.{ℕ, suc, _-_, _%_, _<_, _≤_}
 use mathlib.Core.Path.{_≡_, refl, sym, ap, _∙_}
 use mathlib.Core.Logic.{_↔_}
-use mathlib.Core.Bool.{Bool, true, false, _&&_}
+use mathlib.Core.Bool.{Bool, true, false}
 use mathlib.Core.Option.{none, some}
-use mathlib.Core.List.{List, [], _∷_, _++_}
+use mathlib.Core.List.{List, [], _∷_}
 use native.Mathlib.Omega.{arith}
 use native.Mathlib.Nat.{mod-lt}
 use lib.ListN.{length, getD, take, length-append, List·getD-append, replicate, length-replicate, getD-replicate}
 use lib.Seq.{length-take-le, getD-take, getD-at, ext-getD}
-use borrow.Author.Tests.{ltb-true, ltb-false, lt-ltb, le-ltb}
-use Rattle.words.specs.Search.{greatest, tab}
+use borrow.Author.Tests.{ltb-true, ltb-false}
 use Rattle.words.specs.Order.{before, upTo}
-use Rattle.words.specs.Readings.{Reading, readings, first}
-use Rattle.words.proofs.Split.{Tri, lt, eq, gt, tri, Test, passes, fails, test, both, both-left, both-right, refuted, clash}
+use Rattle.words.specs.Readings.{Reading}
+use Rattle.words.proofs.Split.{lt, eq, gt, tri, both, both-left, both-right, refuted}
 use Rattle.words.proofs.Search.{greatest-le, greatest-at, greatest-none, length-tab, getD-tab}
-use Rattle.words.proofs.Sequence.{sec, Less, recast}
+use Rattle.words.proofs.Sequence.{sec, recast}
 use Rattle.words.proofs.Lex.{before-less, less-before, not-less-upTo}
 use Rattle.words.proofs.Readings.{first-is, first-nothing}
 use Rattle.rings.specs.Prenecklace.{prenecklace, lyn}
 use Rattle.rings.specs.Next.{lowAt, lastLow, raised, repeated, nextPrenecklace}
 use Rattle.rings.specs.Steps.{aboveOf, nextOf}
-use Rattle.necklaces.proofs.Run.{Pre, Run, run-through}
+use Rattle.necklaces.proofs.Run.{Run, run-through}
 use Rattle.necklaces.proofs.Repeat.{rep}
 use Rattle.necklaces.proofs.Raise.{Raised, next-run, next-above, next-least, none-above}
 use Rattle.necklaces.proofs.Words.{pre-of}

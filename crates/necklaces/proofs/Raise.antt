@@ -9,9 +9,9 @@
 use Prim.Native.Nat.{ℕ, zero, suc, _+_, _-_, _*_, _/_, _%_, _<_, _≤_}
 use mathlib.Core.Path.{_≡_, refl, sym, ap, _∙_}
 use native.Mathlib.Omega.{arith}
-use native.Mathlib.Nat.{mod-lt, mul-mod-left, div-add-mod'}
-use Rattle.words.proofs.Split.{Tri, lt, eq, gt, tri}
-use Rattle.words.proofs.Sequence.{from, Less, place, narrow}
+use native.Mathlib.Nat.{mul-mod-left, div-add-mod'}
+use Rattle.words.proofs.Split.{lt, eq, gt, tri}
+use Rattle.words.proofs.Sequence.{Less, place}
 use Rattle.necklaces.proofs.Run.{Pre, Lyn, Run, lyn-one, pre-shorter, smaller, greater, run-pre, has-run, run-through}
 use Rattle.necklaces.proofs.Repeat.{rep, rep-low, rep-run, run-rep}
 

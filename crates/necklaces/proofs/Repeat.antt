@@ -10,9 +10,9 @@ use Prim.Native.Nat.{ℕ, zero, suc, _+_, _-_, _*_, _/_, _%_, _<_, _≤_}
 use mathlib.Core.Path.{_≡_, refl, sym, ap, _∙_}
 use native.Mathlib.Omega.{arith}
 use native.Mathlib.Nat.{mod-lt, mod-eq-of-lt, add-mod-left, mul-add-mod-self-right, div-add-mod', mod-le}
-use Rattle.words.proofs.Split.{Tri, lt, eq, gt, tri}
+use Rattle.words.proofs.Split.{lt, eq, gt, tri}
 use Rattle.words.proofs.Sequence.{from, Less, place, widen, recast}
-use Rattle.necklaces.proofs.Run.{Pre, Lyn, Run, run-pre, run-shorter, lyn-through}
+use Rattle.necklaces.proofs.Run.{Pre, Lyn, Run, run-pre, lyn-through}
 
 -- the first p of a, over and over
 abbrev pub rep : ℕ → (ℕ → ℕ) → ℕ → ℕ

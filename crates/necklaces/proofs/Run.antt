@@ -7,9 +7,9 @@
 --     longest, run-one          no longer beginning is Lyndon, so p is unique
 -- Assumes nothing.
 use Prim.Native.Nat.{ℕ, zero, suc, _+_, _-_, _<_, _≤_}
-use mathlib.Core.Path.{_≡_, refl, sym, ap, _∙_}
+use mathlib.Core.Path.{_≡_, refl, sym, _∙_}
 use native.Mathlib.Omega.{arith}
-use Rattle.words.proofs.Split.{Tri, lt, eq, gt, tri}
+use Rattle.words.proofs.Split.{lt, eq, gt, tri}
 use Rattle.words.proofs.Sequence.{from, Less, place, widen, less-asym}
 
 -- each ending of the first n is not below the beginning of the same length

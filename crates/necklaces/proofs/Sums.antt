@@ -5,15 +5,15 @@
 -- Assumes nothing.
 use Prim.Native.Nat.{ℕ, zero, suc, _+_, _-_, _<_, _≤_}
 use mathlib.Core.Path.{_≡_, refl, sym, ap, _∙_}
-use mathlib.Core.Bool.{Bool, true, false}
-use mathlib.Core.List.{List, [], _∷_, _++_}
+use mathlib.Core.Bool.{true, false}
+use mathlib.Core.List.{List, [], _∷_}
 use native.Mathlib.Omega.{arith}
-use lib.ListN.{length, getD, length-append, List·getD-append}
+use lib.ListN.{length, getD, List·getD-append}
 use lib.Dec.{eqb}
 use borrow.Author.Tests.{eq-eqb, ne-eqb}
-use Rattle.words.specs.Readings.{Reading, readings, bit, total, count}
-use Rattle.words.proofs.Split.{Tri, lt, eq, gt, tri, Test, passes, fails, test, refuted, clash}
-use Rattle.words.proofs.Readings.{All, readings-all}
+use Rattle.words.specs.Readings.{Reading, readings, bit, count}
+use Rattle.words.proofs.Split.{lt, eq, gt, tri, Test, passes, fails, test, refuted, clash}
+use Rattle.words.proofs.Readings.{readings-all}
 use Rattle.words.proofs.Sequence.{sec}
 use Rattle.words.proofs.Count.{sumBelow, sum-cong, sum-add, sum-zero, sum-one, total-cong, total-add, total-snoc, count-cong, count-le}
 use Rattle.rings.specs.Necklace.{necklace, lyndon}

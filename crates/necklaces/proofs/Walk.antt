@@ -6,17 +6,16 @@
 --     walk-on                  it is not: the step stands there, one move on
 --     walk-done                there is no next prenecklace: there is no answer, and the moves are all there are
 -- Assumes nothing.
-use Prim.Native.Nat.{ℕ, zero, suc, _<_, _≤_}
+use Prim.Native.Nat.{ℕ, suc, _<_}
 use mathlib.Core.Path.{_≡_, refl, sym, ap, _∙_}
 use mathlib.Core.Bool.{Bool, true, false, _&&_}
 use mathlib.Core.Option.{none, some}
 use mathlib.Core.List.{List}
-use native.Mathlib.Omega.{arith}
 use lib.ListN.{length}
 use Rattle.words.specs.Order.{before, upTo}
-use Rattle.words.specs.Readings.{Reading, readings, bit}
+use Rattle.words.specs.Readings.{Reading, readings}
 use Rattle.words.proofs.Split.{both, both-left, both-right, refuted, clash}
-use Rattle.words.proofs.Lex.{Lex, ahead, equal, behind, lex, before-upTo, upTo-refl, upTo-trans, upTo-split, before-upTo-trans, upTo-before-trans, not-before, not-upTo, before-not-upTo, before-irrefl, upTo-not-before}
+use Rattle.words.proofs.Lex.{ahead, equal, behind, lex, before-upTo, upTo-refl, upTo-before-trans, not-before, before-not-upTo}
 use Rattle.words.proofs.Readings.{first-is, first-nothing, readings-all}
 use Rattle.words.proofs.Count.{count-cong}
 use Rattle.rings.specs.Prenecklace.{prenecklace}

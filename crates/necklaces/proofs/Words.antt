@@ -5,16 +5,15 @@
 --     necklace-prenecklace  a necklace is a prenecklace
 -- Assumes nothing.
 use Prim.Native.Nat.{ℕ, _+_, _-_, _<_, _≤_}
-use mathlib.Core.Path.{_≡_, refl, sym, ap, _∙_}
+use mathlib.Core.Path.{_≡_, refl, sym, _∙_}
 use mathlib.Core.Bool.{true}
 use mathlib.Core.List.{List}
 use native.Mathlib.Omega.{arith}
 use lib.ListN.{length, getD, take, drop, length-drop}
 use lib.Seq.{length-take-le, getD-take, getD-drop}
-use Rattle.words.specs.Order.{upTo}
 use Rattle.words.specs.Turn.{turn}
 use Rattle.words.proofs.Search.{all-at, all-of}
-use Rattle.words.proofs.Sequence.{sec, from, Less, recast}
+use Rattle.words.proofs.Sequence.{sec, from, recast}
 use Rattle.words.proofs.Lex.{upTo-not-less, not-less-upTo}
 use Rattle.words.proofs.Turn.{length-turn, turn-low, turn-high}
 use Rattle.rings.specs.Necklace.{necklace, notAboveTurn}

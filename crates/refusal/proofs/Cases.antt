@@ -1,7 +1,6 @@
 -- Refusals to check by hand, of the definitions themselves: one table, one claim. A row is a call and the refusal that it is given, or none.
 -- The rows are those at which a reader may stumble: the bounds of n and k, wide numbers, which of two faults counts, and the places.
 -- Assumes nothing.
-use Prim.Native.Nat.{ℕ}
 use mathlib.Core.Path.{_≡_, refl}
 use mathlib.Core.Bool.{true, false}
 use mathlib.Core.Option.{Option, none, some}

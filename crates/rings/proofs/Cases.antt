@@ -5,7 +5,7 @@
 use Prim.Native.Nat.{ℕ, zero, suc, _/_, _%_}
 use mathlib.Core.Path.{_≡_, refl}
 use mathlib.Core.Bool.{Bool, true, false}
-use mathlib.Core.Option.{Option, none, some}
+use mathlib.Core.Option.{none, some}
 use mathlib.Core.List.{List, [], _∷_}
 use Rattle.rings.specs.declared.Class.{Class}
 use Rattle.rings.specs.declared.Class.the-variants.{Loose, Opening, Repeating, Single}
@@ -15,7 +15,7 @@ use Rattle.rings.specs.Class.{classOf}
 use Rattle.rings.specs.Home.{home, shift}
 use Rattle.rings.specs.Alike.{evenHanded, sameRing, apart, mirrored}
 use Rattle.rings.specs.Next.{nextPrenecklace}
-use Rattle.rings.specs.Counts.{countsOf, countedNecklace}
+use Rattle.rings.specs.Counts.{countedNecklace}
 use Rattle.rings.specs.Steps.{firstOf, nextOf, moves}
 use Rattle.rings.specs.Open.{open-all}
 

@@ -1,6 +1,6 @@
 -- Prenecklaces, in the two forms of the page, and lyn (001, Definition 3 and Theorem 1; 000, section 2; 002, section 2).
 -- That the two forms agree: `necklaces`, proofs/Begin. Assumes nothing.
-use Prim.Native.Nat.{ℕ, _-_, _<_}
+use Prim.Native.Nat.{ℕ, _-_}
 use mathlib.Core.Path.{_≡_}
 use mathlib.Core.Bool.{Bool, true}
 use mathlib.Core.List.{List, _++_}

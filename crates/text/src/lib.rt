@@ -1,4 +1,4 @@
-// The listing program's proved pieces (01, 'The listing program'): the line that it reads.
+// The listing program's proved pieces (01, 'The listing program'): the line that it reads, the power that it holds to a limit, and the lines that it prints.
 ghost use mathlib.Core.Path.{_≡_};
 ghost use Prim.Native.Nat.{_+_, _^_, _≤_};
 ghost use lib.Dec.{ltb, leb};

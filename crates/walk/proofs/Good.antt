@@ -7,24 +7,23 @@
 --     ring-of, walk-good                         the record of a ring passes its checks
 --     moved-is                   the record that a step makes is the record of its ring
 -- Assumes nothing.
-use Prim.Native.Nat.{ℕ, zero, suc, _+_, _-_, _<_, _≤_}
+use Prim.Native.Nat.{ℕ, _+_, _-_, _<_, _≤_}
 use mathlib.Core.Path.{_≡_, refl, sym, ap, _∙_}
-use mathlib.Core.Bool.{Bool, true, false, _&&_}
-use mathlib.Core.Option.{none, some}
+use mathlib.Core.Bool.{Bool, true, false}
+use mathlib.Core.Option.{some}
 use mathlib.Core.List.{List, _++_}
 use native.Mathlib.Omega.{arith}
 use lib.ListN.{length, getD, take, drop, replicate, List·getD-append, take-append-drop, length-drop, length-replicate, getD-replicate}
 use lib.Seq.{take-append-seam, getD-append-add, ext-getD, getD-take, getD-drop, length-take-le}
-use lib.Dec.{eqb, ltb}
+use lib.Dec.{eqb}
 use borrow.Author.Tests.{eq-eqb, ne-eqb, eqb-true, lt-ltb, le-ltb}
 use Rattle.words.specs.Readings.{Sized, Shaded, Reading}
-use Rattle.words.proofs.Split.{Tri, lt, eq, gt, tri, Test, passes, fails, test, both, both-left, both-right, not-left, not-right, clash}
-use Rattle.words.proofs.Sequence.{sec}
+use Rattle.words.proofs.Split.{lt, eq, gt, tri, both, both-left, both-right, not-left, not-right, clash}
 use Rattle.rings.specs.declared.Class.{Class}
 use Rattle.rings.specs.declared.Class.the-variants.{Loose, Opening, Repeating, Single}
 use Rattle.rings.specs.Prenecklace.{prenecklace, lyn}
 use Rattle.rings.specs.Class.{Classed, classOf}
-use Rattle.rings.specs.Steps.{nextOf, moves}
+use Rattle.rings.specs.Steps.{nextOf}
 use Rattle.necklaces.proofs.Lyndon.{lyn-run}
 use Rattle.necklaces.proofs.Classes.{classed, lyndon-necklace}
 use Rattle.necklaces.proofs.Words.{necklace-prenecklace}

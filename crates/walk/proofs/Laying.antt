@@ -1,12 +1,12 @@
 -- What the loop of `lay_out` rests on: the first i sectors are the reading's, the others 0.
 -- Assumes nothing.
-use Prim.Native.Nat.{ℕ, zero, suc, _+_, _-_, _<_, _≤_}
-use mathlib.Core.Path.{_≡_, refl, sym, ap, _∙_}
-use mathlib.Core.List.{List, _++_}
+use Prim.Native.Nat.{ℕ, _+_, _-_, _<_, _≤_}
+use mathlib.Core.Path.{_≡_, sym, ap, _∙_}
+use mathlib.Core.List.{List}
 use native.Mathlib.Omega.{arith}
 use lib.ListN.{length, getD, set, length-set, length-append, List·getD-append}
 use lib.Seq.{ext-getD, getD-set-same, getD-set-other, getD-append-add}
-use Rattle.words.proofs.Split.{Tri, lt, eq, gt, tri}
+use Rattle.words.proofs.Split.{lt, eq, gt, tri}
 use Rattle.necklaces.proofs.FullWalk.{zeros, length-zeros, zeros-at}
 use Rattle.walk.specs.Record.{laidOut}
 

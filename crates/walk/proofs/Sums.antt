@@ -6,24 +6,22 @@
 --                               the necklaces of lengths 1 to n together
 -- Assumes nothing.
 use Prim.Native.Nat.{ℕ, suc, _+_, _-_, _/_, _<_, _≤_}
-use mathlib.Core.Path.{_≡_, refl, sym, ap, _∙_}
-use mathlib.Core.Bool.{Bool, true}
-use mathlib.Core.Option.{none, some}
+use mathlib.Core.Path.{_≡_, sym, ap, _∙_}
+use mathlib.Core.Bool.{Bool}
 use mathlib.Core.List.{List, [], _∷_}
 use native.Mathlib.Omega.{arith}
-use lib.ListN.{length, take, replicate}
+use lib.ListN.{length, replicate}
 use Rattle.rings.specs.Necklace.{necklace}
 use Rattle.rings.specs.Prenecklace.{prenecklace}
-use Rattle.rings.specs.Next.{lastLow}
 use Rattle.rings.specs.Steps.{nextOf, moves, howMany, howManyTo, FullWalk, done, step}
 use Rattle.necklaces.proofs.Next.{low-or-full}
 use Rattle.necklaces.proofs.Bound.{bound-necklace, bound-last}
-use Rattle.necklaces.proofs.FullWalk.{zeros, zeros-necklace, zeros-prenecklace, walk-sum, walk-sum-bound}
+use Rattle.necklaces.proofs.FullWalk.{zeros, walk-sum, walk-sum-bound}
 use Rattle.refusal.specs.declared.Checked.the-variants as C
 use Rattle.walk.specs.declared.Walk.{Walk}
 use Rattle.walk.specs.declared.Outcome.the-variants.{Moved, Done}
-use Rattle.walk.specs.Record.{ringOf, walkOf}
-use Rattle.walk.specs.Says.{StartSays, StepSays, Onto, Ended}
+use Rattle.walk.specs.Record.{ringOf}
+use Rattle.walk.specs.Says.{StartSays, StepSays}
 use Rattle.walk.proofs.Good.{good-ready, good-long, ring-of}
 
 -- ---- one step

@@ -7,7 +7,6 @@ use mathlib.Core.Option.{none, some}
 use mathlib.Core.List.{List}
 use Rattle.rings.specs.Prenecklace.{prenecklace}
 use Rattle.rings.specs.Steps.{nextOf, moves}
-use Rattle.refusal.specs.declared.Refusal.{Refusal}
 use Rattle.refusal.specs.declared.Checked.{Checked}
 use Rattle.refusal.specs.declared.Checked.the-variants as C
 use Rattle.refusal.specs.Order.{Given, Passed}

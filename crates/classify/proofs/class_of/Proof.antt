@@ -1,15 +1,11 @@
 -- `classify::class_of` meets its contract. The loop's invariant: the first i sectors are a run of i - j. Assumes nothing.
-use Prim.Native.Nat.{ℕ, suc, _≤_, _<_, _+_, _-_}
-use mathlib.Core.Path.{_≡_, _∙_, sym, ap, refl}
+use Prim.Native.Nat.{_≤_, _-_}
 use mathlib.Core.Logic.{⊎-elim}
 use native.Mathlib.Omega.{arith}
-use lib.ListN.{length, getD, take, drop, set}
 use borrow.Author.Needs.{needs}
 use Rattle.classify.proofs.Scan.{Runs, scan-empty, scan-start, scan-same, scan-greater, scan-smaller, scan-end, scan-single, scan-repeating, scan-opening}
 use Rattle.classify.proofs.class_of.Statement.{statement}
 use Rattle.classify.proofs.class_of.Tie as tie
-use Rattle.classify.proofs.class_of.Reads as reads
-use Rattle.classify.proofs.class_of.Lts as lts
 
 abbrev Inv-loop : tie.InvT-loop
 Inv-loop s n j₀ i₀ j i = (i ≤ n) × Runs s i j

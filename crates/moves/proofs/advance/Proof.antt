@@ -1,19 +1,14 @@
-use Prim.Native.Nat.{ℕ, suc, _≤_, _<_, _+_, _-_}
-use mathlib.Core.Path.{_≡_, _∙_, sym, ap, refl}
-use mathlib.Core.Logic.{⊎-elim}
+-- `moves::advance` meets its contract. The loop's invariant, `Stands`: the step has gone from prenecklace to prenecklace, has met none of the kind, and its lyn rises. Assumes nothing.
+use Prim.Native.Nat.{ℕ, _<_, _-_}
+use mathlib.Core.Path.{_∙_, sym, ap}
 use native.Mathlib.Omega.{arith}
-use lib.ListN.{length, getD, take, drop, set}
+use lib.ListN.{drop}
 use borrow.Author.Needs.{needs}
 use mathlib.Core.List.{List, _++_}
 use lib.ListN.{length-take}
 use Rattle.moves.proofs.Standing.{Stands, stands-start, stands-low, stands-none, stands-rises, stands-found, stands-on}
 use Rattle.moves.proofs.advance.Statement.{statement}
 use Rattle.moves.proofs.advance.Tie as tie
-use Rattle.moves.proofs.advance.Reads as reads
-use Rattle.moves.proofs.advance.Lts as lts
-use Rattle.moves.proofs.of_kind.Reads as of-kind-reads
-use Rattle.moves.proofs.last_low.Reads as last-low-reads
-use Rattle.moves.proofs.raise.Reads as raise-reads
 
 abbrev Inv-loop : tie.InvT-loop
 Inv-loop n k kind ring₀ lyn₀ moves₀ ring lyn moves = Stands kind n k ring₀ ring lyn moves

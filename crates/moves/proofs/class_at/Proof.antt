@@ -1,14 +1,8 @@
-use Prim.Native.Nat.{ℕ, suc, _≤_, _<_, _+_, _-_}
-use mathlib.Core.Path.{_≡_, _∙_, sym, ap, refl}
-use mathlib.Core.Logic.{⊎-elim}
-use native.Mathlib.Omega.{arith}
-use lib.ListN.{length, getD, take, drop, set}
+-- `moves::class_at` meets its contract. Assumes nothing.
 use borrow.Author.Needs.{needs}
 use Rattle.moves.proofs.Standing.{at-single, at-repeating, at-opening}
 use Rattle.moves.proofs.class_at.Statement.{statement}
 use Rattle.moves.proofs.class_at.Tie as tie
-use Rattle.moves.proofs.class_at.Reads as reads
-use Rattle.moves.proofs.class_at.Lts as lts
 
 returns : tie.Need-returns
 returns c = at-single _ _ (c .if1 .taken)

@@ -1,15 +1,12 @@
-use Prim.Native.Nat.{ℕ, suc, _≤_, _<_, _+_, _-_}
-use mathlib.Core.Path.{_≡_, _∙_, sym, ap, refl}
-use mathlib.Core.Logic.{⊎-elim}
+-- `moves::last_low` meets its contract. The loop's invariant: no place past i can be raised. Assumes nothing.
+use Prim.Native.Nat.{_≤_, _-_}
+use mathlib.Core.Path.{_≡_}
 use native.Mathlib.Omega.{arith}
-use lib.ListN.{length, getD, take, drop, set}
+use lib.ListN.{length}
 use borrow.Author.Needs.{needs}
 use Rattle.moves.proofs.Raising.{Over, over-start, over-more, over-found, over-none}
 use Rattle.moves.proofs.last_low.Statement.{statement}
 use Rattle.moves.proofs.last_low.Tie as tie
-use Rattle.moves.proofs.last_low.Reads as reads
-use Rattle.moves.proofs.last_low.Lts as lts
-use Rattle.moves.proofs.wide.Reads as wide-reads
 
 abbrev Inv-loop : tie.InvT-loop
 Inv-loop s k i₀ i = (i ≤ length s) × Over k s i

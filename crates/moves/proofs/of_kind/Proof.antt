@@ -1,13 +1,7 @@
-use Prim.Native.Nat.{ℕ, suc, _≤_, _<_, _+_, _-_}
-use mathlib.Core.Path.{_≡_, _∙_, sym, ap, refl}
-use mathlib.Core.Logic.{⊎-elim}
-use native.Mathlib.Omega.{arith}
-use lib.ListN.{length, getD, take, drop, set}
+-- `moves::of_kind` meets its contract. Assumes nothing.
 use borrow.Author.Needs.{needs}
 use Rattle.moves.proofs.of_kind.Statement.{statement}
 use Rattle.moves.proofs.of_kind.Tie as tie
-use Rattle.moves.proofs.of_kind.Reads as reads
-use Rattle.moves.proofs.of_kind.Lts as lts
 
 enum-told : tie.Need-enum-told
 enum-told c = search needs

@@ -1,15 +1,12 @@
-use Prim.Native.Nat.{ℕ, suc, _≤_, _<_, _+_, _-_}
-use mathlib.Core.Path.{_≡_, _∙_, sym, ap, refl}
-use mathlib.Core.Logic.{⊎-elim}
+-- `moves::raise` meets its contract. The loop's invariant: the first m sectors repeat the first i, the last of which is raised. Assumes nothing.
+use Prim.Native.Nat.{_-_}
 use native.Mathlib.Omega.{arith}
-use lib.ListN.{length, getD, take, drop, set}
+use lib.ListN.{length}
 use borrow.Author.Needs.{needs}
 use lib.ListN.{length-set}
 use Rattle.moves.proofs.Raising.{Copied, copied-start, copied-more, copied-end}
 use Rattle.moves.proofs.raise.Statement.{statement}
 use Rattle.moves.proofs.raise.Tie as tie
-use Rattle.moves.proofs.raise.Reads as reads
-use Rattle.moves.proofs.raise.Lts as lts
 
 abbrev Inv-loop : tie.InvT-loop
 Inv-loop s₀ i m₀ s m = Copied s₀ s i m

@@ -1,17 +1,12 @@
 -- `refusal::first_bad` meets its contract. Where no sector is above one that is below the limit, all are. The loop's invariant: the sectors passed
 -- are below the limit. Assumes nothing.
-use Prim.Native.Nat.{ℕ, suc, _≤_, _<_, _+_, _-_}
-use mathlib.Core.Path.{_≡_, _∙_, sym, ap, refl}
-use mathlib.Core.Logic.{⊎-elim}
+use Prim.Native.Nat.{ℕ, _≤_, _<_, _-_}
 use native.Mathlib.Omega.{arith}
-use lib.ListN.{length, getD, take, drop, set}
+use lib.ListN.{length, getD}
 use borrow.Author.Needs.{needs}
 use borrow.Author.Count.{below-more}
 use Rattle.refusal.proofs.first_bad.Statement.{statement}
 use Rattle.refusal.proofs.first_bad.Tie as tie
-use Rattle.refusal.proofs.first_bad.Reads as reads
-use Rattle.refusal.proofs.first_bad.Lts as lts
-use Rattle.refusal.proofs.greatest.Reads as greatest-reads
 
 abbrev Inv-loop : tie.InvT-loop
 Inv-loop s limit i₀ i = (i ≤ length s) × ((j : ℕ) → j < i → getD s j 0 < limit)

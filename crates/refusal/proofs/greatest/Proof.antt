@@ -1,15 +1,12 @@
 -- `refusal::greatest` meets its contract. The loop's invariant: no sector passed is above `top`. Assumes nothing.
-use Prim.Native.Nat.{ℕ, suc, _≤_, _<_, _+_, _-_}
-use mathlib.Core.Path.{_≡_, _∙_, sym, ap, refl}
+use Prim.Native.Nat.{ℕ, _≤_, _<_, _-_}
 use mathlib.Core.Logic.{⊎-elim}
 use native.Mathlib.Omega.{arith}
-use lib.ListN.{length, getD, take, drop, set}
+use lib.ListN.{length, getD}
 use borrow.Author.Needs.{needs}
 use borrow.Author.Count.{below-more}
 use Rattle.refusal.proofs.greatest.Statement.{statement}
 use Rattle.refusal.proofs.greatest.Tie as tie
-use Rattle.refusal.proofs.greatest.Reads as reads
-use Rattle.refusal.proofs.greatest.Lts as lts
 
 abbrev Inv-loop : tie.InvT-loop
 Inv-loop s top₀ i₀ top i = (i ≤ length s) × ((j : ℕ) → j < i → getD s j 0 ≤ top)

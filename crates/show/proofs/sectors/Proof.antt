@@ -1,15 +1,11 @@
-use Prim.Native.Nat.{ℕ, suc, _≤_, _<_, _+_, _-_}
-use mathlib.Core.Path.{_≡_, _∙_, sym, ap, refl}
-use mathlib.Core.Logic.{⊎-elim}
+-- `show::sectors` meets its contract. The loop's invariant: the row keeps its 64 places. Assumes nothing.
+use Prim.Native.Nat.{_≤_, _-_}
+use mathlib.Core.Path.{_≡_}
 use native.Mathlib.Omega.{arith}
-use lib.ListN.{length, getD, take, drop, set, length-set, length-take}
+use lib.ListN.{length, length-set, length-take}
 use borrow.Author.Needs.{needs}
 use Rattle.show.proofs.sectors.Statement.{statement}
 use Rattle.show.proofs.sectors.Tie as tie
-use Rattle.show.proofs.sectors.Reads as reads
-use Rattle.show.proofs.sectors.Lts as lts
-use Rattle.io.proofs.write_all.Reads as write-all-reads
-use Rattle.show.proofs.digit.Reads as digit-reads
 
 abbrev Inv-loop : tie.InvT-loop
 Inv-loop s row₀ n i₀ row i = (length row ≡ 64) × (i ≤ n)

@@ -1,18 +1,11 @@
-use Prim.Native.Nat.{ℕ, suc, _≤_, _<_, _+_, _-_}
-use mathlib.Core.Path.{_≡_, _∙_, sym, ap, refl}
-use mathlib.Core.Logic.{⊎-elim}
-use native.Mathlib.Omega.{arith}
-use lib.ListN.{length, getD, take, drop, set}
+-- `walk::check_walk` meets its contract. The refusals of the sectors' check are the record's; its own check, 5, comes last. Assumes nothing.
+use mathlib.Core.Path.{_∙_, sym}
 use borrow.Author.Needs.{needs}
 use Rattle.refusal.proofs.More.{more-walk}
 use Rattle.walk.specs.Record.{walkAsked}
 use Rattle.walk.proofs.Good.{pass-walk, off-walk}
 use Rattle.walk.proofs.check_walk.Statement.{statement}
 use Rattle.walk.proofs.check_walk.Tie as tie
-use Rattle.walk.proofs.check_walk.Reads as reads
-use Rattle.walk.proofs.check_walk.Lts as lts
-use Rattle.refusal.proofs.check_ring.Reads as check-ring-reads
-use Rattle.walk.proofs.on_walk.Reads as on-walk-reads
 
 check-ring-requires : tie.Need-check-ring-requires
 check-ring-requires c κs = search needs

@@ -1,14 +1,10 @@
-use Prim.Native.Nat.{ℕ, suc, _≤_, _<_, _+_, _-_}
-use mathlib.Core.Path.{_≡_, _∙_, sym, ap, refl}
-use mathlib.Core.Logic.{⊎-elim}
-use native.Mathlib.Omega.{arith}
-use lib.ListN.{length, getD, take, drop, set}
+-- `walk::lay_out` meets its contract. The loop's invariant: the first i sectors are the reading's, the others 0. Assumes nothing.
+use Prim.Native.Nat.{_-_}
+use lib.ListN.{length}
 use borrow.Author.Needs.{needs}
 use Rattle.walk.proofs.Laying.{Laid, laid-start, laid-more, laid-end}
 use Rattle.walk.proofs.lay_out.Statement.{statement}
 use Rattle.walk.proofs.lay_out.Tie as tie
-use Rattle.walk.proofs.lay_out.Reads as reads
-use Rattle.walk.proofs.lay_out.Lts as lts
 
 abbrev Inv-loop : tie.InvT-loop
 Inv-loop s ring₀ i₀ ring i = Laid s ring i

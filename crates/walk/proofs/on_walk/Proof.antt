@@ -1,19 +1,12 @@
-use Prim.Native.Nat.{ℕ, suc, _≤_, _<_, _+_, _-_}
-use mathlib.Core.Path.{_≡_, _∙_, sym, ap, refl}
-use mathlib.Core.Logic.{⊎-elim}
+-- `walk::on_walk` meets its contract. Assumes nothing.
+use mathlib.Core.Path.{_≡_, _∙_, sym}
 use native.Mathlib.Omega.{arith}
-use lib.ListN.{length, getD, take, drop, set}
+use lib.ListN.{length, take}
 use borrow.Author.Needs.{needs}
 use lib.ListN.{length-take}
 use Rattle.walk.proofs.Good.{off-loose, off-tag, off-value, on-class}
 use Rattle.walk.proofs.on_walk.Statement.{statement}
 use Rattle.walk.proofs.on_walk.Tie as tie
-use Rattle.walk.proofs.on_walk.Reads as reads
-use Rattle.walk.proofs.on_walk.Lts as lts
-use Rattle.classify.proofs.class_of.Reads as class-of-reads
-use Rattle.walk.proofs.is_loose.Reads as is-loose-reads
-use Rattle.walk.proofs.tag.Reads as tag-reads
-use Rattle.walk.proofs.value.Reads as value-reads
 
 array-share-prefix-ring : tie.Need-array-share-prefix-ring
 array-share-prefix-ring c = search needs

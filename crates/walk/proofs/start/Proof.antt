@@ -1,19 +1,10 @@
-use Prim.Native.Nat.{ℕ, suc, _≤_, _<_, _+_, _-_}
-use mathlib.Core.Path.{_≡_, _∙_, sym, ap, refl}
-use mathlib.Core.Logic.{⊎-elim}
-use native.Mathlib.Omega.{arith}
-use lib.ListN.{length, getD, take, drop, set}
+-- `walk::start` meets its contract. Assumes nothing.
 use borrow.Author.Needs.{needs}
 use Rattle.rings.specs.Prenecklace.{prenecklace}
 use Rattle.refusal.specs.Calls.{walkStart}
 use Rattle.refusal.proofs.More.{more-walk}
 use Rattle.walk.proofs.start.Statement.{statement}
 use Rattle.walk.proofs.start.Tie as tie
-use Rattle.walk.proofs.start.Reads as reads
-use Rattle.walk.proofs.start.Lts as lts
-use Rattle.refusal.proofs.check_reading.Reads as check-reading-reads
-use Rattle.walk.proofs.empty.Reads as empty-reads
-use Rattle.walk.proofs.start_good.Reads as start-good-reads
 
 check-reading-requires : tie.Need-check-reading-requires
 check-reading-requires c κs = search needs

@@ -1,18 +1,9 @@
-use Prim.Native.Nat.{ℕ, suc, _≤_, _<_, _+_, _-_}
-use mathlib.Core.Path.{_≡_, _∙_, sym, ap, refl}
-use mathlib.Core.Logic.{⊎-elim}
-use native.Mathlib.Omega.{arith}
-use lib.ListN.{length, getD, take, drop, set}
+-- `walk::start_good` meets its contract. Assumes nothing.
+use mathlib.Core.Path.{_∙_, sym}
 use borrow.Author.Needs.{needs}
 use Rattle.walk.proofs.Good.{start-off, start-on, start-is}
 use Rattle.walk.proofs.start_good.Statement.{statement}
 use Rattle.walk.proofs.start_good.Tie as tie
-use Rattle.walk.proofs.start_good.Reads as reads
-use Rattle.walk.proofs.start_good.Lts as lts
-use Rattle.classify.proofs.class_of.Reads as class-of-reads
-use Rattle.walk.proofs.empty.Reads as empty-reads
-use Rattle.walk.proofs.is_loose.Reads as is-loose-reads
-use Rattle.walk.proofs.lay_out.Reads as lay-out-reads
 
 class-of-requires : tie.Need-class-of-requires
 class-of-requires c κs = search needs

@@ -1,15 +1,8 @@
-use Prim.Native.Nat.{ℕ, suc, _≤_, _<_, _+_, _-_}
-use mathlib.Core.Path.{_≡_, _∙_, sym, ap, refl}
-use mathlib.Core.Logic.{⊎-elim}
-use native.Mathlib.Omega.{arith}
-use lib.ListN.{length, getD, take, drop, set}
+-- `walk::step` meets its contract. Assumes nothing.
+use mathlib.Core.Path.{refl}
 use borrow.Author.Needs.{needs}
 use Rattle.walk.proofs.step.Statement.{statement}
 use Rattle.walk.proofs.step.Tie as tie
-use Rattle.walk.proofs.step.Reads as reads
-use Rattle.walk.proofs.step.Lts as lts
-use Rattle.walk.proofs.check_walk.Reads as check-walk-reads
-use Rattle.walk.proofs.step_good.Reads as step-good-reads
 
 check-walk-requires : tie.Need-check-walk-requires
 check-walk-requires c κs = search needs

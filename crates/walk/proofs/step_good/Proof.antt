@@ -1,16 +1,12 @@
-use Prim.Native.Nat.{ℕ, suc, _≤_, _<_, _+_, _-_}
-use mathlib.Core.Path.{_≡_, _∙_, sym, ap, refl}
-use mathlib.Core.Logic.{⊎-elim}
+-- `walk::step_good` meets its contract. What `advance` came to is the record of the next ring. Assumes nothing.
+use Prim.Native.Nat.{_<_}
+use mathlib.Core.Path.{_≡_, refl}
 use native.Mathlib.Omega.{arith}
-use lib.ListN.{length, getD, take, drop, set}
+use lib.ListN.{length, take}
 use borrow.Author.Needs.{needs}
 use Rattle.walk.proofs.Good.{good-ready, good-tail, moved-is}
 use Rattle.walk.proofs.step_good.Statement.{statement}
 use Rattle.walk.proofs.step_good.Tie as tie
-use Rattle.walk.proofs.step_good.Reads as reads
-use Rattle.walk.proofs.step_good.Lts as lts
-use Rattle.moves.proofs.advance.Reads as advance-reads
-use Rattle.moves.proofs.class_at.Reads as class-at-reads
 
 advance-requires : tie.Need-advance-requires
 advance-requires c κs = good-ready (c .before .args .w) (c .before .pre) (search needs)

@@ -1,19 +1,8 @@
-use Prim.Native.Nat.{ℕ, suc, _≤_, _<_, _+_, _-_}
-use mathlib.Core.Path.{_≡_, _∙_, sym, ap, refl}
-use mathlib.Core.Logic.{⊎-elim}
-use native.Mathlib.Omega.{arith}
-use lib.ListN.{length, getD, take, drop, set, length-take}
+-- `walk_vectors::count_rings` meets its contract. The loop ends by its count. Assumes nothing.
+use Prim.Native.Nat.{_≤_, _-_}
 use borrow.Author.Needs.{needs}
 use Rattle.walk_vectors.proofs.count_rings.Statement.{statement}
 use Rattle.walk_vectors.proofs.count_rings.Tie as tie
-use Rattle.walk_vectors.proofs.count_rings.Reads as reads
-use Rattle.walk_vectors.proofs.count_rings.Lts as lts
-use Rattle.show.proofs.number.Reads as number-reads
-use Rattle.show.proofs.text.Reads as text-reads
-use Rattle.std.proofs.num.wrapping_add_usize.Reads as wrapping-add-usize-reads
-use Rattle.walk_vectors.proofs.from_zeros.Reads as from-zeros-reads
-use Rattle.walk_vectors.proofs.print_kind.Reads as print-kind-reads
-use Rattle.walk_vectors.proofs.step.Reads as step-reads
 
 abbrev Inv-loop : tie.InvT-loop
 Inv-loop n k kind w₀ count₀ sum₀ t11 t12 t13 w count sum = count ≤ 10000

@@ -1,14 +1,9 @@
-use Prim.Native.Nat.{ℕ, suc, _≤_, _<_, _+_, _-_}
-use mathlib.Core.Path.{_≡_, _∙_, sym, ap, refl}
-use mathlib.Core.Logic.{⊎-elim}
+-- `walk_vectors::from_zeros` meets its contract. Assumes nothing.
 use native.Mathlib.Omega.{arith}
-use lib.ListN.{length, getD, take, drop, set, length-take}
+use lib.ListN.{length-take}
 use borrow.Author.Needs.{needs}
 use Rattle.walk_vectors.proofs.from_zeros.Statement.{statement}
 use Rattle.walk_vectors.proofs.from_zeros.Tie as tie
-use Rattle.walk_vectors.proofs.from_zeros.Reads as reads
-use Rattle.walk_vectors.proofs.from_zeros.Lts as lts
-use Rattle.walk.proofs.start.Reads as start-reads
 
 slice-aggregate-start : tie.Need-slice-aggregate-start
 slice-aggregate-start c = search needs

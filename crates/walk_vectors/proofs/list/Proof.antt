@@ -1,18 +1,8 @@
-use Prim.Native.Nat.{ℕ, suc, _≤_, _<_, _+_, _-_}
-use mathlib.Core.Path.{_≡_, _∙_, sym, ap, refl}
-use mathlib.Core.Logic.{⊎-elim}
-use native.Mathlib.Omega.{arith}
-use lib.ListN.{length, getD, take, drop, set, length-take}
+-- `walk_vectors::list` meets its contract. The loop ends by its count. Assumes nothing.
+use Prim.Native.Nat.{_≤_, _-_}
 use borrow.Author.Needs.{needs}
 use Rattle.walk_vectors.proofs.list.Statement.{statement}
 use Rattle.walk_vectors.proofs.list.Tie as tie
-use Rattle.walk_vectors.proofs.list.Reads as reads
-use Rattle.walk_vectors.proofs.list.Lts as lts
-use Rattle.show.proofs.text.Reads as text-reads
-use Rattle.walk.proofs.next_prenecklace.Reads as next-prenecklace-reads
-use Rattle.walk_vectors.proofs.from_zeros.Reads as from-zeros-reads
-use Rattle.walk_vectors.proofs.print_mark.Reads as print-mark-reads
-use Rattle.walk_vectors.proofs.print_ring.Reads as print-ring-reads
 
 abbrev Inv-loop : tie.InvT-loop
 Inv-loop n k marks w₀ count₀ t9 w count = count ≤ 100

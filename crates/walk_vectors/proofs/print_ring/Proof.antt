@@ -1,14 +1,10 @@
-use Prim.Native.Nat.{ℕ, suc, _≤_, _<_, _+_, _-_}
-use mathlib.Core.Path.{_≡_, _∙_, sym, ap, refl}
-use mathlib.Core.Logic.{⊎-elim}
+-- `walk_vectors::print_ring` meets its contract. Assumes nothing.
+use mathlib.Core.Path.{_≡_}
 use native.Mathlib.Omega.{arith}
-use lib.ListN.{length, getD, take, drop, set, length-take}
+use lib.ListN.{length, length-take}
 use borrow.Author.Needs.{needs}
 use Rattle.walk_vectors.proofs.print_ring.Statement.{statement}
 use Rattle.walk_vectors.proofs.print_ring.Tie as tie
-use Rattle.walk_vectors.proofs.print_ring.Reads as reads
-use Rattle.walk_vectors.proofs.print_ring.Lts as lts
-use Rattle.show.proofs.sectors.Reads as sectors-reads
 
 array-share-prefix-ring : tie.Need-array-share-prefix-ring
 array-share-prefix-ring c = let l : length (c .before .before .args .w .ring) ≡ 64 = search needs in omega arith
