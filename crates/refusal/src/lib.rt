@@ -67,7 +67,7 @@ pub fn place(r: Refusal) -> usize
 }
 
 // The numbers that every call has: 1, 10, 2. A call with one reading gives its length for the second as well.
-fn check_numbers(n: usize, second: usize, k: usize) -> Checked
+pub fn check_numbers(n: usize, second: usize, k: usize) -> Checked
     ensures { λ r. ⌜ CheckSays (numbers n second k) r ⌝ }
 {
     if n < 1 {

@@ -1,0 +1,3 @@
+-- The laws that the reader's proofs cite, and that it has one answer.
+pub mod Reversing
+pub mod Fronts

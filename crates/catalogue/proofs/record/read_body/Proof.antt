@@ -1,0 +1,104 @@
+use Prim.Native.Nat.{ℕ, suc, _≤_, _<_, _+_, _-_}
+use mathlib.Core.Path.{_≡_, _∙_, sym, ap, refl}
+use mathlib.Core.Logic.{⊎-elim}
+use native.Mathlib.Omega.{arith}
+use lib.ListN.{length, getD, take, drop, set}
+use borrow.Author.Needs.{needs}
+use Rattle.catalogue.proofs.record.read_body.Statement.{statement}
+use Rattle.catalogue.proofs.record.read_body.Tie as tie
+use Rattle.catalogue.proofs.record.read_body.Reads as reads
+use Rattle.catalogue.proofs.record.read_body.Lts as lts
+use Rattle.catalogue.proofs.front.write_front.Reads as write-front-reads
+use Rattle.catalogue.proofs.record.is_necklace.Reads as is-necklace-reads
+use Rattle.classify.proofs.classify.Reads as classify-reads
+use Rattle.refusal.proofs.place.Reads as place-reads
+
+-- src/record.rt:65:11
+classify-requires : tie.Need-classify-requires
+classify-requires c κs = search needs
+
+-- src/record.rt:66:29
+enum-known-r : tie.Need-enum-known-r
+enum-known-r c = search needs
+
+-- src/record.rt:66:66
+add-t11 : tie.Need-add-t11
+add-t11 c = search needs
+
+-- src/record.rt:66:78
+place-requires : tie.Need-place-requires
+place-requires c κs = search needs
+
+-- src/record.rt:66:66
+add-t13 : tie.Need-add-t13
+add-t13 c = ?
+
+-- src/record.rt:67:24
+enum-known-c : tie.Need-enum-known-c
+enum-known-c c = search needs
+
+-- src/record.rt:68:16
+is-necklace-requires : tie.Need-is-necklace-requires
+is-necklace-requires c κs = search needs
+
+-- src/record.rt:70:58
+slice-relend-prefix-write-front : tie.Need-slice-relend-prefix-write-front
+slice-relend-prefix-write-front c = search needs
+
+-- src/record.rt:70:58
+slice-aggregate-write-front : tie.Need-slice-aggregate-write-front
+slice-aggregate-write-front c = ?
+
+-- src/record.rt:70:17
+write-front-requires : tie.Need-write-front-requires
+write-front-requires c κs = ?
+
+-- src/record.rt:75:27
+add-t19 : tie.Need-add-t19
+add-t19 c = search needs
+
+-- src/record.rt:75:27
+add-t20 : tie.Need-add-t20
+add-t20 c = search needs
+
+-- src/record.rt:71:17
+same-length : tie.Need-same-length
+same-length c = search needs
+
+-- src/record.rt:71:17
+returns : tie.Need-returns
+returns c = ?
+
+-- src/record.rt:78:45
+add-t21 : tie.Need-add-t21
+add-t21 c = search needs
+
+-- src/record.rt:61:1
+returns-2 : tie.Need-returns-2
+returns-2 c = ?
+
+-- src/record.rt:61:1
+returns-3 : tie.Need-returns-3
+returns-3 c = ?
+
+pub read-body-spec : {M : Type 1} → statement M
+read-body-spec =
+    tie.close
+    (tie.spec
+    classify-requires
+    enum-known-r
+    add-t11
+    place-requires
+    add-t13
+    enum-known-c
+    is-necklace-requires
+    slice-relend-prefix-write-front
+    slice-aggregate-write-front
+    write-front-requires
+    add-t19
+    add-t20
+    same-length
+    returns
+    add-t21
+    returns-2
+    returns-3)

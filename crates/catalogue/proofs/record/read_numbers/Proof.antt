@@ -1,0 +1,118 @@
+use Prim.Native.Nat.{ℕ, suc, _≤_, _<_, _+_, _-_}
+use mathlib.Core.Path.{_≡_, _∙_, sym, ap, refl}
+use mathlib.Core.Logic.{⊎-elim}
+use native.Mathlib.Omega.{arith}
+use lib.ListN.{length, getD, take, drop, set}
+use borrow.Author.Needs.{needs}
+use Rattle.catalogue.proofs.record.read_numbers.Statement.{statement}
+use Rattle.catalogue.proofs.record.read_numbers.Tie as tie
+use Rattle.catalogue.proofs.record.read_numbers.Reads as reads
+use Rattle.catalogue.proofs.record.read_numbers.Lts as lts
+use Rattle.catalogue.proofs.record.read_body.Reads as read-body-reads
+use Rattle.refusal.proofs.check_numbers.Reads as check-numbers-reads
+use Rattle.refusal.proofs.number.Reads as number-reads
+
+-- src/record.rt:41:13
+shared-slice-read-n : tie.Need-shared-slice-read-n
+shared-slice-read-n c = search needs
+
+-- src/record.rt:41:13
+cast-n : tie.Need-cast-n
+cast-n c = ?
+
+-- src/record.rt:42:13
+shared-slice-read-k : tie.Need-shared-slice-read-k
+shared-slice-read-k c = search needs
+
+-- src/record.rt:42:13
+cast-k : tie.Need-cast-k
+cast-k c = ?
+
+-- src/record.rt:43:11
+check-numbers-requires : tie.Need-check-numbers-requires
+check-numbers-requires c κs = search needs
+
+-- src/record.rt:44:26
+enum-known-r : tie.Need-enum-known-r
+enum-known-r c = search needs
+
+-- src/record.rt:45:16
+number-requires : tie.Need-number-requires
+number-requires c κs = search needs
+
+-- src/record.rt:46:55
+add-t16 : tie.Need-add-t16
+add-t16 c = search needs
+
+-- src/record.rt:46:17
+returns : tie.Need-returns
+returns c = ?
+
+-- src/record.rt:48:44
+add-t14 : tie.Need-add-t14
+add-t14 c = search needs
+
+-- src/record.rt:51:21
+enum-told : tie.Need-enum-told
+enum-told c = search needs
+
+-- src/record.rt:51:21
+add-e : tie.Need-add-e
+add-e c = ?
+
+-- src/record.rt:53:17
+returns-2 : tie.Need-returns-2
+returns-2 c = ?
+
+-- src/record.rt:55:23
+sub-read-body : tie.Need-sub-read-body
+sub-read-body c = search needs
+
+-- src/record.rt:55:23
+part-read-body-start : tie.Need-part-read-body-start
+part-read-body-start c = search needs
+
+-- src/record.rt:55:23
+part-read-body-end : tie.Need-part-read-body-end
+part-read-body-end c = search needs
+
+-- src/record.rt:55:13
+read-body-requires : tie.Need-read-body-requires
+read-body-requires c κs = ?
+
+-- src/record.rt:37:1
+returns-3 : tie.Need-returns-3
+returns-3 c = ?
+
+-- src/record.rt:37:1
+same-length : tie.Need-same-length
+same-length c = search needs
+
+-- src/record.rt:37:1
+returns-4 : tie.Need-returns-4
+returns-4 c = ?
+
+pub read-numbers-spec : {M : Type 1} → statement M
+read-numbers-spec =
+    tie.close
+    (tie.spec
+    shared-slice-read-n
+    cast-n
+    shared-slice-read-k
+    cast-k
+    check-numbers-requires
+    enum-known-r
+    number-requires
+    add-t16
+    returns
+    add-t14
+    enum-told
+    add-e
+    returns-2
+    sub-read-body
+    part-read-body-start
+    part-read-body-end
+    read-body-requires
+    returns-3
+    same-length
+    returns-4)
