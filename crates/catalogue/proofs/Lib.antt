@@ -1,3 +1,5 @@
 -- The laws that the reader's proofs cite, and that it has one answer.
 pub mod Reversing
 pub mod Fronts
+pub mod Bodies
+pub mod Heads

@@ -4,6 +4,9 @@ use mathlib.Core.Logic.{⊎-elim}
 use native.Mathlib.Omega.{arith}
 use lib.ListN.{length, getD, take, drop, set}
 use borrow.Author.Needs.{needs}
+use mathlib.Core.List.{List, _++_}
+use lib.ListN.{length-take}
+use Rattle.catalogue.proofs.Bodies.{only-sector, bad-sector, necklace-class, not-home, passed-room}
 use Rattle.catalogue.proofs.record.read_body.Statement.{statement}
 use Rattle.catalogue.proofs.record.read_body.Tie as tie
 use Rattle.catalogue.proofs.record.read_body.Reads as reads
@@ -31,7 +34,9 @@ place-requires c κs = search needs
 
 -- src/record.rt:66:66
 add-t13 : tie.Need-add-t13
-add-t13 c = ?
+add-t13 c = let a = c .before .before .before .before .before .before .before .args in
+    let f = only-sector (a .body .now) (a .k) (c .before .before .before .before .before .before .before .pre .2) (c .before .before .before .before .before .before .before .pre .3) (c .before .before .r .given .0 .0) (rw (c .before .before .r .given .1) at (c .before .before .before .before .classify .ensures)) in
+    omega (arith, f .within, c .place .ensures)
 
 -- src/record.rt:67:24
 enum-known-c : tie.Need-enum-known-c
@@ -47,11 +52,13 @@ slice-relend-prefix-write-front c = search needs
 
 -- src/record.rt:70:58
 slice-aggregate-write-front : tie.Need-slice-aggregate-write-front
-slice-aggregate-write-front c = ?
+slice-aggregate-write-front c = let h = c .before .before .before .before .before .before .before .before .before .pre .2 .1 in simp length-take (omega arith)
 
 -- src/record.rt:70:17
 write-front-requires : tie.Need-write-front-requires
-write-front-requires c κs = ?
+write-front-requires c κs = let a = c .before .before .before .before .before .before .before .before .before .args in
+    let g = rw (c .before .before .before .before .c .given .1) at (c .before .before .before .before .before .before .classify .ensures) in
+    (passed-room (a .body .now) (a .k) _ (g .0) (let h = c .before .before .before .before .before .before .before .before .before .pre .2 .1 in simp length-take (omega arith)), sym (necklace-class (a .body .now) _ (g .1)) ∙ sym (c .before .before .is-necklace .ensures) ∙ c .before .if1 .taken)
 
 -- src/record.rt:75:27
 add-t19 : tie.Need-add-t19
@@ -67,7 +74,17 @@ same-length c = search needs
 
 -- src/record.rt:71:17
 returns : tie.Need-returns
-returns c = ?
+returns c = let a = c .before .before .before .before .before .before .before .before .before .before .before .before .args in
+    let g = rw (c .before .before .before .before .before .before .before .c .given .1) at (c .before .before .before .before .before .before .before .before .before .classify .ensures) in
+    record {
+      below = g .0 .0 .0 .0 .1;
+      home = sym (necklace-class (a .body .now) _ (g .1)) ∙ sym (c .before .before .before .before .before .is-necklace .ensures) ∙ c .before .before .before .before .if1 .taken;
+      sectors = refl;
+      shades = refl;
+      kind = refl;
+      follows = refl;
+      ring = ap (λ (v : List ℕ). v ++ drop (length (a .body .now)) (a .out .now)) (c .before .before .write-front .ensures);
+    }
 
 -- src/record.rt:78:45
 add-t21 : tie.Need-add-t21
@@ -75,11 +92,14 @@ add-t21 c = search needs
 
 -- src/record.rt:61:1
 returns-2 : tie.Need-returns-2
-returns-2 c = ?
+returns-2 c = let a = c .before .before .before .before .before .before .before .args in
+    (bad-sector (a .body .now) (a .k) (a .start) (c .before .before .before .before .before .before .before .pre .2) (c .before .before .before .before .before .before .before .pre .3) (c .before .before .r .given .0 .0) (c .place .result) (c .place .ensures) (rw (c .before .before .r .given .1) at (c .before .before .before .before .classify .ensures)), refl)
 
 -- src/record.rt:61:1
 returns-3 : tie.Need-returns-3
-returns-3 c = ?
+returns-3 c = let a = c .before .before .before .before .before .before .before .before .args in
+    let g = rw (c .before .before .before .c .given .1) at (c .before .before .before .before .before .classify .ensures) in
+    (not-home (a .body .now) (a .k) (a .start) (g .0) (sym (necklace-class (a .body .now) _ (g .1)) ∙ sym (c .before .is-necklace .ensures) ∙ c .if1 .left), refl)
 
 pub read-body-spec : {M : Type 1} → statement M
 read-body-spec =

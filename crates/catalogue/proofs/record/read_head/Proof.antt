@@ -4,6 +4,8 @@ use mathlib.Core.Logic.{⊎-elim}
 use native.Mathlib.Omega.{arith}
 use lib.ListN.{length, getD, take, drop, set}
 use borrow.Author.Needs.{needs}
+use Rattle.catalogue.proofs.Heads.{unknown-mark}
+use Rattle.catalogue.specs.Order.Broken.{head, mark}
 use Rattle.catalogue.proofs.record.read_head.Statement.{statement}
 use Rattle.catalogue.proofs.record.read_head.Tie as tie
 use Rattle.catalogue.proofs.record.read_head.Reads as reads
@@ -12,7 +14,7 @@ use Rattle.catalogue.proofs.record.read_numbers.Reads as read-numbers-r
 
 -- src/record.rt:22:9
 returns : tie.Need-returns
-returns c = ?
+returns c = (head refl (c .if1 .taken), refl)
 
 -- src/record.rt:24:8
 shared-slice-read-if2 : tie.Need-shared-slice-read-if2
@@ -20,7 +22,7 @@ shared-slice-read-if2 c = search needs
 
 -- src/record.rt:25:9
 returns-2 : tie.Need-returns-2
-returns-2 c = ?
+returns-2 c = (mark refl (search needs) (λ x. c .if2 .taken (x .1 .0)), refl)
 
 -- src/record.rt:27:8
 shared-slice-read-if3 : tie.Need-shared-slice-read-if3
@@ -56,7 +58,7 @@ returns-4 c = search needs
 
 -- src/record.rt:17:1
 returns-5 : tie.Need-returns-5
-returns-5 c = ?
+returns-5 c = (mark refl (search needs) (unknown-mark (c .before .before .before .before .before .before .before .before .before .args .rest .now) (c .before .before .if3 .left) (c .if4 .left)), refl)
 
 pub read-head-spec : {M : Type 1} → statement M
 read-head-spec =

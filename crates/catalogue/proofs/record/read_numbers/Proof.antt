@@ -4,6 +4,10 @@ use mathlib.Core.Logic.{⊎-elim}
 use native.Mathlib.Omega.{arith}
 use lib.ListN.{length, getD, take, drop, set}
 use borrow.Author.Needs.{needs}
+use lib.ListN.{length-take, length-drop}
+use lib.Seq.{length-take-le}
+use Rattle.catalogue.specs.Order.Broken.{size, shades, body}
+use Rattle.catalogue.proofs.Heads.{bad-length, bad-shades, length-body, body-read}
 use Rattle.catalogue.proofs.record.read_numbers.Statement.{statement}
 use Rattle.catalogue.proofs.record.read_numbers.Tie as tie
 use Rattle.catalogue.proofs.record.read_numbers.Reads as reads
@@ -18,7 +22,7 @@ shared-slice-read-n c = search needs
 
 -- src/record.rt:41:13
 cast-n : tie.Need-cast-n
-cast-n c = ?
+cast-n c = omega (arith, c .shared-slice-known2 .given 2)
 
 -- src/record.rt:42:13
 shared-slice-read-k : tie.Need-shared-slice-read-k
@@ -26,7 +30,7 @@ shared-slice-read-k c = search needs
 
 -- src/record.rt:42:13
 cast-k : tie.Need-cast-k
-cast-k c = ?
+cast-k c = omega (arith, c .shared-slice-known3 .given 3)
 
 -- src/record.rt:43:11
 check-numbers-requires : tie.Need-check-numbers-requires
@@ -46,7 +50,9 @@ add-t16 c = search needs
 
 -- src/record.rt:46:17
 returns : tie.Need-returns
-returns c = ?
+returns c = let p = c .before .before .before .before .before .before .before .before .before .before .pre in
+    let g = rw (c .before .before .before .r .given .1) at (c .before .before .before .before .before .check-numbers .ensures) in
+    (size refl (p .2, (c .before .before .before .before .before .before .before .before .before .before .args .kind, p .3)) (bad-length _ _ (c .before .before .before .r .given .0 .0) g (sym (c .before .number .ensures) ∙ c .if1 .taken)), refl)
 
 -- src/record.rt:48:44
 add-t14 : tie.Need-add-t14
@@ -58,11 +64,13 @@ enum-told c = search needs
 
 -- src/record.rt:51:21
 add-e : tie.Need-add-e
-add-e c = ?
+add-e c = omega (arith, c .before .before .before .before .shared-slice-known2 .given 2)
 
 -- src/record.rt:53:17
 returns-2 : tie.Need-returns-2
-returns-2 c = ?
+returns-2 c = let p = c .before .before .before .before .before .before .before .before .pre in
+    let g = rw (c .before .enum-told .given .1) at (c .before .before .before .check-numbers .ensures) in
+    (body refl (((p .2, (c .before .before .before .before .before .before .before .before .args .kind, p .3)), g .0 .0 .0 .0 .0 .0), g .0 .0 .0 .0 .1) (c .if2 .taken), refl)
 
 -- src/record.rt:55:23
 sub-read-body : tie.Need-sub-read-body
@@ -78,11 +86,16 @@ part-read-body-end c = search needs
 
 -- src/record.rt:55:13
 read-body-requires : tie.Need-read-body-requires
-read-body-requires c κs = ?
+read-body-requires c κs = let t = c .before .before .before .before .before .before .before .before .before .before .args .rest .now in
+    let g = rw (c .before .before .before .enum-told .given .1) at (c .before .before .before .before .before .check-numbers .ensures) in
+    rw (length-body t (4 + getD t 2 0) refl (c .before .before .if2 .left)) (omega arith, c .before .before .before .before .before .before .before .before .before .before .pre .1, g .0 .0 .0 .0 .0 .0, g .0 .0 .0 .0 .1)
 
 -- src/record.rt:37:1
 returns-3 : tie.Need-returns-3
-returns-3 c = ?
+returns-3 c = let p = c .before .before .before .before .before .before .before .before .before .before .pre in
+    let g = rw (c .before .before .before .r .given .1) at (c .before .before .before .before .before .check-numbers .ensures) in
+    let f = bad-shades _ _ (c .before .before .before .r .given .0 .0) g (λ e. c .if1 .left (c .before .number .ensures ∙ e)) in
+    (shades refl ((p .2, (c .before .before .before .before .before .before .before .before .before .before .args .kind, p .3)), f .0) (f .1), refl)
 
 -- src/record.rt:37:1
 same-length : tie.Need-same-length
@@ -90,7 +103,10 @@ same-length c = search needs
 
 -- src/record.rt:37:1
 returns-4 : tie.Need-returns-4
-returns-4 c = ?
+returns-4 c = let a = c .before .before .before .before .before .before .before .before .before .before .before .before .before .args in
+    let p = c .before .before .before .before .before .before .before .before .before .before .before .before .before .pre in
+    let g = rw (c .before .before .before .before .before .before .enum-told .given .1) at (c .before .before .before .before .before .before .before .before .check-numbers .ensures) in
+    body-read (a .rest .now) (a .start) _ (a .kind) (a .out .now) (c .before .before .read-body .result) _ refl ((((p .2, (a .kind, p .3)), g .0 .0 .0 .0 .0 .0), g .0 .0 .0 .0 .1), c .before .before .before .before .before .if2 .left) (p .3) (c .before .before .read-body .ensures)
 
 pub read-numbers-spec : {M : Type 1} → statement M
 read-numbers-spec =

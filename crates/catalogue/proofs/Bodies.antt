@@ -1,0 +1,64 @@
+-- The sectors of a record, whose numbers are good: what the contracts of classifying and of the checks give the reader.
+--     only-sector, bad-sector       a refusal can only be a bad sector
+--     necklace-class, not-home      by its class a reading is a necklace or not
+--     passed-room                   with an output as long as the reading, the checks of bringing home pass
+-- Assumes nothing.
+use Prim.Native.Nat.{ℕ, _+_}
+use mathlib.Core.Path.{_≡_, refl, sym, _∙_}
+use mathlib.Core.Bool.{Bool, true, false}
+use mathlib.Core.List.{List}
+use lib.ListN.{length}
+use Rattle.words.specs.Readings.{Sized, Shaded}
+use Rattle.words.proofs.Split.{refuted, clash}
+use Rattle.rings.specs.declared.Class.{Class}
+use Rattle.rings.specs.declared.Class.the-variants.{Loose, Opening, Repeating, Single}
+use Rattle.rings.specs.Necklace.{necklace}
+use Rattle.rings.specs.Prenecklace.{prenecklace}
+use Rattle.rings.specs.Class.{Classed, classOf}
+use Rattle.necklaces.proofs.Classes.{classed, lyndon-necklace}
+use Rattle.necklaces.proofs.Words.{necklace-prenecklace}
+use Rattle.refusal.specs.declared.Refusal.{Refusal}
+use Rattle.refusal.specs.declared.Refusal.the-variants.{Length, Shades, Sector, Room, OffWalk, Counts, Cut, Mark, NotHome, Pair, Line, TooMany}
+use Rattle.refusal.specs.Numbers.{placeOf}
+use Rattle.refusal.specs.Order.{Given, Passed, FirstBad}
+use Rattle.refusal.specs.Calls.{oneReading, withRoom}
+use Rattle.catalogue.specs.Layout.{isNecklace}
+use Rattle.catalogue.specs.Order.{Unfit}
+use Rattle.catalogue.specs.Order.Unfit.{sector, notHome}
+
+-- a reading whose numbers are good can only be refused for a sector
+pub only-sector : (w : List ℕ) (k : ℕ) → Sized (length w) → Shaded k → (r : Refusal) → Given (oneReading w k) r → FirstBad w (λ j. k) (placeOf r)
+only-sector w k z h (Length p) g = absurd (g .1 z)
+only-sector w k z h Pair g = absurd (g .1 tt)
+only-sector w k z h (Shades p) g = absurd (g .2 h)
+only-sector w k z h (Sector p) g = g .1
+only-sector w k z h Room g = absurd (g .1 tt)
+only-sector w k z h Counts g = absurd (g .1 tt)
+only-sector w k z h OffWalk g = absurd (g .1 refl)
+only-sector w k z h (Cut p) g = absurd g
+only-sector w k z h (Mark p) g = absurd g
+only-sector w k z h (NotHome p) g = absurd g
+only-sector w k z h Line g = absurd g
+only-sector w k z h TooMany g = absurd g
+
+-- and then the record is, at that sector's place in the catalogue
+pub bad-sector : (w : List ℕ) (k s : ℕ) → Sized (length w) → Shaded k → (r : Refusal) (p : ℕ) → p ≡ placeOf r → Given (oneReading w k) r → Unfit w k s (Sector (s + 4 + p))
+bad-sector w k s z h r p e g = sector p refl (rw e (only-sector w k z h r g))
+
+-- a reading is a necklace exactly where its class is a necklace's
+pub necklace-class : (w : List ℕ) (c : Class) → c ≡ classOf w → isNecklace c ≡ necklace w
+necklace-class w c e = rw e (by-class (classOf w) (classed w))
+  where
+    by-class : (x : Class) → Classed w x → isNecklace x ≡ necklace w
+    by-class Loose d = sym (refuted (necklace w) (λ h. clash (prenecklace w) (necklace-prenecklace w h) d))
+    by-class (Opening p) d = sym (d .1)
+    by-class (Repeating p) d = sym (d .0)
+    by-class Single d = sym (lyndon-necklace w d)
+
+-- sectors that are no necklace
+pub not-home : (w : List ℕ) (k s : ℕ) → Passed (oneReading w k) → necklace w ≡ false → Unfit w k s (NotHome (s + 4))
+not-home w k s g h = notHome refl (g .0 .0 .0 .1) h
+
+-- with an output as long as the reading, the checks of bringing home pass
+pub passed-room : (w : List ℕ) (k m : ℕ) → Passed (oneReading w k) → m ≡ length w → Passed (withRoom w k m)
+passed-room w k m g e = (((g .0 .0 .0, e), tt), refl)

@@ -1,0 +1,102 @@
+-- The head of a record: from the contracts of the checks and of reading the sectors to what the reader answers.
+-- t is the part of the catalogue that begins at s.
+--     bad-length, bad-shades       a refusal of n and k is of n or of k
+--     unknown-mark                 a second byte of neither mark is of no known mark
+--     length-sectors, length-body  a record that is not cut has n sectors
+--     body-read                    what reading the sectors answers is what reading the record does
+--     record-read                  and that is what reading at s does
+-- Assumes nothing.
+use Prim.Native.Nat.{ℕ, _+_, _-_, _<_, _≤_}
+use mathlib.Core.Path.{_≡_, refl, sym, ap, _∙_}
+use mathlib.Core.List.{List, _++_}
+use native.Mathlib.Omega.{arith}
+use lib.ListN.{length, getD, take, drop, length-drop}
+use lib.Seq.{length-take-le, take-all}
+use Rattle.words.specs.Readings.{Sized, Shaded}
+use Rattle.refusal.specs.declared.Refusal.{Refusal}
+use Rattle.refusal.specs.declared.Refusal.the-variants.{Length, Shades, Sector, Room, OffWalk, Counts, Cut, Mark, NotHome, Pair, Line, TooMany}
+use Rattle.refusal.specs.Numbers.{numberOf}
+use Rattle.refusal.specs.Order.{Given}
+use Rattle.refusal.specs.Calls.{numbers}
+use Rattle.catalogue.specs.declared.Kind.{Kind}
+use Rattle.catalogue.specs.declared.Kind.the-variants.{Front, Back}
+use Rattle.catalogue.specs.declared.Entry.{Entry}
+use Rattle.catalogue.specs.declared.Entry.the-variants.{Record, End, Refused}
+use Rattle.catalogue.specs.Layout.{secondByte, Marked, nOf, kOf, sectorsOf}
+use Rattle.catalogue.specs.Order.{Known, After7}
+use Rattle.catalogue.specs.Order.Broken.{unfit}
+use Rattle.catalogue.specs.Order.RefusedAt.{broken}
+use Rattle.catalogue.specs.Says.{ReadSays}
+use Rattle.catalogue.specs.Steps.{RecordSays, BodySays}
+
+-- a refusal by number 1 is of n
+pub bad-length : (n k : ℕ) (r : Refusal) → Given (numbers n n k) r → numberOf r ≡ 1 → Sized n → ⊥
+bad-length n k (Length p) g e = g .1
+bad-length n k Pair g e = absurd (omega arith)
+bad-length n k (Shades p) g e = absurd (omega arith)
+bad-length n k (Sector p) g e = absurd (omega arith)
+bad-length n k Room g e = absurd (omega arith)
+bad-length n k Counts g e = absurd (omega arith)
+bad-length n k OffWalk g e = absurd (omega arith)
+bad-length n k (Cut p) g e = absurd g
+bad-length n k (Mark p) g e = absurd g
+bad-length n k (NotHome p) g e = absurd g
+bad-length n k Line g e = absurd g
+bad-length n k TooMany g e = absurd g
+
+-- any other is of k
+pub bad-shades : (n k : ℕ) (r : Refusal) → Given (numbers n n k) r → (numberOf r ≡ 1 → ⊥) → Sized n × (Shaded k → ⊥)
+bad-shades n k (Length p) g e = absurd (e refl)
+bad-shades n k Pair g e = absurd (g .1 refl)
+bad-shades n k (Shades p) g e = (g .1 .0, g .2)
+bad-shades n k (Sector p) g e = absurd (let l = g .1 .within in omega arith)
+bad-shades n k Room g e = absurd (g .1 tt)
+bad-shades n k Counts g e = absurd (g .1 tt)
+bad-shades n k OffWalk g e = absurd (g .1 refl)
+bad-shades n k (Cut p) g e = absurd g
+bad-shades n k (Mark p) g e = absurd g
+bad-shades n k (NotHome p) g e = absurd g
+bad-shades n k Line g e = absurd g
+bad-shades n k TooMany g e = absurd g
+
+-- a second byte of neither mark is of no known mark
+pub unknown-mark : (t : List ℕ) → (getD t 1 0 ≡ 0x46 → ⊥) → (getD t 1 0 ≡ 0x42 → ⊥) → Known t → ⊥
+unknown-mark t f b (x, m) = by-kind x (m .1)
+  where
+    by-kind : (x : Kind) → getD t 1 0 ≡ secondByte x → ⊥
+    by-kind Front e = f e
+    by-kind Back e = b e
+
+-- a record that is not cut has n sectors
+pub length-sectors : (t : List ℕ) → 4 + nOf t ≤ length t → length (sectorsOf t) ≡ nOf t
+length-sectors t h = length-take-le (nOf t) (drop 4 t) (simp length-drop (omega arith))
+
+-- so has the part of it that ends at e, which is handed on
+pub length-body : (t : List ℕ) (e : ℕ) → e ≡ 4 + nOf t → 4 + nOf t ≤ length t → length (take (e - 4) (drop 4 t)) ≡ nOf t
+length-body t e q h = let f : e - 4 ≡ nOf t = omega arith in rw f (length-sectors t h)
+
+-- reading the sectors is reading the record; e is where they end
+pub body-read : (t : List ℕ) (s e : ℕ) (x : Kind) (b : List ℕ) (r : Entry) (d : List ℕ) → e ≡ 4 + nOf t → After7 t → Marked t x → BodySays (take (e - 4) (drop 4 t)) s (kOf t) x b r d → RecordSays t s b r d
+body-read t s e x b r d q a m h = go r (let f : e - 4 ≡ nOf t = omega arith in rw f at h)
+  where
+    go : (r : Entry) → BodySays (sectorsOf t) s (kOf t) x b r d → RecordSays t s b r d
+    go (Record n k y next) g =
+        record {
+          good = ((a, g .below), g .home);
+          marked = rw (g .kind) m;
+          sectors = g .sectors ∙ length-sectors t (a .1);
+          shades = g .shades;
+          follows = g .follows;
+          ring = rw (g .kind) (g .ring);
+        }
+    go End g = g
+    go (Refused o) g = (unfit a (g .0), g .1)
+
+-- reading the record is reading at s; the part is handed on by its length
+pub record-read : (c : List ℕ) (s : ℕ) (b : List ℕ) (r : Entry) (d : List ℕ) → length b ≡ 64 → s < length c → RecordSays (take (length c - s) (drop s c)) s b r d → ReadSays c s b r d
+record-read c s b r d z l h = go r (let q = take-all (length c - s) (drop s c) (simp length-drop (omega arith)) in rw q at h)
+  where
+    go : (r : Entry) → RecordSays (drop s c) s b r d → ReadSays c s b r d
+    go (Record n k x next) g = (z, l, g)
+    go End g = absurd g
+    go (Refused o) g = (broken z l (g .0), g .1)
