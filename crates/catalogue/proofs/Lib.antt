@@ -3,3 +3,5 @@ pub mod Reversing
 pub mod Fronts
 pub mod Bodies
 pub mod Heads
+pub mod Chain
+pub mod Unique

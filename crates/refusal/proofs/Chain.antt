@@ -18,11 +18,11 @@ unfoldable pub unless : Bool → Refusal → Option Refusal → Option Refusal
 unless true r rest = rest
 unless false r rest = some r
 
-goes-on : (b : Bool) (r : Refusal) (rest : Option Refusal) → b ≡ true → unless b r rest ≡ rest
+pub goes-on : (b : Bool) (r : Refusal) (rest : Option Refusal) → b ≡ true → unless b r rest ≡ rest
 unfolding unless
 goes-on b r rest e = rw e
 
-stops : (b : Bool) (r : Refusal) (rest : Option Refusal) → b ≡ false → unless b r rest ≡ some r
+pub stops : (b : Bool) (r : Refusal) (rest : Option Refusal) → b ≡ false → unless b r rest ≡ some r
 unfolding unless
 stops b r rest e = rw e
 

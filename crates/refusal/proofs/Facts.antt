@@ -32,14 +32,14 @@ pub lacking : {b : Bool} {P : Type 0} → Tells b P → b ≡ false → P → �
 lacking {b} t e p = clash b (t .passed p) e
 
 -- two tests together tell two facts
-both-tell : {b c : Bool} {P Q : Type 0} → Tells b P → Tells c Q → Tells (b && c) (P × Q)
+pub both-tell : {b c : Bool} {P Q : Type 0} → Tells b P → Tells c Q → Tells (b && c) (P × Q)
 both-tell {b} {c} s t =
     record { passed = λ p. both b c (s .passed (p .0)) (t .passed (p .1)); holds = λ e. (s .holds (both-left b c e), t .holds (both-right b c e)) }
 
-at-most-tells : (x y : ℕ) → Tells (leb x y) (x ≤ y)
+pub at-most-tells : (x y : ℕ) → Tells (leb x y) (x ≤ y)
 at-most-tells x y = record { passed = le-leb x y; holds = leb-true x y }
 
-equal-tells : (x y : ℕ) → Tells (eqb x y) (x ≡ y)
+pub equal-tells : (x y : ℕ) → Tells (eqb x y) (x ≡ y)
 equal-tells x y = record { passed = eq-eqb x y; holds = eqb-true x y }
 
 -- x lies between lo and hi
