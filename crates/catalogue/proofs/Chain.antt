@@ -1,5 +1,5 @@
 -- The reader's order of checks as a chain of tests that computes: `entryOf c s m` is the answer for the catalogue c, the start s and an output of m bytes.
---     known, kindOf                  the mark, as tests
+--     known t, kindOf y              the mark, as tests
 --     recordOf t s                   the refusal of the record that t begins with, at s, or none
 --     entryOf c s m                  the answer
 --     broken-fixed, whole-fixed      a record that is refused, and one that is good, determine the chain's answer
@@ -13,7 +13,7 @@ use mathlib.Core.List.{List}
 use native.Mathlib.Omega.{arith}
 use lib.Dec.{leb, ltb, eqb}
 use lib.ListN.{length, getD, drop}
-use borrow.Author.Tests.{lt-ltb, le-ltb, lt-leb, eq-eqb, ne-eqb, eqb-true}
+use borrow.Author.Tests.{lt-ltb, le-ltb, le-leb, lt-leb, eq-eqb, ne-eqb, eqb-true}
 use Rattle.words.specs.Readings.{Sized, Shaded}
 use Rattle.words.proofs.Split.{both, both-left, both-right, Or, left, right, either, either-left, either-right}
 use Rattle.rings.specs.Necklace.{necklace}
@@ -27,7 +27,7 @@ use Rattle.catalogue.specs.declared.Kind.{Kind}
 use Rattle.catalogue.specs.declared.Kind.the-variants.{Front, Back}
 use Rattle.catalogue.specs.declared.Entry.{Entry}
 use Rattle.catalogue.specs.declared.Entry.the-variants.{Record, End, Refused}
-use Rattle.catalogue.specs.Layout.{secondByte, Marked, nOf, kOf, sectorsOf}
+use Rattle.catalogue.specs.Layout.{secondByte, nOf, kOf, sectorsOf}
 use Rattle.catalogue.specs.Order.{Known, AfterHead, After8, After1, After2, After7, After3, After9, Unfit, Broken, RefusedAt}
 use Rattle.catalogue.specs.Order.Unfit.{sector, notHome}
 use Rattle.catalogue.specs.Order.Broken.{head, mark, size, shades, body, unfit}
@@ -39,8 +39,9 @@ use Rattle.catalogue.specs.Says.{ReadSays}
 unfoldable pub known : List ℕ → Bool
 known t = eqb (getD t 0 0) 0x52 && (eqb (getD t 1 0) 0x46 || eqb (getD t 1 0) 0x42)
 
-unfoldable pub kindOf : List ℕ → Kind
-kindOf t = elim (eqb (getD t 1 0) 0x46) [ true ↦ Front | false ↦ Back ]
+-- the kind of a known mark, by its second byte
+unfoldable pub kindOf : ℕ → Kind
+kindOf y = elim (eqb y 0x46) [ true ↦ Front | false ↦ Back ]
 
 known-tells : (t : List ℕ) → Tells (known t) (Known t)
 unfolding known
@@ -61,11 +62,11 @@ known-tells t =
     found e (left f) = (Front, (e, eqb-true (getD t 1 0) 0x46 f))
     found e (right n f) = (Back, (e, eqb-true (getD t 1 0) 0x42 f))
 
--- a part that begins with the mark of a kind is of that kind
-pub kind-is : (t : List ℕ) (x : Kind) → Marked t x → kindOf t ≡ x
+-- the second byte of a mark tells its kind
+pub kind-is : (y : ℕ) (x : Kind) → y ≡ secondByte x → kindOf y ≡ x
 unfolding kindOf
-kind-is t Front m = rw (eq-eqb (getD t 1 0) 0x46 (m .1), kindOf)
-kind-is t Back m = rw (ne-eqb (getD t 1 0) 0x46 (λ e. omega (arith, m .1)), kindOf)
+kind-is y Front e = rw (eq-eqb y 0x46 e, kindOf)
+kind-is y Back e = rw (ne-eqb y 0x46 (λ q. omega arith), kindOf)
 
 -- ---- the chain of a record, from its end; the test of 1 and 2 is that of every call
 
@@ -143,37 +144,48 @@ module _ (t : List ℕ) (s : ℕ) where
 
 -- ---- the answer
 
+-- r where the test fails, otherwise what the rest of the chain answers
+unfoldable pub orElse : Bool → Entry → Entry → Entry
+orElse true r rest = rest
+orElse false r rest = r
+
+-- the refusal, or the record
+unfoldable pub refusedOr : Option Refusal → Entry → Entry
+refusedOr none e = e
+refusedOr (some r) e = Refused r
+
 unfoldable pub recordEntry : List ℕ → ℕ → Entry
-recordEntry t s = elim (recordOf t s) [ some r ↦ Refused r | none ↦ Record (nOf t) (kOf t) (kindOf t) (s + 4 + nOf t) ]
+recordEntry t s = refusedOr (recordOf t s) (Record (nOf t) (kOf t) (kindOf (getD t 1 0)) (s + 4 + nOf t))
 
 -- from the start on: 7, End, the record
 unfoldable pub startEntry : List ℕ → ℕ → Entry
-startEntry c s = elim (ltb (length c) s) [ true ↦ Refused (R.Cut s) | false ↦ elim (eqb s (length c)) [ true ↦ End | false ↦ recordEntry (drop s c) s ] ]
+startEntry c s = orElse (leb s (length c)) (Refused (R.Cut s)) (orElse (ltb s (length c)) End (recordEntry (drop s c) s))
 
 unfoldable pub entryOf : List ℕ → ℕ → ℕ → Entry
-entryOf c s m = elim (eqb m 64) [ true ↦ startEntry c s | false ↦ Refused R.Room ]
+entryOf c s m = orElse (eqb m 64) (Refused R.Room) (startEntry c s)
 
 module _ (c : List ℕ) (s m : ℕ) where
   roomy : m ≡ 64 → entryOf c s m ≡ startEntry c s
-  unfolding entryOf
-  roomy e = rw (eq-eqb m 64 e, entryOf)
+  unfolding entryOf orElse
+  roomy e = rw (eq-eqb m 64 e)
 
-  inside : m ≡ 64 → s < length c → entryOf c s m ≡ recordEntry (drop s c) s
-  unfolding startEntry
-  inside e l = roomy e ∙ rw (le-ltb (length c) s (omega arith), ne-eqb s (length c) (λ q. omega arith), startEntry)
+  pub inside : s < length c → startEntry c s ≡ recordEntry (drop s c) s
+  unfolding startEntry orElse
+  inside l = rw (le-leb s (length c) (omega arith), lt-ltb s (length c) l)
 
   refused-fixed : (r : Refusal) → RefusedAt c s m r → entryOf c s m ≡ Refused r
-  unfolding entryOf startEntry recordEntry
-  refused-fixed r (room e f) = rw (ne-eqb m 64 f, entryOf, e)
-  refused-fixed r (past e z l) = roomy z ∙ rw (lt-ltb (length c) s l, startEntry, e)
-  refused-fixed r (broken z l b) = inside z l ∙ rw (broken-fixed (drop s c) s r b, recordEntry)
+  unfolding entryOf startEntry recordEntry orElse refusedOr
+  refused-fixed r (room e f) = rw (ne-eqb m 64 f, e)
+  refused-fixed r (past e z l) = roomy z ∙ rw (lt-leb s (length c) l, e)
+  refused-fixed r (broken z l b) = roomy z ∙ inside l ∙ rw (broken-fixed (drop s c) s r b)
 
 -- an answer that the contract allows is the chain's
 pub fixed : (c : List ℕ) (s : ℕ) (b : List ℕ) (r : Entry) (d : List ℕ) → ReadSays c s b r d → entryOf c s (length b) ≡ r
-unfolding startEntry recordEntry
+unfolding startEntry recordEntry orElse refusedOr
 fixed c s b (Record n k x next) d h =
     let t = drop s c in
     let g = h .2 in
-    inside c s (length b) (h .0) (h .1) ∙ rw (whole-fixed t s (g .good), recordEntry, kind-is t x (g .marked)) (cc (g .sectors, g .shades, g .follows))
-fixed c s b End d h = roomy c s (length b) (h .0) ∙ rw (le-ltb (length c) s (omega arith), startEntry, eq-eqb s (length c) (h .1))
+    roomy c s (length b) (h .0) ∙ inside c s (length b) (h .1) ∙ rw (whole-fixed t s (g .good), kind-is (getD t 1 0) x (g .marked .1)) (cc (g .sectors, g .shades, g .follows))
+fixed c s b End d h =
+    roomy c s (length b) (h .0) ∙ rw (le-leb s (length c) (omega arith), le-ltb s (length c) (omega arith))
 fixed c s b (Refused r) d h = refused-fixed c s (length b) r (h .0)

@@ -5,3 +5,5 @@ pub mod Bodies
 pub mod Heads
 pub mod Chain
 pub mod Unique
+pub mod Laws
+pub mod Cases

@@ -1,8 +1,9 @@
 -- What the parts of the reader promise each other; it serves the code alone.
+--     Held m                       a number of the code holds m, so that no place wraps
 --     RecordSays t s b r d         reading the record that t begins with, at s of the catalogue
 --     BodySays w s k x b r d       reading the sectors w of a record of k shades at s, under a mark of kind x
 -- Assumes nothing.
-use Prim.Native.Nat.{ℕ, _+_}
+use Prim.Native.Nat.{ℕ, _+_, _<_}
 use mathlib.Core.Path.{_≡_}
 use mathlib.Core.Bool.{true}
 use mathlib.Core.List.{List, _++_}
@@ -16,6 +17,10 @@ use Rattle.catalogue.specs.declared.Entry.the-variants.{Record, End, Ref
 use Rattle.catalogue.specs.Layout.{frontRing}
 use Rattle.catalogue.specs.Order.{Unfit, Broken}
 use Rattle.catalogue.specs.Says.{Read}
+
+-- m is below 2 to the power 64
+abbrev pub Held : ℕ → Type 0
+Held m = m < 18446744073709551616
 
 abbrev pub RecordSays : List ℕ → ℕ → List ℕ → Entry → List ℕ → Type 0
 RecordSays t s b (Record n k x next) d = Read t s b n k x next d

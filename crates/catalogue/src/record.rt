@@ -7,15 +7,15 @@ use refusal::Checked;
 use refusal::Refusal;
 use rings::Class;
 ghost use mathlib.Core.Path.{_≡_};
-ghost use Prim.Native.Nat.{_+_, _<_, _≤_};
+ghost use Prim.Native.Nat.{_+_, _≤_};
 ghost use lib.ListN.{length};
 ghost use Rattle.catalogue.specs.Layout.{Marked, isNecklace};
 ghost use Rattle.words.specs.Readings.{Sized, Shaded};
-ghost use Rattle.catalogue.specs.Steps.{RecordSays, BodySays};
+ghost use Rattle.catalogue.specs.Steps.{Held, RecordSays, BodySays};
 
 // The head and the mark: 7, 8.
 pub fn read_head(rest: &[u8], start: usize, out: &mut [u8]) -> Entry
-    requires { ⌜ (start + length (now rest) < 18446744073709551616) × (length (now out) ≡ 64) ⌝ }
+    requires { ⌜ Held (start + length (now rest)) × (length (now out) ≡ 64) ⌝ }
     ensures { λ r. ⌜ RecordSays (now (rest .entry)) start (now (out .entry)) r (now (out .exit)) ⌝ }
 {
     if rest.len() < 4 {
@@ -35,7 +35,7 @@ pub fn read_head(rest: &[u8], start: usize, out: &mut [u8]) -> Entry
 
 // n and k, and whether the sectors are all there: 1, 2, 7.
 fn read_numbers(rest: &[u8], start: usize, kind: Kind, out: &mut [u8]) -> Entry
-    requires { ⌜ (start + length (now rest) < 18446744073709551616) × (length (now out) ≡ 64) × (4 ≤ length (now rest)) × Marked (now rest) kind ⌝ }
+    requires { ⌜ Held (start + length (now rest)) × (length (now out) ≡ 64) × (4 ≤ length (now rest)) × Marked (now rest) kind ⌝ }
     ensures { λ r. ⌜ RecordSays (now (rest .entry)) start (now (out .entry)) r (now (out .exit)) ⌝ }
 {
     let n = rest[2] as usize;
@@ -59,7 +59,7 @@ fn read_numbers(rest: &[u8], start: usize, kind: Kind, out: &mut [u8]) -> Entry
 
 // The sectors: 3, 9; and then the front ring.
 fn read_body(body: &[u8], start: usize, k: usize, kind: Kind, out: &mut [u8]) -> Entry
-    requires { ⌜ (start + (4 + length (now body)) < 18446744073709551616) × (length (now out) ≡ 64) × Sized (length (now body)) × Shaded k ⌝ }
+    requires { ⌜ Held (start + (4 + length (now body))) × (length (now out) ≡ 64) × Sized (length (now body)) × Shaded k ⌝ }
     ensures { λ r. ⌜ BodySays (now (body .entry)) start k kind (now (out .entry)) r (now (out .exit)) ⌝ }
 {
     match classify::classify(body, k) {
