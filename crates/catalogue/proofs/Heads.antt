@@ -2,7 +2,7 @@
 -- t is the part of the catalogue that begins at s.
 --     bad-length, bad-shades       a refusal of n and k is of n or of k
 --     unknown-mark                 a second byte of neither mark is of no known mark
---     length-sectors, length-body  a record that is not cut has n sectors
+--     length-sectors               a record that is not cut has n sectors
 --     body-read                    what reading the sectors answers is what reading the record does
 --     record-read                  and that is what reading at s does
 -- Assumes nothing.
@@ -70,10 +70,6 @@ unknown-mark t f b (x, m) = by-kind x (m .1)
 -- a record that is not cut has n sectors
 pub length-sectors : (t : List ℕ) → 4 + nOf t ≤ length t → length (sectorsOf t) ≡ nOf t
 length-sectors t h = length-take-le (nOf t) (drop 4 t) (simp length-drop (omega arith))
-
--- so has the part of it that ends at e, which is handed on
-pub length-body : (t : List ℕ) (e : ℕ) → e ≡ 4 + nOf t → 4 + nOf t ≤ length t → length (take (e - 4) (drop 4 t)) ≡ nOf t
-length-body t e q h = let f : e - 4 ≡ nOf t = omega arith in rw f (length-sectors t h)
 
 -- reading the sectors is reading the record; e is where they end
 pub body-read : (t : List ℕ) (s e : ℕ) (x : Kind) (b : List ℕ) (r : Entry) (d : List ℕ) → e ≡ 4 + nOf t → After7 t → Marked t x → BodySays (take (e - 4) (drop 4 t)) s (kOf t) x b r d → RecordSays t s b r d

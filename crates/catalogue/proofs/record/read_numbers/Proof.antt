@@ -7,7 +7,7 @@ use borrow.Author.Needs.{needs}
 use lib.ListN.{length-take, length-drop}
 use lib.Seq.{length-take-le}
 use Rattle.catalogue.specs.Order.Broken.{size, shades, body}
-use Rattle.catalogue.proofs.Heads.{bad-length, bad-shades, length-body, body-read}
+use Rattle.catalogue.proofs.Heads.{bad-length, bad-shades, body-read}
 use Rattle.catalogue.proofs.record.read_numbers.Statement.{statement}
 use Rattle.catalogue.proofs.record.read_numbers.Tie as tie
 use Rattle.catalogue.proofs.record.read_numbers.Reads as reads
@@ -86,9 +86,11 @@ part-read-body-end c = search needs
 
 -- src/record.rt:55:13
 read-body-requires : tie.Need-read-body-requires
-read-body-requires c κs = let t = c .before .before .before .before .before .before .before .before .before .before .args .rest .now in
-    let g = rw (c .before .before .before .enum-told .given .1) at (c .before .before .before .before .before .check-numbers .ensures) in
-    rw (length-body t (4 + getD t 2 0) refl (c .before .before .if2 .left)) (omega arith, c .before .before .before .before .before .before .before .before .before .before .pre .1, g .0 .0 .0 .0 .0 .0, g .0 .0 .0 .0 .1)
+read-body-requires c κs = let g = rw (c .before .before .before .enum-told .given .1) at (c .before .before .before .before .before .check-numbers .ensures) in
+    let n = g .0 .0 .0 .0 .0 .0 in
+    let k = g .0 .0 .0 .0 .1 in
+    let p = c .before .before .before .before .before .before .before .before .before .before .pre in
+    simp (length-take, length-drop) (omega (arith, c .before .before .if2 .left))
 
 -- src/record.rt:37:1
 returns-3 : tie.Need-returns-3
