@@ -5,8 +5,8 @@
 --     broken-fixed, whole-fixed      a record that is refused, and one that is good, determine the chain's answer
 --     fixed                          so does an answer that the contract allows
 -- Assumes nothing.
-use Prim.Native.Nat.{ℕ, _+_, _<_, _≤_}
-use mathlib.Core.Path.{_≡_, refl, sym, ap, _∙_}
+use Prim.Native.Nat.{ℕ, _+_, _<_}
+use mathlib.Core.Path.{_≡_, _∙_}
 use mathlib.Core.Bool.{Bool, true, false, _&&_, _||_}
 use mathlib.Core.Option.{Option, none, some}
 use mathlib.Core.List.{List}
@@ -14,7 +14,6 @@ use native.Mathlib.Omega.{arith}
 use lib.Dec.{leb, ltb, eqb}
 use lib.ListN.{length, getD, drop}
 use borrow.Author.Tests.{lt-ltb, le-ltb, le-leb, lt-leb, eq-eqb, ne-eqb, eqb-true}
-use Rattle.words.specs.Readings.{Sized, Shaded}
 use Rattle.words.proofs.Split.{both, both-left, both-right, Or, left, right, either, either-left, either-right}
 use Rattle.rings.specs.Necklace.{necklace}
 use Rattle.refusal.specs.declared.Refusal.{Refusal}

@@ -4,7 +4,7 @@
 --     front-written          a necklace brought home is the front ring of a front record
 --     turned-over            sectors reversed and brought home are the front ring of a back record
 -- Assumes nothing.
-use Prim.Native.Nat.{ℕ, suc, _+_, _-_, _<_, _≤_}
+use Prim.Native.Nat.{ℕ, suc, _-_, _<_, _≤_}
 use mathlib.Core.Path.{_≡_, refl, sym, _∙_}
 use mathlib.Core.Bool.{true}
 use mathlib.Core.List.{List, reverse}

@@ -11,7 +11,7 @@ use mathlib.Core.List.{List, _++_, reverse}
 use native.Mathlib.Omega.{arith}
 use lib.Dec.{eqb}
 use lib.ListN.{length, getD, take, drop, length-append, length-drop, length-reverse, List·getD-append}
-use lib.Seq.{take-at, drop-at, take-all, take-append-le, drop-append-le, drop-append-seam}
+use lib.Seq.{take-at, drop-at, take-append-le, drop-append-le, drop-append-seam}
 use borrow.Author.Tests.{le-leb}
 use Rattle.rings.specs.Necklace.{necklace}
 use Rattle.rings.specs.Alike.{mirrored}
@@ -21,7 +21,7 @@ use Rattle.catalogue.specs.declared.Kind.{Kind}
 use Rattle.catalogue.specs.declared.Kind.the-variants.{Front, Back}
 use Rattle.catalogue.specs.declared.Entry.{Entry}
 use Rattle.catalogue.specs.declared.Entry.the-variants.{Record, End, Refused}
-use Rattle.catalogue.specs.Layout.{nOf, kOf, sectorsOf, frontRing}
+use Rattle.catalogue.specs.Layout.{nOf, sectorsOf, frontRing}
 use Rattle.catalogue.specs.Says.{ReadSays}
 use Rattle.catalogue.proofs.Heads.{length-sectors}
 use Rattle.catalogue.proofs.Chain.{known, from9, from3, from7, from2, from1, from8, recordOf, orElse, recordEntry, entryOf, inside, fixed}

@@ -2,7 +2,7 @@
 --     Reversed s o i, reversed-start, reversed-more, reversed-end
 -- Assumes nothing.
 use Prim.Native.Nat.{ℕ, suc, _+_, _-_, _<_, _≤_}
-use mathlib.Core.Path.{_≡_, refl, sym, ap, _∙_}
+use mathlib.Core.Path.{_≡_, sym, _∙_}
 use mathlib.Core.List.{List, reverse}
 use native.Mathlib.Omega.{arith}
 use lib.ListN.{length, getD, set, length-set, length-reverse}

@@ -5,7 +5,7 @@
 use Prim.Native.Nat.{ℕ}
 use mathlib.Core.Path.{_≡_, sym, ap, _∙_}
 use mathlib.Core.List.{List, _++_}
-use lib.ListN.{length, drop}
+use lib.ListN.{drop}
 use Rattle.catalogue.specs.declared.Entry.{Entry}
 use Rattle.catalogue.specs.declared.Entry.the-variants.{Record, End, Refused}
 use Rattle.catalogue.specs.Layout.{sectorsOf, frontRing}

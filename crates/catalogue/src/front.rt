@@ -1,7 +1,6 @@
 // The front ring of a record's sectors, which are a necklace: themselves in a front record, and reversed and brought home again in a back record.
 
 use super::Kind;
-use home::Homed;
 ghost use mathlib.Core.Path.{_≡_};
 ghost use mathlib.Core.Bool.{true};
 ghost use mathlib.Core.List.{reverse};
@@ -20,7 +19,7 @@ pub fn write_front(body: &[u8], k: usize, kind: Kind, out: &mut [u8])
 {
     match kind {
         Kind::Front => {
-            let h = home::bring_home(body, k, out);
+            home::bring_home(body, k, out);
         }
         Kind::Back => {
             let mut back = [0u8; 64];
@@ -36,7 +35,7 @@ fn turn_over(body: &[u8], k: usize, back: &mut [u8], out: &mut [u8])
     ensures { λ r. ⌜ now (out .exit) ≡ mirrored (now (body .entry)) ⌝ }
 {
     write_reversed(body, back);
-    let h = home::bring_home(back, k, out);
+    home::bring_home(back, k, out);
 }
 
 // Writes the reversed sectors.

@@ -48,7 +48,7 @@ fn full(c: &[u8], start: usize) -> Entry {
 // Every record from the first on, and then the answer that is no record.
 fn each(c: &[u8]) {
     let mut start = 0;
-    let mut count = 0;
+    let mut count: usize = 0;
     while count < 100 {
         let r = full(c, start);
         let Entry::Record {

@@ -1,56 +1,39 @@
-use Prim.Native.Nat.{ℕ, suc, _≤_, _<_, _+_, _-_}
-use mathlib.Core.Path.{_≡_, _∙_, sym, ap, refl}
-use mathlib.Core.Logic.{⊎-elim}
+-- `catalogue::front::write_front` meets its contract: a necklace brought home stays as it is, and a back record's sectors are turned over.
+-- Assumes nothing.
 use native.Mathlib.Omega.{arith}
-use lib.ListN.{length, getD, take, drop, set}
 use borrow.Author.Needs.{needs}
 use lib.ListN.{length-take}
-use Rattle.catalogue.specs.Layout.{frontRing}
 use Rattle.catalogue.proofs.Fronts.{front-written}
 use Rattle.catalogue.proofs.front.write_front.Statement.{statement}
 use Rattle.catalogue.proofs.front.write_front.Tie as tie
-use Rattle.catalogue.proofs.front.write_front.Reads as reads
-use Rattle.catalogue.proofs.front.write_front.Lts as lts
-use Rattle.catalogue.proofs.front.turn_over.Reads as turn-over-reads
-use Rattle.home.proofs.bring_home.Reads as bring-home-reads
 
--- src/front.rt:23:47
 enum-told : tie.Need-enum-told
 enum-told c = search needs
 
--- src/front.rt:23:17
 bring-home-requires : tie.Need-bring-home-requires
 bring-home-requires c κs = search needs
 
--- src/front.rt:26:17
 enum-told-2 : tie.Need-enum-told-2
 enum-told-2 c = search needs
 
--- src/front.rt:28:32
 array-borrow-prefix-back : tie.Need-array-borrow-prefix-back
 array-borrow-prefix-back c = search needs
 
--- src/front.rt:28:32
 slice-aggregate-turn-over : tie.Need-slice-aggregate-turn-over
 slice-aggregate-turn-over c = let h = c .before .before .before .before .before .pre .0 .0 .0 .0 .0 .0 .0 .1 in simp length-take (omega arith)
 
--- src/front.rt:28:13
 turn-over-requires : tie.Need-turn-over-requires
 turn-over-requires c κs = let h = c .before .before .before .before .before .before .pre .0 .0 .0 .0 .0 .0 .0 .1 in (c .before .before .before .before .before .before .pre .0, simp length-take (omega arith))
 
--- src/front.rt:17:1
 same-length : tie.Need-same-length
 same-length c = search needs
 
--- src/front.rt:17:1
 returns : tie.Need-returns
 returns c = let a = c .before .before .before .before .before .before .before .before .args in rw (c .before .before .before .before .enum-told .given .1) (front-written (a .body .now) (a .k) (a .out .now) (c .before .before .bring-home .result) _ (c .before .before .before .before .before .before .before .before .pre .0) (c .before .before .before .before .before .before .before .before .pre .1) (c .before .before .bring-home .ensures))
 
--- src/front.rt:17:1
 same-length-2 : tie.Need-same-length-2
 same-length-2 c = search needs
 
--- src/front.rt:17:1
 returns-2 : tie.Need-returns-2
 returns-2 c = rw (c .before .before .before .before .before .before .enum-told2 .given .1) (c .before .before .before .turn-over .ensures)
 

@@ -1,80 +1,63 @@
-use Prim.Native.Nat.{ℕ, suc, _≤_, _<_, _+_, _-_}
-use mathlib.Core.Path.{_≡_, _∙_, sym, ap, refl}
-use mathlib.Core.Logic.{⊎-elim}
+-- `catalogue::record::read_body` meets its contract, from the contracts of classifying and of writing the front ring.
+-- Assumes nothing.
+use Prim.Native.Nat.{ℕ}
+use mathlib.Core.Path.{_∙_, sym, ap, refl}
 use native.Mathlib.Omega.{arith}
-use lib.ListN.{length, getD, take, drop, set}
+use lib.ListN.{length, drop, length-take}
 use borrow.Author.Needs.{needs}
 use mathlib.Core.List.{List, _++_}
-use lib.ListN.{length-take}
 use Rattle.catalogue.proofs.Bodies.{only-sector, bad-sector, necklace-class, not-home, passed-room}
 use Rattle.catalogue.proofs.record.read_body.Statement.{statement}
 use Rattle.catalogue.proofs.record.read_body.Tie as tie
-use Rattle.catalogue.proofs.record.read_body.Reads as reads
-use Rattle.catalogue.proofs.record.read_body.Lts as lts
-use Rattle.catalogue.proofs.front.write_front.Reads as write-front-reads
-use Rattle.catalogue.proofs.record.is_necklace.Reads as is-necklace-reads
-use Rattle.classify.proofs.classify.Reads as classify-reads
-use Rattle.refusal.proofs.place.Reads as place-reads
 
--- src/record.rt:65:11
 classify-requires : tie.Need-classify-requires
 classify-requires c κs = search needs
 
--- src/record.rt:66:29
 enum-known-r : tie.Need-enum-known-r
 enum-known-r c = search needs
 
--- src/record.rt:66:66
 add-t11 : tie.Need-add-t11
 add-t11 c = search needs
 
--- src/record.rt:66:78
 place-requires : tie.Need-place-requires
 place-requires c κs = search needs
 
--- src/record.rt:66:66
 add-t13 : tie.Need-add-t13
-add-t13 c = let a = c .before .before .before .before .before .before .before .args in
+add-t13 c =
+    let a = c .before .before .before .before .before .before .before .args in
     let f = only-sector (a .body .now) (a .k) (c .before .before .before .before .before .before .before .pre .2) (c .before .before .before .before .before .before .before .pre .3) (c .before .before .r .given .0 .0) (rw (c .before .before .r .given .1) at (c .before .before .before .before .classify .ensures)) in
     omega (arith, f .within, c .place .ensures)
 
--- src/record.rt:67:24
 enum-known-c : tie.Need-enum-known-c
 enum-known-c c = search needs
 
--- src/record.rt:68:16
 is-necklace-requires : tie.Need-is-necklace-requires
 is-necklace-requires c κs = search needs
 
--- src/record.rt:70:58
 slice-relend-prefix-write-front : tie.Need-slice-relend-prefix-write-front
 slice-relend-prefix-write-front c = search needs
 
--- src/record.rt:70:58
 slice-aggregate-write-front : tie.Need-slice-aggregate-write-front
 slice-aggregate-write-front c = let h = c .before .before .before .before .before .before .before .before .before .pre .2 .1 in simp length-take (omega arith)
 
--- src/record.rt:70:17
 write-front-requires : tie.Need-write-front-requires
-write-front-requires c κs = let a = c .before .before .before .before .before .before .before .before .before .args in
+write-front-requires c κs =
+    let a = c .before .before .before .before .before .before .before .before .before .args in
     let g = rw (c .before .before .before .before .c .given .1) at (c .before .before .before .before .before .before .classify .ensures) in
     (passed-room (a .body .now) (a .k) _ (g .0) (let h = c .before .before .before .before .before .before .before .before .before .pre .2 .1 in simp length-take (omega arith)), sym (necklace-class (a .body .now) _ (g .1)) ∙ sym (c .before .before .is-necklace .ensures) ∙ c .before .if1 .taken)
 
--- src/record.rt:75:27
 add-t19 : tie.Need-add-t19
 add-t19 c = search needs
 
--- src/record.rt:75:27
 add-t20 : tie.Need-add-t20
 add-t20 c = search needs
 
--- src/record.rt:71:17
 same-length : tie.Need-same-length
 same-length c = search needs
 
--- src/record.rt:71:17
 returns : tie.Need-returns
-returns c = let a = c .before .before .before .before .before .before .before .before .before .before .before .before .args in
+returns c =
+    let a = c .before .before .before .before .before .before .before .before .before .before .before .before .args in
     let g = rw (c .before .before .before .before .before .before .before .c .given .1) at (c .before .before .before .before .before .before .before .before .before .classify .ensures) in
     record {
       below = g .0 .0 .0 .0 .1;
@@ -86,18 +69,17 @@ returns c = let a = c .before .before .before .before .before .before .before .b
       ring = ap (λ (v : List ℕ). v ++ drop (length (a .body .now)) (a .out .now)) (c .before .before .write-front .ensures);
     }
 
--- src/record.rt:78:45
 add-t21 : tie.Need-add-t21
 add-t21 c = search needs
 
--- src/record.rt:61:1
 returns-2 : tie.Need-returns-2
-returns-2 c = let a = c .before .before .before .before .before .before .before .args in
+returns-2 c =
+    let a = c .before .before .before .before .before .before .before .args in
     (bad-sector (a .body .now) (a .k) (a .start) (c .before .before .before .before .before .before .before .pre .2) (c .before .before .before .before .before .before .before .pre .3) (c .before .before .r .given .0 .0) (c .place .result) (c .place .ensures) (rw (c .before .before .r .given .1) at (c .before .before .before .before .classify .ensures)), refl)
 
--- src/record.rt:61:1
 returns-3 : tie.Need-returns-3
-returns-3 c = let a = c .before .before .before .before .before .before .before .before .args in
+returns-3 c =
+    let a = c .before .before .before .before .before .before .before .before .args in
     let g = rw (c .before .before .before .c .given .1) at (c .before .before .before .before .before .classify .ensures) in
     (not-home (a .body .now) (a .k) (a .start) (g .0) (sym (necklace-class (a .body .now) _ (g .1)) ∙ sym (c .before .is-necklace .ensures) ∙ c .if1 .left), refl)
 

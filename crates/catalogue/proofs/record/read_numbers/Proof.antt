@@ -1,111 +1,89 @@
-use Prim.Native.Nat.{ℕ, suc, _≤_, _<_, _+_, _-_}
-use mathlib.Core.Path.{_≡_, _∙_, sym, ap, refl}
-use mathlib.Core.Logic.{⊎-elim}
+-- `catalogue::record::read_numbers` meets its contract: what the check of n and k answers, a cut body, or what reading the sectors answers.
+-- Assumes nothing.
+use mathlib.Core.Path.{_∙_, sym, refl}
 use native.Mathlib.Omega.{arith}
-use lib.ListN.{length, getD, take, drop, set}
 use borrow.Author.Needs.{needs}
 use lib.ListN.{length-take, length-drop}
-use lib.Seq.{length-take-le}
 use Rattle.catalogue.specs.Order.Broken.{size, shades, body}
 use Rattle.catalogue.proofs.Heads.{bad-length, bad-shades, body-read}
 use Rattle.catalogue.proofs.record.read_numbers.Statement.{statement}
 use Rattle.catalogue.proofs.record.read_numbers.Tie as tie
-use Rattle.catalogue.proofs.record.read_numbers.Reads as reads
-use Rattle.catalogue.proofs.record.read_numbers.Lts as lts
-use Rattle.catalogue.proofs.record.read_body.Reads as read-body-reads
-use Rattle.refusal.proofs.check_numbers.Reads as check-numbers-reads
-use Rattle.refusal.proofs.number.Reads as number-reads
 
--- src/record.rt:41:13
 shared-slice-read-n : tie.Need-shared-slice-read-n
 shared-slice-read-n c = search needs
 
--- src/record.rt:41:13
 cast-n : tie.Need-cast-n
 cast-n c = omega (arith, c .shared-slice-known2 .given 2)
 
--- src/record.rt:42:13
 shared-slice-read-k : tie.Need-shared-slice-read-k
 shared-slice-read-k c = search needs
 
--- src/record.rt:42:13
 cast-k : tie.Need-cast-k
 cast-k c = omega (arith, c .shared-slice-known3 .given 3)
 
--- src/record.rt:43:11
 check-numbers-requires : tie.Need-check-numbers-requires
 check-numbers-requires c κs = search needs
 
--- src/record.rt:44:26
 enum-known-r : tie.Need-enum-known-r
 enum-known-r c = search needs
 
--- src/record.rt:45:16
 number-requires : tie.Need-number-requires
 number-requires c κs = search needs
 
--- src/record.rt:46:55
 add-t16 : tie.Need-add-t16
 add-t16 c = search needs
 
--- src/record.rt:46:17
 returns : tie.Need-returns
-returns c = let p = c .before .before .before .before .before .before .before .before .before .before .pre in
+returns c =
+    let p = c .before .before .before .before .before .before .before .before .before .before .pre in
     let g = rw (c .before .before .before .r .given .1) at (c .before .before .before .before .before .check-numbers .ensures) in
     (size refl (p .2, (c .before .before .before .before .before .before .before .before .before .before .args .kind, p .3)) (bad-length _ _ (c .before .before .before .r .given .0 .0) g (sym (c .before .number .ensures) ∙ c .if1 .taken)), refl)
 
--- src/record.rt:48:44
 add-t14 : tie.Need-add-t14
 add-t14 c = search needs
 
--- src/record.rt:51:21
 enum-told : tie.Need-enum-told
 enum-told c = search needs
 
--- src/record.rt:51:21
 add-e : tie.Need-add-e
 add-e c = omega (arith, c .before .before .before .before .shared-slice-known2 .given 2)
 
--- src/record.rt:53:17
 returns-2 : tie.Need-returns-2
-returns-2 c = let p = c .before .before .before .before .before .before .before .before .pre in
+returns-2 c =
+    let p = c .before .before .before .before .before .before .before .before .pre in
     let g = rw (c .before .enum-told .given .1) at (c .before .before .before .check-numbers .ensures) in
     (body refl (((p .2, (c .before .before .before .before .before .before .before .before .args .kind, p .3)), g .0 .0 .0 .0 .0 .0), g .0 .0 .0 .0 .1) (c .if2 .taken), refl)
 
--- src/record.rt:55:23
 sub-read-body : tie.Need-sub-read-body
 sub-read-body c = search needs
 
--- src/record.rt:55:23
 part-read-body-start : tie.Need-part-read-body-start
 part-read-body-start c = search needs
 
--- src/record.rt:55:23
 part-read-body-end : tie.Need-part-read-body-end
 part-read-body-end c = search needs
 
--- src/record.rt:55:13
 read-body-requires : tie.Need-read-body-requires
-read-body-requires c κs = let g = rw (c .before .before .before .enum-told .given .1) at (c .before .before .before .before .before .check-numbers .ensures) in
+read-body-requires c κs =
+    let g = rw (c .before .before .before .enum-told .given .1) at (c .before .before .before .before .before .check-numbers .ensures) in
     let n = g .0 .0 .0 .0 .0 .0 in
     let k = g .0 .0 .0 .0 .1 in
     let p = c .before .before .before .before .before .before .before .before .before .before .pre in
     simp (length-take, length-drop) (omega (arith, c .before .before .if2 .left))
 
--- src/record.rt:37:1
 returns-3 : tie.Need-returns-3
-returns-3 c = let p = c .before .before .before .before .before .before .before .before .before .before .pre in
+returns-3 c =
+    let p = c .before .before .before .before .before .before .before .before .before .before .pre in
     let g = rw (c .before .before .before .r .given .1) at (c .before .before .before .before .before .check-numbers .ensures) in
     let f = bad-shades _ _ (c .before .before .before .r .given .0 .0) g (λ e. c .if1 .left (c .before .number .ensures ∙ e)) in
     (shades refl ((p .2, (c .before .before .before .before .before .before .before .before .before .before .args .kind, p .3)), f .0) (f .1), refl)
 
--- src/record.rt:37:1
 same-length : tie.Need-same-length
 same-length c = search needs
 
--- src/record.rt:37:1
 returns-4 : tie.Need-returns-4
-returns-4 c = let a = c .before .before .before .before .before .before .before .before .before .before .before .before .before .args in
+returns-4 c =
+    let a = c .before .before .before .before .before .before .before .before .before .before .before .before .before .args in
     let p = c .before .before .before .before .before .before .before .before .before .before .before .before .before .pre in
     let g = rw (c .before .before .before .before .before .before .enum-told .given .1) at (c .before .before .before .before .before .before .before .before .check-numbers .ensures) in
     body-read (a .rest .now) (a .start) _ (a .kind) (a .out .now) (c .before .before .read-body .result) _ refl ((((p .2, (a .kind, p .3)), g .0 .0 .0 .0 .0 .0), g .0 .0 .0 .0 .1), c .before .before .before .before .before .if2 .left) (p .3) (c .before .before .read-body .ensures)
