@@ -6,7 +6,6 @@ ghost use mathlib.Core.Bool.{true};
 ghost use mathlib.Core.List.{reverse};
 ghost use lib.ListN.{length};
 ghost use Rattle.rings.specs.Necklace.{necklace};
-ghost use Rattle.rings.specs.Home.{home};
 ghost use Rattle.rings.specs.Alike.{mirrored};
 ghost use Rattle.refusal.specs.Order.{Passed};
 ghost use Rattle.refusal.specs.Calls.{withRoom};

@@ -9,8 +9,8 @@ use rings::Class;
 ghost use mathlib.Core.Path.{_≡_};
 ghost use Prim.Native.Nat.{_+_, _≤_};
 ghost use lib.ListN.{length};
-ghost use Rattle.catalogue.specs.Layout.{Marked, isNecklace};
 ghost use Rattle.words.specs.Readings.{Sized, Shaded};
+ghost use Rattle.catalogue.specs.Layout.{Marked, isNecklace};
 ghost use Rattle.catalogue.specs.Steps.{Held, RecordSays, BodySays};
 
 // The head and the mark: 7, 8.
@@ -33,7 +33,7 @@ pub fn read_head(rest: &[u8], start: usize, out: &mut [u8]) -> Entry
     Entry::Refused(Refusal::Mark(start))
 }
 
-// n and k, and whether the sectors are all there: 1, 2, 7.
+// n and k, and whether the sectors are all there: 1, 2, 7. The check of n and k is that of every call; in a record its refusals have places of their own.
 fn read_numbers(rest: &[u8], start: usize, kind: Kind, out: &mut [u8]) -> Entry
     requires { ⌜ Held (start + length (now rest)) × (length (now out) ≡ 64) × (4 ≤ length (now rest)) × Marked (now rest) kind ⌝ }
     ensures { λ r. ⌜ RecordSays (now (rest .entry)) start (now (out .entry)) r (now (out .exit)) ⌝ }
@@ -57,7 +57,7 @@ fn read_numbers(rest: &[u8], start: usize, kind: Kind, out: &mut [u8]) -> Entry
     }
 }
 
-// The sectors: 3, 9; and then the front ring.
+// The sectors: 3, 9; and then the front ring. With good n and k, classifying can only refuse a sector.
 fn read_body(body: &[u8], start: usize, k: usize, kind: Kind, out: &mut [u8]) -> Entry
     requires { ⌜ Held (start + (4 + length (now body))) × (length (now out) ≡ 64) × Sized (length (now body)) × Shaded k ⌝ }
     ensures { λ r. ⌜ BodySays (now (body .entry)) start k kind (now (out .entry)) r (now (out .exit)) ⌝ }
@@ -80,6 +80,7 @@ fn read_body(body: &[u8], start: usize, k: usize, kind: Kind, out: &mut [u8]) ->
     }
 }
 
+// Whether a reading of this class is a necklace.
 fn is_necklace(c: Class) -> bool
     ensures { λ r. ⌜ r ≡ isNecklace c ⌝ }
 {
