@@ -1,3 +1,3 @@
--- The scan over plain lists (Scan), and that classifying has one answer (Unique).
-pub mod Scan
+-- The scan over plain lists (Scanning), and that classifying has one answer (Unique).
+pub mod Scanning
 pub mod Unique

@@ -1,4 +1,5 @@
 -- Full walks (01, 'Walks'; demand 3).
+--     fewer-above      fewer readings lie above a greater reading
 --     walk-exists      from every reading a full walk leads to its end
 --     walk-moves       its moves add up to the prenecklaces above its start
 --     walk-each, walk-kind, walk-increasing    it comes to each reading of the kind above its start exactly once, to nothing else, and in increasing order
@@ -27,6 +28,21 @@ use Rattle.necklaces.proofs.Words.{of-pre, of-neck}
 use Rattle.necklaces.proofs.Moves.{moves-join, before-not-same, after-not-same}
 use Rattle.necklaces.proofs.Sums.{prenecklaces-necklaces}
 
+-- fewer readings lie above a greater reading
+pub fewer-above : (n k : ℕ) (w v : List ℕ) → Reading n k v → before w v ≡ true → count (before v) (readings n k) < count (before w) (readings n k)
+fewer-above n k w v r gap =
+    omega (
+      arith,
+      total-le (λ u. bit (before v u) + bit (same v u)) (λ u. bit (before w u)) (readings n k) (λ u q. under u (lex v u)) (readings-all n k),
+      total-add (λ u. bit (before v u)) (λ u. bit (same v u)) (readings n k),
+      count-one n k v r,
+    )
+  where
+    under : (u : List ℕ) → Lex v u → bit (before v u) + bit (same v u) ≤ bit (before w u)
+    under u (ahead l) = rw (l, before-trans w v u gap l, before-not-same v u l) (omega arith)
+    under u (equal q) = rw (← q, before-irrefl v, same-refl v, gap) (omega arith)
+    under u (behind l) = rw (before-asym u v l, after-not-same v u l) (omega arith)
+
 module _ (kind : List ℕ → Bool) (k : ℕ) where
   -- what the next of a kind is
   pub next-facts : (w v : List ℕ) → nextOf kind k w ≡ some v → Reading (length w) k v × (before w v ≡ true) × (kind v ≡ true) × ((u : List ℕ) → Reading (length w) k u → before w u ≡ true → kind u ≡ true → upTo v u ≡ true)
@@ -39,18 +55,7 @@ module _ (kind : List ℕ → Bool) (k : ℕ) where
   falls : (w v : List ℕ) → nextOf kind k w ≡ some v → count (before v) (readings (length v) k) < count (before w) (readings (length w) k)
   falls w v e =
       let f = next-facts w v e in
-      rw (f .0 .long)
-      (omega (
-        arith,
-        total-le (λ u. bit (before v u) + bit (same v u)) (λ u. bit (before w u)) (readings (length w) k) (λ u r. under u (f .1) (lex v u)) (readings-all (length w) k),
-        total-add (λ u. bit (before v u)) (λ u. bit (same v u)) (readings (length w) k),
-        count-one (length w) k v (f .0),
-      ))
-    where
-      under : (u : List ℕ) → before w v ≡ true → Lex v u → bit (before v u) + bit (same v u) ≤ bit (before w u)
-      under u gap (ahead l) = rw (l, before-trans w v u gap l, before-not-same v u l) (omega arith)
-      under u gap (equal q) = rw (← q, before-irrefl v, same-refl v, gap) (omega arith)
-      under u gap (behind l) = rw (before-asym u v l, after-not-same v u l) (omega arith)
+      rw (f .0 .long) (fewer-above (length w) k w v (f .0) (f .1))
 
   -- from every reading a full walk leads to its end
   pub walk-exists : (w : List ℕ) → (rings : List (List ℕ)) × (m : ℕ) × FullWalk kind k w rings m

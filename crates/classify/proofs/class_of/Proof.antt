@@ -1,85 +1,38 @@
--- `classify::class_of` meets its contract. The loop's invariant: the first i sectors are a run of i - j. Assumes nothing.
-use Prim.Native.Nat.{_≤_, _-_}
+-- `classify::class_of` meets its contract: the class by what the scan found. Assumes nothing.
+use Prim.Native.Nat.{ℕ, suc, _≤_, _<_, _+_, _-_}
+use mathlib.Core.Path.{_≡_, _∙_, sym, ap, refl}
 use mathlib.Core.Logic.{⊎-elim}
 use native.Mathlib.Omega.{arith}
+use lib.ListN.{length, getD, take, drop, set}
 use borrow.Author.Needs.{needs}
-use Rattle.classify.proofs.Scan.{Runs, scan-empty, scan-start, scan-same, scan-greater, scan-smaller, scan-end, scan-single, scan-repeating, scan-opening}
+use Rattle.classify.proofs.Scanning.{class-empty, class-broken, class-lyndon, class-repeats, class-opens}
 use Rattle.classify.proofs.class_of.Statement.{statement}
 use Rattle.classify.proofs.class_of.Tie as tie
+use Rattle.classify.proofs.class_of.Reads as reads
+use Rattle.classify.proofs.class_of.Lts as lts
+use Rattle.classify.proofs.scan.Reads as scan-reads
 
-abbrev Inv-loop : tie.InvT-loop
-Inv-loop s n j₀ i₀ j i = (i ≤ n) × Runs s i j
+returns : tie.Need-returns
+returns c = class-empty _ (c .if1 .taken)
 
-abbrev μ-loop : tie.MeasureT-loop
-μ-loop s n j₀ i₀ j i = n - i
+scan-requires : tie.Need-scan-requires
+scan-requires c κs = search needs
 
-returns : tie.Need-returns Inv-loop μ-loop
-returns c = scan-empty _ (c .if1 .taken)
+returns-2 : tie.Need-returns-2
+returns-2 c = let b = c .before .before .scan in class-broken (c .before .before .before .before .before .args .s .now) (b .result) (b .ensures) (c .if2 .taken)
 
-loop-holds : tie.Need-loop-holds Inv-loop μ-loop
-loop-holds c = (omega arith, scan-start (c .before .args .s .now))
+returns-3 : tie.Need-returns-3
+returns-3 c = let b = c .before .before .before .scan in class-lyndon (c .before .before .before .before .before .before .args .s .now) (b .result) (b .ensures) (c .before .if2 .left) (c .if3 .taken)
 
-shared-slice-read-here : tie.Need-shared-slice-read-here Inv-loop μ-loop
-shared-slice-read-here c = search needs
+rem-if4 : tie.Need-rem-if4
+rem-if4 c = c .before .before .before .scan .ensures .run .pos
 
-shared-slice-read-opposite : tie.Need-shared-slice-read-opposite Inv-loop μ-loop
-shared-slice-read-opposite c = omega (arith, c .before .before .before .loop .inv .1 .short)
+returns-4 : tie.Need-returns-4
+returns-4 c = let b = c .before .before .before .before .scan in class-repeats (c .before .before .before .before .before .before .before .args .s .now) (b .result) (b .ensures) (c .before .before .if2 .left) (c .before .if3 .left) (c .if4 .taken)
 
-returns-2 : tie.Need-returns-2 Inv-loop μ-loop
-returns-2 c = let l = c .before .before .before .before .loop in scan-smaller (c .before .before .before .before .before .before .args .s .now) (l .i) (l .j) (l .inv .1) (c .before .before .before .loop-test .taken) (c .if2 .taken)
-
-add-j : tie.Need-add-j Inv-loop μ-loop
-add-j c = omega (arith, c .before .before .before .before .before .loop .inv .1 .short)
-
-add-i : tie.Need-add-i Inv-loop μ-loop
-add-i c = search needs
-
-loop-less : tie.Need-loop-less Inv-loop μ-loop
-loop-less c = search needs
-
-loop-again : tie.Need-loop-again Inv-loop μ-loop
-loop-again c =
-    let l = c .before .before .before .before .before .loop in
-    let w = c .before .before .before .before .before .before .before .args .s .now in (
-      omega arith,
-      ⊎-elim
-          (λ m. rw (m .1) (scan-same w (l .i) (l .j) (l .inv .1) (m .0 .taken)))
-          (λ m. rw (m .1) (scan-greater w (l .i) (l .j) (l .inv .1) (omega (arith, c .before .if2 .left, m .0 .left))))
-          (c .if3 .came),
-    )
-
-sub-p : tie.Need-sub-p Inv-loop μ-loop
-sub-p c = omega (arith, c .before .loop .inv .1 .short)
-
-returns-3 : tie.Need-returns-3 Inv-loop μ-loop
-returns-3 c = let l = c .before .before .loop in scan-single (c .before .before .before .before .args .s .now) (l .i) (l .j) (l .inv .1) (l .inv .0) (c .before .loop-test .left) (c .if4 .taken)
-
-rem-if5 : tie.Need-rem-if5 Inv-loop μ-loop
-rem-if5 c = let l = c .before .before .loop in (scan-end (c .before .before .before .before .args .s .now) (l .i) (l .j) (l .inv .1) (l .inv .0) (c .before .loop-test .left)) .pos
-
-returns-4 : tie.Need-returns-4 Inv-loop μ-loop
-returns-4 c = let l = c .before .before .before .loop in scan-repeating (c .before .before .before .before .before .args .s .now) (l .i) (l .j) (l .inv .1) (l .inv .0) (c .before .before .loop-test .left) (c .before .if4 .left) (c .if5 .taken)
-
-returns-5 : tie.Need-returns-5 Inv-loop μ-loop
-returns-5 c = let l = c .before .before .before .loop in scan-opening (c .before .before .before .before .before .args .s .now) (l .i) (l .j) (l .inv .1) (l .inv .0) (c .before .before .loop-test .left) (c .if5 .left)
+returns-5 : tie.Need-returns-5
+returns-5 c = let b = c .before .before .before .before .scan in class-opens (c .before .before .before .before .before .before .before .args .s .now) (b .result) (b .ensures) (c .before .before .if2 .left) (c .if4 .left)
 
 pub class-of-spec : {M : Type 1} → statement M
 class-of-spec =
-    tie.close
-    (tie.spec
-    Inv-loop
-    μ-loop
-    returns
-    loop-holds
-    shared-slice-read-here
-    shared-slice-read-opposite
-    returns-2
-    add-j
-    add-i
-    loop-less
-    loop-again
-    sub-p
-    returns-3
-    rem-if5
-    returns-4
-    returns-5)
+    tie.close (tie.spec returns scan-requires returns-2 returns-3 rem-if4 returns-4 returns-5)

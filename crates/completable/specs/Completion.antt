@@ -1,0 +1,29 @@
+-- What it is to complete a beginning to a necklace by letters of given counts.
+--     Fillable w cs        the letters that cs counts have room in w
+--     Completing al rem    al is a Lyndon word, and the letters that rem counts have room
+--     Hopeless al rem      no word with exactly these letters completes al to a necklace
+-- Assumes nothing.
+use Prim.Native.Nat.{ℕ, _≤_}
+use mathlib.Core.Path.{_≡_}
+use mathlib.Core.Bool.{true}
+use mathlib.Core.List.{List, _++_}
+use lib.ListN.{length, getD}
+use Rattle.rings.specs.Necklace.{necklace, lyndon}
+use Rattle.rings.specs.Counts.{occurs}
+use Rattle.pool.proofs.Cut.{sum}
+
+-- the letters that cs counts have room in w
+pub record Fillable (w cs : List ℕ) : Type 0 where
+  pub room : sum cs ≤ length w
+  pub size : length w ≤ 64
+  pub shades : length cs ≤ 16
+
+-- al is a Lyndon word, and the letters that rem counts have room
+pub record Completing (al rem : List ℕ) : Type 0 where
+  pub lyndon-al : lyndon al ≡ true
+  pub shades : length rem ≤ 16
+  pub room : sum rem ≤ 64
+
+-- no word with exactly these letters completes al to a necklace
+abbrev pub Hopeless : List ℕ → List ℕ → Type 0
+Hopeless al rem = (v : List ℕ) → ((b : ℕ) → occurs b v ≡ getD rem b 0) → necklace (al ++ v) ≡ true → ⊥

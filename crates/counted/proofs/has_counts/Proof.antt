@@ -1,0 +1,68 @@
+use Prim.Native.Nat.{ℕ, _≤_, _<_, _-_}
+use mathlib.Core.Path.{_≡_, _∙_, sym}
+use native.Mathlib.Omega.{arith}
+use lib.ListN.{length, getD}
+use borrow.Author.Needs.{needs}
+use borrow.Author.Count.{below-more}
+use Rattle.rings.specs.Counts.{occurs}
+use Rattle.counted.proofs.Tallying.{counts-end, counts-not}
+use Rattle.counted.proofs.has_counts.Statement.{statement}
+use Rattle.counted.proofs.has_counts.Tie as tie
+
+abbrev Inv-loop : tie.InvT-loop
+Inv-loop s counts b₀ b = (b ≤ length counts) × ((x : ℕ) → x < b → occurs x s ≡ getD counts x 0)
+
+abbrev μ-loop : tie.MeasureT-loop
+μ-loop s counts b₀ b = length counts - b
+
+-- src/lib.rt:36:5
+loop-holds : tie.Need-loop-holds Inv-loop μ-loop
+loop-holds c = (omega arith, λ x h. absurd (omega arith))
+
+-- src/lib.rt:37:12
+tally-requires : tie.Need-tally-requires Inv-loop μ-loop
+tally-requires c κs = search needs
+
+-- src/lib.rt:37:27
+mul-if1 : tie.Need-mul-if1 Inv-loop μ-loop
+mul-if1 c = search needs
+
+-- src/lib.rt:37:27
+shared-slice-read-if1 : tie.Need-shared-slice-read-if1 Inv-loop μ-loop
+shared-slice-read-if1 c = search needs
+
+-- src/lib.rt:38:13
+returns : tie.Need-returns Inv-loop μ-loop
+returns c = let a = c .before .before .before .before .before .before .before .args in counts-not (a .counts .now) (a .s .now) (c .before .before .before .before .loop .b) (c .before .before .before .loop-test .taken) (λ e. c .if1 .taken (c .before .before .tally .ensures ∙ e))
+
+-- src/lib.rt:40:9
+add-b : tie.Need-add-b Inv-loop μ-loop
+add-b c = search needs
+
+-- src/lib.rt:36:5
+loop-less : tie.Need-loop-less Inv-loop μ-loop
+loop-less c = search needs
+
+-- src/lib.rt:36:5
+loop-again : tie.Need-loop-again Inv-loop μ-loop
+loop-again c = (omega arith, below-more _ _ (c .before .before .before .before .loop .inv .1) (sym (c .before .before .tally .ensures) ∙ c .if1 .left))
+
+-- src/lib.rt:32:1
+returns-2 : tie.Need-returns-2 Inv-loop μ-loop
+returns-2 c = let a = c .before .before .before .before .args in counts-end (a .counts .now) (a .s .now) (c .before .loop .b) (c .loop-test .left) (c .before .loop .inv .1)
+
+pub has-counts-spec : {M : Type 1} → statement M
+has-counts-spec =
+    tie.close
+    (tie.spec
+    Inv-loop
+    μ-loop
+    loop-holds
+    tally-requires
+    mul-if1
+    shared-slice-read-if1
+    returns
+    add-b
+    loop-less
+    loop-again
+    returns-2)

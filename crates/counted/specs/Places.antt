@@ -1,0 +1,94 @@
+-- Which places of a prenecklace can be raised so that a ring of given counts begins so.
+--     Ring cs n k v            v is a ring of n and k with the counts cs
+--     Blocked cs n k w l b     no such ring agrees with w below place l and has the shade b there
+--     Beside cs u r            what the counts leave beside u, where u fits into them
+--     Barred u b rem           no word of exactly the letters that rem counts, of which b is the first, completes u to a necklace
+--     Possible, Liftable, Lifted, Raisable, Raises, Placed    what `possible`, `lift`, `open_shade` and `find` ask and promise
+-- Assumes nothing.
+use Prim.Native.Nat.{ℕ, suc, _+_, _-_, _<_, _≤_}
+use mathlib.Core.Path.{_≡_}
+use mathlib.Core.Bool.{true, false}
+use mathlib.Core.List.{List, [], _∷_, _++_}
+use lib.ListN.{length, take, getD}
+use Rattle.words.specs.Readings.{Reading}
+use Rattle.words.proofs.Sequence.{sec}
+use Rattle.rings.specs.Necklace.{necklace, lyndon}
+use Rattle.rings.specs.Prenecklace.{prenecklace}
+use Rattle.rings.specs.Counts.{occurs, countedNecklace}
+use Rattle.pool.proofs.Cut.{sum}
+use Rattle.counted.specs.declared.Left.{Left}
+use Rattle.counted.specs.declared.Place.{Place}
+
+-- v is a ring of n and k with the counts cs
+pub record Ring (cs : List ℕ) (n k : ℕ) (v : List ℕ) : Type 0 where
+  pub reading : Reading n k v
+  pub counted : countedNecklace cs v ≡ true
+
+-- no such ring agrees with w below place l and has the shade b there
+abbrev pub Blocked : List ℕ → ℕ → ℕ → List ℕ → ℕ → ℕ → Type 0
+Blocked cs n k w l b = (v : List ℕ) → Ring cs n k v → ((m : ℕ) → m < l → sec v m ≡ sec w m) → sec v l ≡ b → ⊥
+
+-- rem is what the counts leave beside u
+pub record Remains (cs u rem : List ℕ) : Type 0 where
+  pub size : length rem ≡ 16
+  pub left : (b : ℕ) → b < length cs → getD rem b 0 + occurs b u ≡ getD cs b 0
+  pub past : (b : ℕ) → length cs ≤ b → getD rem b 0 ≡ 0
+
+-- some shade stands in u more often than the counts allow
+pub record Exceeds (cs u : List ℕ) : Type 0 where
+  pub shade : ℕ
+  pub known : shade < length cs
+  pub often : getD cs shade 0 < occurs shade u
+
+-- what the counts leave beside u, where u fits into them
+pub record Beside (cs u : List ℕ) (r : Left) : Type 0 where
+  pub remains : r .fits ≡ true → Remains cs u (r .rem)
+  pub exceeds : r .fits ≡ false → Exceeds cs u
+
+-- no word of exactly the letters that rem counts, of which b is the first, completes u to a necklace
+abbrev pub Barred : List ℕ → ℕ → List ℕ → Type 0
+Barred u b rem = (v : List ℕ) → ((x : ℕ) → occurs x (b ∷ v) ≡ getD rem x 0) → necklace (u ++ b ∷ v) ≡ true → ⊥
+
+-- the first l sectors of w with the shade b behind them are a Lyndon word
+pub record Possible (w : List ℕ) (l b : ℕ) (rem : List ℕ) : Type 0 where
+  pub inside : l < 64
+  pub shade : b < 16
+  pub room : sum rem ≤ 64
+  pub lyndon-al : lyndon (take l w ++ b ∷ []) ≡ true
+
+-- place l of w ends a prenecklace
+pub record Liftable (w : List ℕ) (l k : ℕ) (rem : List ℕ) : Type 0 where
+  pub inside : l < 64
+  pub shades : k ≤ 16
+  pub room : sum rem ≤ 64
+  pub pre : prenecklace (take (suc l) w) ≡ true
+  pub low : sec w l < k
+
+-- r is above the shade at place l of w, and each shade between is barred
+pub record Lifted (w : List ℕ) (l k : ℕ) (rem : List ℕ) (r : ℕ) : Type 0 where
+  pub above : sec w l < r
+  pub most : r ≤ k
+  pub barred : (b : ℕ) → sec w l < b → b < r → Barred (take l w) b rem
+
+-- place l of w ends a prenecklace, and there are k counts
+pub record Raisable (w : List ℕ) (l k : ℕ) (cs : List ℕ) : Type 0 where
+  pub inside : l < 64
+  pub shades : k ≤ 16
+  pub many : length cs ≡ k
+  pub room : sum cs ≤ 64
+  pub pre : prenecklace (take (suc l) w) ≡ true
+  pub low : sec w l < k
+
+-- r is above the shade at place l of w, and each shade between is blocked
+pub record Raises (w : List ℕ) (l k : ℕ) (cs : List ℕ) (r : ℕ) : Type 0 where
+  pub above : sec w l < r
+  pub most : r ≤ k
+  pub blocked : (n b : ℕ) → l < n → sec w l < b → b < r → Blocked cs n k w l b
+
+-- each place from `end` on is blocked to each greater shade, and that before it up to the shade of the answer
+pub record Placed (w : List ℕ) (n k : ℕ) (cs : List ℕ) (r : Place) : Type 0 where
+  pub within : r .end ≤ n
+  pub blocked : (l b : ℕ) → r .end ≤ l → l < n → sec w l < b → b < k → Blocked cs n k w l b
+  pub above : 0 < r .end → sec w (r .end - 1) < r .shade
+  pub known : 0 < r .end → r .shade < k
+  pub between : (b : ℕ) → 0 < r .end → sec w (r .end - 1) < b → b < r .shade → Blocked cs n k w (r .end - 1) b

@@ -1,0 +1,20 @@
+-- When a Lyndon word al can be completed by given letters to a necklace: a test by a pool of words, and why it is right. No arrangement of letters is
+-- ever tried. Read from top to bottom:
+--     Under       one word lies under another: the first difference stands inside both
+--     Copies      lists of words, and rearrangements told by counting copies
+--     Clear       lists of which no ending lies under the necklace; the letters of a completion are one
+--     Exchange    in such a list some copy of the least word can be joined with some copy of the greatest
+--     Shape       the order in which the pool stands, and that joining keeps it
+--     Pool        the pool's steps, and the theorem: where it is stuck there is no completion
+--     Cut         a pool laid out in two arrays
+--     Held        the pool's steps as a loop over these arrays sees them
+--     Letters     the letters of given counts in increasing order
+pub mod Under
+pub mod Copies
+pub mod Clear
+pub mod Exchange
+pub mod Shape
+pub mod Pool
+pub mod Cut
+pub mod Held
+pub mod Letters

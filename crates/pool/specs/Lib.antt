@@ -1,0 +1,1 @@
+-- No definitions of its own: the laws of this crate speak of `necklace` and `occurs` of `rings`. What they need besides stands in proofs/.

@@ -1,0 +1,88 @@
+-- What the checks leave to the functions behind them, and the copying of sectors.
+--     sum-of                      the sum of the counts is the sum of the lengths that the pool adds up
+--     first-asks, first-found     what filling the output asks, and what it leaves there
+--     next-asks, next-found, next-done    what the search for the next ring asks, and what it answers
+--     Copied, copy-more, copy-end         the copying
+-- Assumes nothing.
+use Prim.Native.Nat.{ℕ, _+_, _<_, _≤_}
+use mathlib.Core.Path.{_≡_, refl, sym, ap, _∙_}
+use mathlib.Core.Bool.{true, false}
+use mathlib.Core.Option.{none, some}
+use mathlib.Core.List.{List, [], _∷_, _++_}
+use native.Mathlib.Omega.{arith}
+use native.Mathlib.Numerals.{add-one}
+use lib.ListN.{length, getD, take, set, length-set}
+use lib.Seq.{take-all, take-suc, take-suc-set, take-append-seam}
+use Rattle.rings.specs.Counts.{countedNecklace}
+use Rattle.rings.specs.Steps.{firstOf, nextOf}
+use Rattle.refusal.specs.Order.{sumOf, Passed}
+use Rattle.refusal.specs.Calls.{countedFirst, countedNext}
+use Rattle.pool.proofs.Cut.{sum}
+use Rattle.pool.proofs.Letters.{letters}
+use Rattle.completable.specs.Completion.{Fillable}
+use Rattle.counted.specs.declared.Sought.{Sought}
+use Rattle.counted.specs.Above.{Ready, Answers}
+use Rattle.shades.proofs.Least.{first-letters}
+
+-- the two sums are one
+pub sum-of : (cs : List ℕ) → sum cs ≡ sumOf cs
+unfolding sum sumOf
+sum-of [] = refl
+sum-of (c ∷ cs) = omega (arith, sum-of cs)
+
+module _ (n k : ℕ) (cs : List ℕ) (passed : Passed (countedFirst n k cs)) where
+  -- what filling the output asks
+  pub first-asks : (o : List ℕ) → length o ≡ n → Fillable o cs
+  first-asks o e = record {
+    room = omega (arith, sum-of cs, passed .0 .1 .1);
+    size = omega (arith, passed .0 .0 .0 .0 .0 .0 .1);
+    shades = omega (arith, passed .0 .1 .0, passed .0 .0 .0 .0 .1 .1);
+  }
+
+  -- what it leaves there is the first ring
+  pub first-found : (l : ℕ) (o : List ℕ) → length o ≡ n → l ≡ sum cs → take l o ≡ letters cs → firstOf (countedNecklace cs) n k ≡ some o
+  first-found l o e q h = first-letters n k cs (passed .0 .1 .0) (sum-of cs ∙ passed .0 .1 .1) ∙ ap some (sym h ∙ take-all l o (omega (arith, q, sum-of cs, passed .0 .1 .1)))
+
+module _ (w : List ℕ) (k m : ℕ) (cs t rest : List ℕ) (passed : Passed (countedNext w k m cs)) (e : t ≡ w) where
+  -- the reading stands in the first sectors of an array
+  front : take (length w) (t ++ rest) ≡ w
+  front = rw e (take-append-seam w rest)
+
+  -- what the search for the next ring asks
+  pub next-asks : Ready (t ++ rest) (length w) k cs
+  next-asks = record {
+    pos = passed .0 .0 .0 .0 .0 .0 .0;
+    size = passed .0 .0 .0 .0 .0 .0 .1;
+    shades = passed .0 .0 .0 .0 .1 .1;
+    many = passed .0 .1 .0;
+    room = omega (arith, sum-of cs, passed .0 .1 .1, passed .0 .0 .0 .0 .0 .0 .1);
+    reading = rw front (record { long = refl; shades = passed .0 .0 .0 .1 });
+  }
+
+  -- what it answers is the next ring
+  pub next-found : (r : Sought) → Answers (t ++ rest) (length w) k cs r → r .some ≡ true → (o : List ℕ) → o ≡ take (length w) (r .ring) → nextOf (countedNecklace cs) k w ≡ some o
+  next-found r a h o q = (rw front at (a .ring h)) ∙ ap some (sym q)
+
+  -- or that there is none
+  pub next-done : (r : Sought) → Answers (t ++ rest) (length w) k cs r → r .some ≡ false → nextOf (countedNecklace cs) k w ≡ none
+  next-done r a h = rw front at (a .done h)
+
+-- ---- the copying
+
+-- the first i sectors are copied
+pub record Copied (s out : List ℕ) (i : ℕ) : Type 0 where
+  pub long : length out ≡ length s
+  pub within : i ≤ length s
+  pub done : take i out ≡ take i s
+
+-- one sector more
+pub copy-more : (s out : List ℕ) (i : ℕ) → Copied s out i → i < length s → Copied s (set out i (getD s i 0)) (i + 1)
+copy-more s out i c h = record {
+  long = length-set out i (getD s i 0) ∙ c .long;
+  within = omega arith;
+  done = rw (add-one i) (take-suc-set out i (getD s i 0) (omega (arith, c .long)) ∙ ap (λ u. u ++ getD s i 0 ∷ []) (c .done) ∙ sym (take-suc s i 0 h));
+}
+
+-- all are copied
+pub copy-end : (s out : List ℕ) (i : ℕ) → Copied s out i → length s ≤ i → out ≡ s
+copy-end s out i c h = sym (take-all i out (omega (arith, c .long))) ∙ c .done ∙ take-all i s h

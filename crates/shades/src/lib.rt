@@ -1,0 +1,66 @@
+// Rings of fixed shade counts (01, 'Walks'): the first, and the next from any reading. A call that is refused, or done, writes nothing.
+
+use refusal::Checked;
+use refusal::Refusal;
+ghost use mathlib.Core.Path.{_≡_};
+ghost use lib.ListN.{length};
+ghost use Rattle.shades.specs.Answers.{FirstSays, NextSays};
+
+// What `first_ring` answers: the ring is in the output, or the call is refused.
+pub enum FirstAnswer {
+    Ring,
+    Refused(Refusal),
+}
+
+// What `next_ring` answers: the ring is in the output, or there is none, or the call is refused.
+pub enum NextAnswer {
+    Ring,
+    Done,
+    Refused(Refusal),
+}
+
+// The sectors of s, written over all of out.
+fn copy(out: &mut [u8], s: &[u8])
+    requires { ⌜ length (now out) ≡ length (now s) ⌝ }
+    ensures { λ r. ⌜ now (out .exit) ≡ now (s .entry) ⌝ }
+{
+    let mut i = 0;
+    while i < s.len() {
+        out[i] = s[i];
+        i += 1;
+    }
+}
+
+// The least necklace of k shades with exactly these counts; its n is the length of the output.
+pub fn first_ring(k: usize, counts: &[usize], out: &mut [u8]) -> FirstAnswer
+    ensures { λ r. ⌜ FirstSays k (now (counts .entry)) (now (out .entry)) r (now (out .exit)) ⌝ }
+{
+    match refusal::check_first(out.len(), k, counts) {
+        Checked::Refused(r) => FirstAnswer::Refused(r),
+        Checked::Good => {
+            completable::fill(out, counts);
+            FirstAnswer::Ring
+        }
+    }
+}
+
+// The least necklace of k shades with exactly these counts that is greater than the reading s.
+pub fn next_ring(s: &[u8], k: usize, counts: &[usize], out: &mut [u8]) -> NextAnswer
+    ensures { λ r. ⌜ NextSays (now (s .entry)) k (now (counts .entry)) (now (out .entry)) r (now (out .exit)) ⌝ }
+{
+    match refusal::check_next(s, k, out.len(), counts) {
+        Checked::Refused(r) => NextAnswer::Refused(r),
+        Checked::Good => {
+            let n = s.len();
+            let mut start = [0u8; 64];
+            copy(&mut start[..n], s);
+            let found = counted::above(start, n, k, counts);
+            if !found.some {
+                return NextAnswer::Done;
+            }
+            let ring = found.ring;
+            copy(out, &ring[..n]);
+            NextAnswer::Ring
+        }
+    }
+}
