@@ -5,14 +5,6 @@ use refusal::Refusal;
 use shades::FirstAnswer;
 use shades::NextAnswer;
 
-// The digit of a shade.
-fn digit(shade: u8) -> u8 {
-    if shade < 10 {
-        return shade + b'0';
-    }
-    shade % 16 + 87
-}
-
 // The shade of a digit.
 fn shade(digit: u8) -> u8 {
     if digit < b'a' {
@@ -23,24 +15,15 @@ fn shade(digit: u8) -> u8 {
 
 // The ring's line.
 fn print_ring(ring: &[u8]) {
-    let n = ring.len();
-    if 64 < n {
-        return;
-    }
-    let mut text = [b'\n'; 65];
-    let mut i = 0;
-    while i < n {
-        text[i] = digit(ring[i]);
-        i += 1;
-    }
-    io::write_all(1, &text[..n + 1]);
+    show::sectors(ring);
+    show::text(b"\n");
 }
 
 // A line of a word and a number.
 fn print_number(word: &[u8], x: usize) {
-    io::write_all(1, word);
-    io::print_decimal(1, x as u64);
-    io::write_all(1, b"\n");
+    show::text(word);
+    show::number(x);
+    show::text(b"\n");
 }
 
 // A refusal's line.
@@ -120,7 +103,7 @@ fn step(digits: &[u8], k: usize, counts: &[usize], reading: &mut [u8], out: &mut
     match shades::next_ring(reading, k, counts, out) {
         NextAnswer::Ring => print_ring(out),
         NextAnswer::Done => {
-            io::write_all(1, b"done\n");
+            show::text(b"done\n");
         }
         NextAnswer::Refused(r) => print_refusal(r),
     }
