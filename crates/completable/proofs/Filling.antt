@@ -9,7 +9,8 @@ use native.Mathlib.Omega.{arith}
 use native.Mathlib.Numerals.{add-one}
 use lib.ListN.{length, getD, take, set, replicate, length-set, replicate-append-replicate}
 use lib.Seq.{take-suc-set, take-all}
-use Rattle.pool.proofs.Cut.{sum, sum-take-suc, sum-take-le}
+use Rattle.pool.proofs.Cut.{sum-take-suc, sum-take-le}
+use Rattle.words.specs.Sum.{sumOf}
 use Rattle.pool.proofs.Letters.{letters, letters-suc, lettersFrom}
 
 -- from place i up to place j the letter x is written, up to e it shall be
@@ -46,22 +47,22 @@ put-end w₀ i e x w j p h = let q : j ≡ e = omega (arith, p .to) in rw q at (
 pub record Filling (w₀ cs w : List ℕ) (l b : ℕ) : Type 0 where
   pub long : length w ≡ length w₀
   pub within : b ≤ length cs
-  pub many : l ≡ sum (take b cs)
+  pub many : l ≡ sumOf (take b cs)
   pub done : take l w ≡ letters (take b cs)
 
 -- none is written yet
 pub fill-start : (w cs : List ℕ) → Filling w cs w 0 0
-unfolding sum lettersFrom
+unfolding sumOf lettersFrom
 fill-start w cs = record { long = refl; within = omega arith; many = refl; done = refl }
 
 module _ (w₀ cs w : List ℕ) (l b : ℕ) (p : Filling w₀ cs w l b) (h : b < length cs) where
   -- the letters of one count more
-  one-count : l + getD cs b 0 ≡ sum (take (suc b) cs)
+  one-count : l + getD cs b 0 ≡ sumOf (take (suc b) cs)
   one-count = omega (arith, p .many, sum-take-suc cs b h)
 
   -- there is room for them
-  pub fill-room : sum cs ≤ length w₀ → l + getD cs b 0 ≤ length w
-  fill-room r = omega (arith, one-count, sum-take-le cs (suc b) (length cs) (omega arith), ap sum (take-all (length cs) cs (omega arith)), p .long)
+  pub fill-room : sumOf cs ≤ length w₀ → l + getD cs b 0 ≤ length w
+  fill-room r = omega (arith, one-count, sum-take-le cs (suc b) (length cs) (omega arith), ap sumOf (take-all (length cs) cs (omega arith)), p .long)
 
   -- they are written
   pub fill-more : (v : List ℕ) → length v ≡ length w → take (l + getD cs b 0) v ≡ take l w ++ replicate (l + getD cs b 0 - l) b → Filling w₀ cs v (l + getD cs b 0) (b + 1)
@@ -77,5 +78,5 @@ module _ (w₀ cs w : List ℕ) (l b : ℕ) (p : Filling w₀ cs w l b) (h : b <
   })
 
 -- all are written
-pub fill-end : (w₀ cs w : List ℕ) (l b : ℕ) → Filling w₀ cs w l b → length cs ≤ b → (l ≡ sum cs) × (take l w ≡ letters cs)
-fill-end w₀ cs w l b p h = let e = take-all b cs h in (p .many ∙ ap sum e, p .done ∙ ap letters e)
+pub fill-end : (w₀ cs w : List ℕ) (l b : ℕ) → Filling w₀ cs w l b → length cs ≤ b → (l ≡ sumOf cs) × (take l w ≡ letters cs)
+fill-end w₀ cs w l b p h = let e = take-all b cs h in (p .many ∙ ap sumOf e, p .done ∙ ap letters e)

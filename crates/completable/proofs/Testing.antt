@@ -10,7 +10,8 @@ use native.Mathlib.Nat.{mul-le-mul-right}
 use lib.ListN.{length, getD, take, set, replicate, length-set, length-replicate, getD-replicate}
 use Rattle.words.specs.Order.{before}
 use Rattle.necklaces.proofs.Lyndon.{of-lyndon, lyndon-pos}
-use Rattle.pool.proofs.Cut.{sum, sum-take-suc, sum-take-le, Moved}
+use Rattle.pool.proofs.Cut.{sum-take-suc, sum-take-le, Moved}
+use Rattle.words.specs.Sum.{sumOf}
 use Rattle.pool.proofs.Held.{Held, held-start, held-some, held-room, held-glue, held-stuck}
 use Rattle.pool.proofs.Letters.{letters, sorted-letters, occurs-letters}
 use Rattle.completable.specs.Pool.{Laid, Leading}
@@ -24,12 +25,14 @@ pub record Testing (al rem : List ℕ) (l t : ℕ) (len w : List ℕ) : Type 0 w
   pub held : Held al (letters rem) l t len w
 
 -- the sorted letters, each a word
-pub test-start : (al rem : List ℕ) (l : ℕ) (w : List ℕ) → Completing al rem → length w ≡ 64 → l ≡ sum rem → take l w ≡ letters rem → (l ≡ 0 → ⊥) → Testing al rem l l (replicate 64 1) w
+pub test-start : (al rem : List ℕ) (l : ℕ) (w : List ℕ) → Completing al rem → length w ≡ 64 → l ≡ sumOf rem → take l w ≡ letters rem → (l ≡ 0 → ⊥) → Testing al rem l l (replicate 64 1) w
 test-start al rem l w c size many done z = record {
   size = size;
   slots = length-replicate {A = ℕ} 64 1;
   few = fits;
-  held = held-start al (letters rem) l (replicate 64 1) w (of-lyndon al (lyndon-pos al (c .lyndon-al)) (c .lyndon-al)) (omega arith) (rw (length-replicate {A = ℕ} 64 1) fits) (rw size fits) (λ i h. getD-replicate 64 i 1 0 (omega arith)) done (sorted-letters 0 rem);
+  held =
+      held-start al (letters rem) l (replicate 64 1) w (of-lyndon al (lyndon-pos al (c .lyndon-al)) (c .lyndon-al)) (omega arith) (rw (length-replicate {A = ℕ} 64 1) fits) (rw size fits)
+      (λ i h. getD-replicate 64 i 1 0 (omega arith)) done (sorted-letters 0 rem);
 }
   where
     fits : l ≤ 64

@@ -10,11 +10,11 @@ use mathlib.Core.List.{List, _++_}
 use lib.ListN.{length, getD}
 use Rattle.rings.specs.Necklace.{necklace, lyndon}
 use Rattle.rings.specs.Counts.{occurs}
-use Rattle.pool.proofs.Cut.{sum}
+use Rattle.words.specs.Sum.{sumOf}
 
 -- the letters that cs counts have room in w
 pub record Fillable (w cs : List ℕ) : Type 0 where
-  pub room : sum cs ≤ length w
+  pub room : sumOf cs ≤ length w
   pub size : length w ≤ 64
   pub shades : length cs ≤ 16
 
@@ -22,7 +22,7 @@ pub record Fillable (w cs : List ℕ) : Type 0 where
 pub record Completing (al rem : List ℕ) : Type 0 where
   pub lyndon-al : lyndon al ≡ true
   pub shades : length rem ≤ 16
-  pub room : sum rem ≤ 64
+  pub room : sumOf rem ≤ 64
 
 -- no word with exactly these letters completes al to a necklace
 abbrev pub Hopeless : List ℕ → List ℕ → Type 0

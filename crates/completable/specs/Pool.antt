@@ -6,14 +6,14 @@ use Prim.Native.Nat.{ℕ, _+_, _*_, _<_, _≤_}
 use mathlib.Core.Path.{_≡_}
 use mathlib.Core.List.{List}
 use lib.ListN.{length, getD, take}
-use Rattle.pool.proofs.Cut.{sum}
+use Rattle.words.specs.Sum.{sumOf}
 use Rattle.pool.proofs.Held.{Leads}
 
 -- there are t words, and their letters are in w
 pub record Laid (t : ℕ) (len w : List ℕ) : Type 0 where
   pub some : 0 < t
   pub slots : t ≤ length len
-  pub room : sum (take t len) ≤ length w
+  pub room : sumOf (take t len) ≤ length w
   pub few : length w ≤ 64
 
 -- the first q of the t words are copies of the first, and the next one, if there is one, is not

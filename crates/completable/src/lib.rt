@@ -6,7 +6,8 @@ ghost use mathlib.Core.List.{_++_};
 ghost use Prim.Native.Nat.{_+_, _-_, _≤_};
 ghost use lib.ListN.{length, take, replicate};
 ghost use Rattle.words.specs.Order.{before, same};
-ghost use Rattle.pool.proofs.Cut.{sum, Moved};
+ghost use Rattle.pool.proofs.Cut.{Moved};
+ghost use Rattle.words.specs.Sum.{sumOf};
 ghost use Rattle.pool.proofs.Letters.{letters};
 ghost use Rattle.completable.specs.Pool.{Laid, Leading};
 ghost use Rattle.completable.specs.Completion.{Fillable, Completing, Hopeless};
@@ -63,7 +64,7 @@ fn put(w: &mut [u8], i: usize, e: usize, x: u8)
 // The letters of the counts in increasing order, at the front of w; how many they are.
 pub fn fill(w: &mut [u8], counts: &[usize]) -> usize
     requires { ⌜ Fillable (now w) (now counts) ⌝ }
-    ensures { λ r. ⌜ (r ≡ sum (now (counts .entry))) × (take r (now (w .exit)) ≡ letters (now (counts .entry))) ⌝ }
+    ensures { λ r. ⌜ (r ≡ sumOf (now (counts .entry))) × (take r (now (w .exit)) ≡ letters (now (counts .entry))) ⌝ }
 {
     let mut l: usize = 0;
     let mut b: usize = 0;

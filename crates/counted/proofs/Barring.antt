@@ -22,7 +22,7 @@ use Rattle.necklaces.proofs.Run.{Lyn, pre-through}
 use Rattle.necklaces.proofs.Raise.{raise-lyn}
 use Rattle.necklaces.proofs.Words.{pre-of}
 use Rattle.necklaces.proofs.Lyndon.{lyndon-of}
-use Rattle.pool.proofs.Cut.{sum}
+use Rattle.words.specs.Sum.{sumOf}
 use Rattle.completable.specs.Completion.{Completing, Hopeless}
 use Rattle.counted.specs.Places.{Barred, Possible, Liftable, Lifted}
 use Rattle.counted.proofs.Tallying.{occurs-here, occurs-other}
@@ -52,7 +52,7 @@ barred-pool u b rem l z h v c n = h v counts (rw append-assoc n)
         other q = sym (occurs-other b x v q) ∙ c x ∙ sym (getD-set-other rem b x (getD rem b 0 - 1) 0 (λ e. q (sym e)))
 
 -- one less is left in no greater a sum
-less-sum : (rem : List ℕ) (b : ℕ) → sum (lessOne rem b) ≤ sum rem
+less-sum : (rem : List ℕ) (b : ℕ) → sumOf (lessOne rem b) ≤ sumOf rem
 less-sum rem b = sum-le (lessOne rem b) rem (λ x. elim (tri x b) [ lt e ↦ other x (λ q. omega arith) | eq e ↦ here x e | gt e ↦ other x (λ q. omega arith) ])
   where
     other : (x : ℕ) → (x ≡ b → ⊥) → getD (lessOne rem b) x 0 ≤ getD rem x 0

@@ -13,7 +13,7 @@ use native.Mathlib.Omega.{arith}
 use lib.ListN.{length, getD, take, drop}
 use lib.Seq.{split-at, length-take-le, getD-take, ext-getD}
 use Rattle.words.proofs.Split.{lt, eq, gt, tri, both-left, both-right}
-use Rattle.words.proofs.Sequence.{sec, place}
+use Rattle.words.proofs.Sequence.{sec}
 use Rattle.rings.specs.Necklace.{necklace}
 use Rattle.rings.specs.Counts.{occurs, hasCounts, countedNecklace}
 use Rattle.rings.specs.Prenecklace.{prenecklace}
@@ -72,13 +72,19 @@ module _ (cs : List ℕ) (n k : ℕ) (w : List ℕ) (l b : ℕ) (inside : l < n)
   -- the shade is barred
   pub blocked-barred : (rem : List ℕ) → length cs ≡ k → Remains cs (take l w) rem → Barred (take l w) b rem → Blocked cs n k w l b
   blocked-barred rem many r barred v ring agree e =
-      barred (drop (suc l) v) (λ x. sym (ap (λ a. occurs x (a ∷ drop (suc l) v)) e) ∙ counts x) (subst (λ u. necklace u ≡ true) (split-ring cs n k v ring w l inside room agree ∙ ap (λ a. take l w ++ a ∷ drop (suc l) v) e) (ring-necklace cs n k v ring))
+      barred (drop (suc l) v) (λ x. sym (ap (λ a. occurs x (a ∷ drop (suc l) v)) e) ∙ counts x)
+      (subst (λ u. necklace u ≡ true) (split-ring cs n k v ring w l inside room agree ∙ ap (λ a. take l w ++ a ∷ drop (suc l) v) e) (ring-necklace cs n k v ring))
     where
       past : (x : ℕ) → length cs ≤ x → occurs x (sec v l ∷ drop (suc l) v) ≡ getD rem x 0
       past x h = omega (arith, r .past x h, ring-past cs n k v ring many x h, split-occurs cs n k v ring w l inside room agree x)
 
       counts : (x : ℕ) → occurs x (sec v l ∷ drop (suc l) v) ≡ getD rem x 0
-      counts x = elim (tri x (length cs)) [ lt h ↦ omega (arith, r .left x h, ring-known cs n k v ring x h, split-occurs cs n k v ring w l inside room agree x) | eq h ↦ past x (omega arith) | gt h ↦ past x (omega arith) ]
+      counts x =
+          elim (tri x (length cs)) [
+            | lt h ↦ omega (arith, r .left x h, ring-known cs n k v ring x h, split-occurs cs n k v ring w l inside room agree x)
+            | eq h ↦ past x (omega arith)
+            | gt h ↦ past x (omega arith)
+          ]
 
 -- ---- one place
 

@@ -12,7 +12,7 @@ use lib.Seq.{getD-set-same, getD-set-other}
 use Rattle.words.proofs.Split.{lt, eq, gt, tri}
 use Rattle.rings.specs.Counts.{occurs}
 use Rattle.necklaces.proofs.FullWalk.{zeros-at}
-use Rattle.pool.proofs.Cut.{sum}
+use Rattle.words.specs.Sum.{sumOf}
 use Rattle.counted.specs.Places.{Remains}
 
 -- rem has what the first b counts leave beside u, and nothing of the others
@@ -43,12 +43,12 @@ pub leave-end : (cs u rem : List ℕ) (b : ℕ) → Leaving cs u rem b → lengt
 leave-end cs u rem b l h = record { size = l .size; left = λ x m. l .left x (omega arith); past = λ x m. l .past x (omega (arith, l .within)) }
 
 -- counts that are nowhere greater have no greater sum
-pub sum-le : (xs ys : List ℕ) → ((b : ℕ) → getD xs b 0 ≤ getD ys b 0) → sum xs ≤ sum ys
-unfolding sum
+pub sum-le : (xs ys : List ℕ) → ((b : ℕ) → getD xs b 0 ≤ getD ys b 0) → sumOf xs ≤ sumOf ys
+unfolding sumOf
 sum-le [] ys h = omega arith
 sum-le (x ∷ xs) [] h = omega (arith, h 0, sum-le xs [] (λ b. h (suc b)))
 sum-le (x ∷ xs) (y ∷ ys) h = omega (arith, h 0, sum-le xs ys (λ b. h (suc b)))
 
 -- what is left is no more than the counts
-pub remains-sum : (cs u rem : List ℕ) → Remains cs u rem → sum rem ≤ sum cs
+pub remains-sum : (cs u rem : List ℕ) → Remains cs u rem → sumOf rem ≤ sumOf cs
 remains-sum cs u rem r = sum-le rem cs (λ b. elim (tri b (length cs)) [ lt h ↦ omega (arith, r .left b h) | eq h ↦ omega (arith, r .past b (omega arith)) | gt h ↦ omega (arith, r .past b (omega arith)) ])

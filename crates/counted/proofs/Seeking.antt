@@ -8,27 +8,27 @@
 use Prim.Native.Nat.{ℕ, suc, _-_, _<_, _≤_}
 use mathlib.Core.Path.{_≡_, refl, sym, _∙_}
 use mathlib.Core.Bool.{true, false, true≢false}
-use mathlib.Core.Option.{none, some}
+use mathlib.Core.Option.{some}
 use mathlib.Core.List.{List, _++_}
 use native.Mathlib.Omega.{arith}
 use lib.ListN.{length, take, drop, set, length-set, length-append, length-drop}
 use lib.Seq.{take-at, length-take-le, getD-take, getD-set-same, getD-set-other}
 use Rattle.words.specs.Order.{before}
 use Rattle.words.specs.Readings.{readings, count}
-use Rattle.words.proofs.Sequence.{sec, place}
+use Rattle.words.proofs.Sequence.{sec}
 use Rattle.words.proofs.Lex.{before-less}
 use Rattle.rings.specs.Counts.{countedNecklace}
 use Rattle.rings.specs.Steps.{nextOf}
-use Rattle.necklaces.proofs.Run.{Run, pre-shorter}
+use Rattle.necklaces.proofs.Run.{Pre, Run, pre-shorter}
 use Rattle.necklaces.proofs.Raise.{raise-lyn}
 use Rattle.necklaces.proofs.Words.{pre-of}
 use Rattle.necklaces.proofs.Lyndon.{run-prenecklace}
 use Rattle.counted.specs.declared.Sought.{Sought}
 use Rattle.classify.specs.Beginning.{Opened}
 use Rattle.counted.specs.Runs.{Repeatable, Repeats}
-use Rattle.counted.specs.Places.{Blocked, Placed}
+use Rattle.counted.specs.Places.{Ring, Blocked, Placed}
 use Rattle.counted.specs.Above.{Ready, Opening, Answers}
-use Rattle.counted.proofs.Stepping.{Step, step-none, step-found, step-on, step-falls, raise-step, settle-step}
+use Rattle.counted.proofs.Stepping.{Step, step-none, step-found, step-on, step-falls, Lifts, raise-step, Settles, settle-step}
 
 -- ---- a new ring in the first n sectors
 
@@ -71,12 +71,16 @@ module _ (cs : List ℕ) (n k : ℕ) (start ring : List ℕ) (at : Standing cs n
   still-blocked : (x c : ℕ) → x < n → Blocked cs n k ring x c → Blocked cs n k (take n ring) x c
   still-blocked x c h blocked v r agree = blocked v r (λ m q. agree m q ∙ same-sector m (omega arith))
 
+  -- where no place can be raised there is no ring above
+  no-ring : i ≡ 0 → (u : List ℕ) → Ring cs n k u → before (take n ring) u ≡ true → ⊥
+  no-ring z u r up =
+      let d = rw (r .reading .long) at (before-less (take n ring) u (long ∙ sym (r .reading .long)) up) in
+      found .blocked (d .at) (sec u (d .at)) (omega arith) (d .bound) (omega (arith, d .less, same-sector (d .at) (d .bound))) (r .reading .shades (d .at) (d .bound)) u r
+      (λ m q. sym (d .agree m q) ∙ same-sector m (omega (arith, d .bound))) refl
+
   -- no place can be raised
   pub seek-none : i ≡ 0 → Answers start n k cs (record { some = false; ring = ring })
-  seek-none z = record {
-    ring = λ e. absurd (true≢false (sym e));
-    done = λ e. sym (at .next) ∙ step-none cs n k (take n ring) long (λ u r up. let d = rw (r .reading .long) at (before-less (take n ring) u (long ∙ sym (r .reading .long)) up) in found .blocked (d .at) (sec u (d .at)) (omega arith) (d .bound) (omega (arith, d .less, same-sector (d .at) (d .bound))) (r .reading .shades (d .at) (d .bound)) u r (λ m q. sym (d .agree m q) ∙ same-sector m (omega (arith, d .bound))) refl);
-  }
+  seek-none z = record { ring = λ e. absurd (true≢false (sym e)); done = λ e. sym (at .next) ∙ step-none cs n k (take n ring) long (no-ring z) }
 
   module _ (z : i ≡ 0 → ⊥) where
     inside : i - 1 < n
@@ -86,9 +90,6 @@ module _ (cs : List ℕ) (n k : ℕ) (start ring : List ℕ) (at : Standing cs n
     room = omega (arith, inside, at .size, at .opening .ready .size)
 
     -- the first n sectors with the place raised
-    lifted : List ℕ
-    lifted = take n (set ring (i - 1) b)
-
     lifted-low : (m : ℕ) → m < i - 1 → sec (take n (set ring (i - 1) b)) m ≡ sec (take n ring) m
     lifted-low m h = getD-take n (set ring (i - 1) b) m 0 (omega (arith, inside)) ∙ getD-set-other ring (i - 1) m b 0 (λ e. omega arith) ∙ sym (same-sector m (omega (arith, inside)))
 
@@ -98,25 +99,41 @@ module _ (cs : List ℕ) (n k : ℕ) (start ring : List ℕ) (at : Standing cs n
     rises : sec (take n ring) (i - 1) < b
     rises = omega (arith, found .above (omega arith), same-sector (i - 1) inside)
 
+    lifted-long : length (take n (set ring (i - 1) b)) ≡ n
+    lifted-long = length-take-le n (set ring (i - 1) b) (omega (arith, length-set ring (i - 1) b, at .size, at .opening .ready .size))
+
+    -- the sectors up to the place are a prenecklace
+    opening-pre : Pre (sec (take n ring)) (suc (i - 1))
+    opening-pre = pre-shorter (sec (take n ring)) n (suc (i - 1)) (omega (arith, inside)) (rw long at (pre-of (take n ring) (at .opening .pre)))
+
     -- what repeating asks
     pub seek-asks : Repeatable (take n (set ring (i - 1) b)) i
     seek-asks = record {
       pos = omega arith;
-      fits = omega (arith, length-take-le n (set ring (i - 1) b) (omega (arith, length-set ring (i - 1) b, at .size, at .opening .ready .size)), found .within);
+      fits = omega (arith, lifted-long, found .within);
       lyn =
           let e : suc (i - 1) ≡ i = omega arith in
-          rw e at
-          (raise-lyn (sec (take n ring)) (sec (take n (set ring (i - 1) b))) (i - 1) (pre-shorter (sec (take n ring)) n (suc (i - 1)) (omega (arith, inside)) (rw long at (pre-of (take n ring) (at .opening .pre)))) (λ m h. sym (lifted-low m h)) (omega (arith, rises, lifted-here)));
+          rw e at (raise-lyn (sec (take n ring)) (sec (take n (set ring (i - 1) b))) (i - 1) opening-pre (λ m h. sym (lifted-low m h)) (omega (arith, rises, lifted-here)));
     }
 
     module _ (t : List ℕ) (rep : Repeats i (take n (set ring (i - 1) b)) t) where
       whole : length t ≡ n
-      whole = rep .long ∙ length-take-le n (set ring (i - 1) b) (omega (arith, length-set ring (i - 1) b, at .size, at .opening .ready .size))
+      whole = rep .long ∙ lifted-long
+
+      lifts : Lifts n k (take n ring) t (i - 1) b
+      lifts = record {
+        long = whole;
+        inside = inside;
+        run = let e : i ≡ suc (i - 1) = omega arith in rw (whole, e) at (rep .run);
+        keeps = λ m h. rep .keeps m (omega arith) ∙ lifted-low m h;
+        here = rep .keeps (i - 1) (omega arith) ∙ lifted-here;
+        rises = rises;
+        known = found .known (omega arith);
+      }
 
       step : Step cs n k (take n ring) t
       step =
-          raise-step cs n k (take n ring) t (i - 1) b (at .opening .ready .reading) whole inside
-          (let e : i ≡ suc (i - 1) = omega arith in rw (whole, e) at (rep .run)) (λ m h. rep .keeps m (omega arith) ∙ lifted-low m h) (rep .keeps (i - 1) (omega arith) ∙ lifted-here) rises (found .known (omega arith))
+          raise-step cs n k (take n ring) t (i - 1) b (at .opening .ready .reading) lifts
           (λ x c h q r y. still-blocked x c q (found .blocked x c (omega arith) q (omega (arith, r, same-sector x q)) y))
           (λ c h q. still-blocked (i - 1) c inside (found .between c (omega arith) (omega (arith, h, same-sector (i - 1) inside)) q))
 
@@ -168,10 +185,18 @@ module _ (cs : List ℕ) (n k : ℕ) (start : List ℕ) (size : length start ≡
     settled-long : length t ≡ n
     settled-long = rep .long ∙ start-long
 
+    settles : Settles n (take n start) t e p
+    settles = record {
+      long = settled-long;
+      inside = omega (arith, opened .within, start-long);
+      opening = opened .run;
+      breaks = opened .breaks (omega (arith, opened .within, start-long));
+      run = rw settled-long at (rep .run);
+      keeps = rep .keeps;
+    }
+
     settled : Step cs n k (take n start) t
-    settled =
-        let h : e < n = omega (arith, opened .within, start-long) in
-        settle-step cs n k (take n start) t e p (ready .reading) settled-long h (opened .run) (opened .breaks (omega (arith, start-long))) (rw settled-long at (rep .run)) (rep .keeps)
+    settled = settle-step cs n k (take n start) t e p (ready .reading) settles
 
     settled-holds : Holds t n (t ++ drop n start)
     settled-holds = holds t n start settled-long (ready .size) size

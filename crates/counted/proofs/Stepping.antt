@@ -3,8 +3,8 @@
 --     step-found, step-on, step-none    it is the next ring; it is none, and the next ring above it is that above w; there is no ring above w
 --     step-falls                        fewer readings are left above
 --     repeat-floor, repeat-shades       a prenecklace that begins like a repetition is not below it; the shades of a repetition
---     raise-step                        a place is raised, and what stands before it is repeated
---     settle-step                       the longest beginning that is a prenecklace is repeated
+--     Lifts, raise-step                 a place is raised, and what stands before it is repeated
+--     Settles, settle-step              the longest beginning that is a prenecklace is repeated
 -- Assumes nothing.
 use Prim.Native.Nat.{ℕ, suc, _-_, _%_, _<_, _≤_}
 use mathlib.Core.Path.{_≡_, refl, sym, _∙_}
@@ -17,7 +17,7 @@ use lib.ListN.{length}
 use Rattle.words.specs.Order.{before, upTo}
 use Rattle.words.specs.Readings.{Reading, readings, count}
 use Rattle.words.proofs.Split.{lt, eq, gt, tri, both, both-left, both-right, agree, clash, refuted}
-use Rattle.words.proofs.Sequence.{sec, Less, place, less-asym}
+use Rattle.words.proofs.Sequence.{sec, Less, place, one-more, less-asym}
 use Rattle.words.proofs.Lex.{Lex, ahead, equal, behind, lex, before-less, less-before, not-less-upTo, before-trans, upTo-not-before}
 use Rattle.words.proofs.Readings.{all-weaken, readings-all, first-is, first-nothing, first-cong}
 use Rattle.rings.specs.Prenecklace.{prenecklace}
@@ -48,7 +48,9 @@ module _ (cs : List ℕ) (n k : ℕ) (w : List ℕ) (long : length w ≡ n) wher
   -- there is no ring above w
   pub step-none : ((u : List ℕ) → Ring cs n k u → before w u ≡ true → ⊥) → nextOf (countedNecklace cs) k w ≡ none
   unfolding nextOf
-  step-none h = rw long (first-nothing n k (aboveOf (countedNecklace cs) w) (λ u r. refuted (aboveOf (countedNecklace cs) w u) (λ p. let (ring, up) = passing w u r p in h u ring up)))
+  step-none h =
+      rw long
+      (first-nothing n k (aboveOf (countedNecklace cs) w) (λ u r. refuted (aboveOf (countedNecklace cs) w u) (λ p. let (ring, up) = passing w u r p in h u ring up)))
 
   module _ (v : List ℕ) (step : Step cs n k w v) where
     -- fewer readings are left above
@@ -58,12 +60,18 @@ module _ (cs : List ℕ) (n k : ℕ) (w : List ℕ) (long : length w ≡ n) wher
     -- it is the next ring
     pub step-found : countedNecklace cs v ≡ true → nextOf (countedNecklace cs) k w ≡ some v
     unfolding nextOf aboveOf
-    step-found h = rw long (first-is n k (aboveOf (countedNecklace cs) w) v (step .reading) (both (before w v) (countedNecklace cs v) (step .above) h) (λ u r p. let (ring, up) = passing w u r p in step .least u ring up))
+    step-found h =
+        rw long
+        (first-is n k (aboveOf (countedNecklace cs) w) v (step .reading) (both (before w v) (countedNecklace cs v) (step .above) h)
+        (λ u r p. let (ring, up) = passing w u r p in step .least u ring up))
 
     -- it is none, and the next ring above it is that above w
     pub step-on : countedNecklace cs v ≡ false → nextOf (countedNecklace cs) k w ≡ nextOf (countedNecklace cs) k v
     unfolding nextOf aboveOf
-    step-on h = rw (long, step .reading .long) (first-cong (aboveOf (countedNecklace cs) w) (aboveOf (countedNecklace cs) v) (readings n k) (all-weaken (λ u r. agree (aboveOf (countedNecklace cs) w u) (aboveOf (countedNecklace cs) v u) (further u r) (nearer u)) (readings-all n k)))
+    step-on h =
+        rw (long, step .reading .long)
+        (first-cong (aboveOf (countedNecklace cs) w) (aboveOf (countedNecklace cs) v) (readings n k)
+        (all-weaken (λ u r. agree (aboveOf (countedNecklace cs) w u) (aboveOf (countedNecklace cs) v u) (further u r) (nearer u)) (readings-all n k)))
       where
         further : (u : List ℕ) → Reading n k u → aboveOf (countedNecklace cs) w u ≡ true → aboveOf (countedNecklace cs) v u ≡ true
         further u r p = let (ring, up) = passing w u r p in both (before v u) (countedNecklace cs u) (beyond u ring (step .least u ring up) (lex v u)) (ring .counted)
@@ -108,17 +116,32 @@ module _ (cs : List ℕ) (n k p : ℕ) (w t : List ℕ) (long : length w ≡ n) 
             | gt h ↦ later v ring d (omega arith) l
           ]
 
+-- t has the first l sectors of w, then the greater shade b, and repeats these
+pub record Lifts (n k : ℕ) (w t : List ℕ) (l b : ℕ) : Type 0 where
+  pub long : length t ≡ n
+  pub inside : l < n
+  pub run : Run (sec t) n (suc l)
+  pub keeps : (m : ℕ) → m < l → sec t m ≡ sec w m
+  pub here : sec t l ≡ b
+  pub rises : sec w l < b
+  pub known : b < k
+
 -- a place is raised, and what stands before it is repeated
-module _ (cs : List ℕ) (n k : ℕ) (w t : List ℕ) (l b : ℕ) (reading : Reading n k w) (size : length t ≡ n) (inside : l < n) (run : Run (sec t) n (suc l)) (keeps : (m : ℕ) → m < l → sec t m ≡ sec w m) (here : sec t l ≡ b) (rises : sec w l < b) (known : b < k) where
+module _ (cs : List ℕ) (n k : ℕ) (w t : List ℕ) (l b : ℕ) (reading : Reading n k w) (up : Lifts n k w t l b) where
   risen : Less (sec w) (sec t) n
-  risen = record { at = l; bound = inside; agree = λ m h. sym (keeps m h); less = omega (arith, here) }
+  risen = record { at = l; bound = up .inside; agree = λ m h. sym (up .keeps m h); less = omega (arith, up .here, up .rises) }
 
   pub raise-step : ((x c : ℕ) → l < x → x < n → sec w x < c → c < k → Blocked cs n k w x c) → ((c : ℕ) → sec w l < c → c < b → Blocked cs n k w l c) → Step cs n k w t
   unfolding risen
-  raise-step blocked between = repeat-step cs n k (suc l) w t (reading .long) size run risen shades later
+  raise-step blocked between = repeat-step cs n k (suc l) w t (reading .long) (up .long) (up .run) risen shades later
     where
       shades : (m : ℕ) → m < suc l → sec t m < k
-      shades m h = elim (tri m l) [ lt e ↦ rw (keeps m e) (reading .shades m (omega arith)) | eq e ↦ rw (e, here) known | gt e ↦ absurd (omega arith) ]
+      shades m h =
+          elim (tri m l) [
+            | lt e ↦ rw (up .keeps m e) (reading .shades m (omega (arith, up .inside)))
+            | eq e ↦ rw (e, up .here) (up .known)
+            | gt e ↦ absurd (omega arith)
+          ]
 
       later : (v : List ℕ) → (ring : Ring cs n k v) → (d : Less (sec w) (sec v) n) → l ≤ d .at → Less (sec v) (sec t) n → ⊥
       later v ring d h low =
@@ -128,30 +151,42 @@ module _ (cs : List ℕ) (n k : ℕ) (w t : List ℕ) (l b : ℕ) (reading : Rea
             | gt e ↦ absurd (omega arith)
           ]
         where
-          before-place : l ≡ d .at → (m : ℕ) → m < l → sec v m ≡ sec w m
-          before-place e m q = sym (d .agree m (omega arith))
+          as-before : l ≡ d .at → (m : ℕ) → m < l → sec v m ≡ sec w m
+          as-before e m q = sym (d .agree m (omega arith))
+
+          alike : l ≡ d .at → sec v l ≡ b → (m : ℕ) → m < suc l → sec v m ≡ sec t m
+          alike e q = one-more (λ m. sec v m ≡ sec t m) l (λ m z. as-before e m z ∙ sym (up .keeps m z)) (q ∙ sym (up .here))
 
           at-place : l ≡ d .at → ⊥
           at-place e =
               elim (tri (sec v l) b) [
-                | lt q ↦ between (sec v l) (omega (arith, d .less, place (sec w) l (d .at) e, place (sec v) l (d .at) e)) q v ring (before-place e) refl
-                | eq q ↦ repeat-floor (sec t) (sec v) n (suc l) run (ring-pre cs n k v ring) (λ m y. elim (tri m l) [ lt z ↦ before-place e m z ∙ sym (keeps m z) | eq z ↦ rw z (q ∙ sym here) | gt z ↦ absurd (omega arith) ]) low
-                | gt q ↦ less-asym (sec v) (sec t) n low (record { at = l; bound = inside; agree = λ m y. keeps m y ∙ sym (before-place e m y); less = omega (arith, here) })
+                | lt q ↦ between (sec v l) (omega (arith, d .less, place (sec w) l (d .at) e, place (sec v) l (d .at) e)) q v ring (as-before e) refl
+                | eq q ↦ repeat-floor (sec t) (sec v) n (suc l) (up .run) (ring-pre cs n k v ring) (alike e q) low
+                | gt q ↦ less-asym (sec v) (sec t) n low (record { at = l; bound = up .inside; agree = λ m y. up .keeps m y ∙ sym (as-before e m y); less = omega (arith, up .here) })
               ]
 
+-- the first e sectors of w are a prenecklace whose lyn is p, with the next one they are none, and t repeats the first p
+pub record Settles (n : ℕ) (w t : List ℕ) (e p : ℕ) : Type 0 where
+  pub long : length t ≡ n
+  pub inside : e < n
+  pub opening : Run (sec w) e p
+  pub breaks : sec w e < sec w (e - p)
+  pub run : Run (sec t) n p
+  pub keeps : (m : ℕ) → m < p → sec t m ≡ sec w m
+
 -- the longest beginning that is a prenecklace is repeated
-pub settle-step : (cs : List ℕ) (n k : ℕ) (w t : List ℕ) (e p : ℕ) → Reading n k w → length t ≡ n → e < n → Run (sec w) e p → sec w e < sec w (e - p) → Run (sec t) n p → ((m : ℕ) → m < p → sec t m ≡ sec w m) → Step cs n k w t
-settle-step cs n k w t e p reading size inside opening falls run keeps =
-    repeat-step cs n k p w t (reading .long) size run risen (λ m h. rw (keeps m h) (reading .shades m (omega (arith, opening .fits))))
-    (λ v ring d h. repeat-floor (sec t) (sec v) n p run (ring-pre cs n k v ring) (λ m q. sym (d .agree m (omega (arith, opening .fits))) ∙ sym (keeps m q)))
+pub settle-step : (cs : List ℕ) (n k : ℕ) (w t : List ℕ) (e p : ℕ) → Reading n k w → Settles n w t e p → Step cs n k w t
+settle-step cs n k w t e p reading s =
+    repeat-step cs n k p w t (reading .long) (s .long) (s .run) risen (λ m h. rw (s .keeps m h) (reading .shades m (omega (arith, s .opening .fits, s .inside))))
+    (λ v ring d h. repeat-floor (sec t) (sec v) n p (s .run) (ring-pre cs n k v ring) (λ m q. sym (d .agree m (omega (arith, s .opening .fits))) ∙ sym (s .keeps m q)))
   where
     same : (m : ℕ) → m < e → sec t m ≡ sec w m
-    same m h = run-rep (sec t) n p run m (omega arith) ∙ keeps (m % p) (mod-lt m (opening .pos)) ∙ sym (run-rep (sec w) e p opening m h)
+    same m h = run-rep (sec t) n p (s .run) m (omega (arith, s .inside)) ∙ s .keeps (m % p) (mod-lt m (s .opening .pos)) ∙ sym (run-rep (sec w) e p (s .opening) m h)
 
     risen : Less (sec w) (sec t) n
     risen = record {
       at = e;
-      bound = inside;
+      bound = s .inside;
       agree = λ m h. sym (same m h);
-      less = omega (arith, falls, same (e - p) (omega (arith, opening .pos, opening .fits)), run .again e (e - p) (omega (arith, opening .fits)) inside);
+      less = omega (arith, s .breaks, same (e - p) (omega (arith, s .opening .pos, s .opening .fits)), s .run .again e (e - p) (omega (arith, s .opening .fits)) (s .inside));
     }

@@ -13,7 +13,7 @@ use Rattle.words.specs.Readings.{Reading}
 use Rattle.rings.specs.Prenecklace.{prenecklace}
 use Rattle.rings.specs.Counts.{countedNecklace}
 use Rattle.rings.specs.Steps.{nextOf}
-use Rattle.pool.proofs.Cut.{sum}
+use Rattle.words.specs.Sum.{sumOf}
 use Rattle.counted.specs.declared.Sought.{Sought}
 
 -- the first n sectors of w are a reading of k shades, and the counts are for n and k
@@ -22,7 +22,7 @@ pub record Ready (w : List ℕ) (n k : ℕ) (cs : List ℕ) : Type 0 where
   pub size : n ≤ 64
   pub shades : k ≤ 16
   pub many : length cs ≡ k
-  pub room : sum cs ≤ 64
+  pub room : sumOf cs ≤ 64
   pub reading : Reading n k (take n w)
 
 -- they are also a prenecklace

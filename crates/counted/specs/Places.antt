@@ -15,7 +15,7 @@ use Rattle.words.proofs.Sequence.{sec}
 use Rattle.rings.specs.Necklace.{necklace, lyndon}
 use Rattle.rings.specs.Prenecklace.{prenecklace}
 use Rattle.rings.specs.Counts.{occurs, countedNecklace}
-use Rattle.pool.proofs.Cut.{sum}
+use Rattle.words.specs.Sum.{sumOf}
 use Rattle.counted.specs.declared.Left.{Left}
 use Rattle.counted.specs.declared.Place.{Place}
 
@@ -53,14 +53,14 @@ Barred u b rem = (v : List ℕ) → ((x : ℕ) → occurs x (b ∷ v) ≡ getD r
 pub record Possible (w : List ℕ) (l b : ℕ) (rem : List ℕ) : Type 0 where
   pub inside : l < 64
   pub shade : b < 16
-  pub room : sum rem ≤ 64
+  pub room : sumOf rem ≤ 64
   pub lyndon-al : lyndon (take l w ++ b ∷ []) ≡ true
 
 -- place l of w ends a prenecklace
 pub record Liftable (w : List ℕ) (l k : ℕ) (rem : List ℕ) : Type 0 where
   pub inside : l < 64
   pub shades : k ≤ 16
-  pub room : sum rem ≤ 64
+  pub room : sumOf rem ≤ 64
   pub pre : prenecklace (take (suc l) w) ≡ true
   pub low : sec w l < k
 
@@ -75,7 +75,7 @@ pub record Raisable (w : List ℕ) (l k : ℕ) (cs : List ℕ) : Type 0 where
   pub inside : l < 64
   pub shades : k ≤ 16
   pub many : length cs ≡ k
-  pub room : sum cs ≤ 64
+  pub room : sumOf cs ≤ 64
   pub pre : prenecklace (take (suc l) w) ≡ true
   pub low : sec w l < k
 

@@ -3,9 +3,8 @@
 // completion (`completable`); what follows that place repeats what stands before it.
 ghost use mathlib.Core.Path.{_≡_};
 ghost use mathlib.Core.Bool.{false};
-ghost use mathlib.Core.List.{[], _∷_, _++_};
 ghost use Prim.Native.Nat.{_<_, _≤_};
-ghost use lib.ListN.{length, take, getD};
+ghost use lib.ListN.{length, take};
 ghost use Rattle.rings.specs.Counts.{occurs, hasCounts, countedNecklace};
 ghost use Rattle.necklaces.proofs.Run.{Run};
 ghost use Rattle.words.proofs.Sequence.{sec};

@@ -21,12 +21,13 @@ use Rattle.rings.specs.Counts.{occurs}
 use Rattle.necklaces.proofs.Run.{Lyn}
 use Rattle.pool.proofs.Copies.{singles}
 use Rattle.pool.proofs.Pool.{Sorted, Pool, glued, pool-start, pool-glue, pool-stuck}
-use Rattle.pool.proofs.Cut.{sum, cut, sum-append, sum-take-suc, sum-take-le, sum-take-equal, length-cut, cut-at, parts, cut-ones, Moved, cut-moved}
+use Rattle.pool.proofs.Cut.{cut, sum-append, sum-take-suc, sum-take-le, sum-take-equal, length-cut, cut-at, parts, cut-ones, Moved, cut-moved}
+use Rattle.words.specs.Sum.{sumOf}
 
 -- the arrays hold a pool for al and the letters u: t words, l letters
 pub record Held (al u : List ℕ) (l t : ℕ) (len w : List ℕ) : Type 0 where
   pub slots : t ≤ length len
-  pub total : sum (take t len) ≡ l
+  pub total : sumOf (take t len) ≡ l
   pub room : l ≤ length w
   pub pool : Pool al u (cut (take t len) w)
 
@@ -38,30 +39,30 @@ pub record Leads (q a : ℕ) (len w : List ℕ) : Type 0 where
 -- ---- words by their places
 
 -- the word at place i
-word-at : (t : ℕ) (len w : List ℕ) (i : ℕ) → t ≤ length len → i < t → getD (cut (take t len) w) i [] ≡ take (getD len i 0) (drop (sum (take i len)) w)
+word-at : (t : ℕ) (len w : List ℕ) (i : ℕ) → t ≤ length len → i < t → getD (cut (take t len) w) i [] ≡ take (getD len i 0) (drop (sumOf (take i len)) w)
 word-at t len w i h k = cut-at (take t len) w i (rw (length-take-le t len h) k) ∙ rw (getD-take t len i 0, take-take i t len (omega arith))
 
 -- a word ends inside the letters
-word-end : (t : ℕ) (len : List ℕ) (i : ℕ) → t ≤ length len → i < t → sum (take i len) + getD len i 0 ≤ sum (take t len)
+word-end : (t : ℕ) (len : List ℕ) (i : ℕ) → t ≤ length len → i < t → sumOf (take i len) + getD len i 0 ≤ sumOf (take t len)
 word-end t len i h k = omega (arith, sum-take-suc len i (omega arith), sum-take-le len (suc i) t (omega arith))
 
-module _ (t : ℕ) (len w : List ℕ) (slots : t ≤ length len) (room : sum (take t len) ≤ length w) where
+module _ (t : ℕ) (len w : List ℕ) (slots : t ≤ length len) (room : sumOf (take t len) ≤ length w) where
   -- a word has its length
   word-long : (i : ℕ) → i < t → length (getD (cut (take t len) w) i []) ≡ getD len i 0
-  word-long i k = ap length (word-at t len w i slots k) ∙ length-take-le (getD len i 0) (drop (sum (take i len)) w) (rw length-drop (omega (arith, word-end t len i slots k)))
+  word-long i k = ap length (word-at t len w i slots k) ∙ length-take-le (getD len i 0) (drop (sumOf (take i len)) w) (rw length-drop (omega (arith, word-end t len i slots k)))
 
   -- a letter of a word
-  word-letter : (i m : ℕ) → i < t → m < getD len i 0 → getD (getD (cut (take t len) w) i []) m 0 ≡ sec w (sum (take i len) + m)
-  word-letter i m k h = ap (λ x. getD x m 0) (word-at t len w i slots k) ∙ getD-take (getD len i 0) (drop (sum (take i len)) w) m 0 h ∙ getD-drop (sum (take i len)) w m 0
+  word-letter : (i m : ℕ) → i < t → m < getD len i 0 → getD (getD (cut (take t len) w) i []) m 0 ≡ sec w (sumOf (take i len) + m)
+  word-letter i m k h = ap (λ x. getD x m 0) (word-at t len w i slots k) ∙ getD-take (getD len i 0) (drop (sumOf (take i len)) w) m 0 h ∙ getD-drop (sumOf (take i len)) w m 0
 
   -- two words of one length with the same letters are one
-  word-same : (i j a : ℕ) → i < t → j < t → getD len i 0 ≡ a → getD len j 0 ≡ a → ((m : ℕ) → m < a → sec w (sum (take i len) + m) ≡ sec w (sum (take j len) + m)) →
+  word-same : (i j a : ℕ) → i < t → j < t → getD len i 0 ≡ a → getD len j 0 ≡ a → ((m : ℕ) → m < a → sec w (sumOf (take i len) + m) ≡ sec w (sumOf (take j len) + m)) →
       getD (cut (take t len) w) i [] ≡ getD (cut (take t len) w) j []
   word-same i j a k n e f h =
       word-at t len w i slots k
-      ∙ ap (λ x. take x (drop (sum (take i len)) w)) e
-      ∙ parts a (sum (take i len)) (sum (take j len)) w w (omega (arith, word-end t len i slots k)) (omega (arith, word-end t len j slots n)) h
-      ∙ ap (λ x. take x (drop (sum (take j len)) w)) (sym f)
+      ∙ ap (λ x. take x (drop (sumOf (take i len)) w)) e
+      ∙ parts a (sumOf (take i len)) (sumOf (take j len)) w w (omega (arith, word-end t len i slots k)) (omega (arith, word-end t len j slots n)) h
+      ∙ ap (λ x. take x (drop (sumOf (take j len)) w)) (sym f)
       ∙ sym (word-at t len w j slots n)
 
 -- ---- the leading copies
@@ -75,11 +76,11 @@ pub leads-more : (q a : ℕ) (len w : List ℕ) → Leads q a len w → getD len
 leads-more q a len w l e h = rw add-one (record { lengths = one-more (λ i. getD len i 0 ≡ a) q (l .lengths) e; letters = λ i m k. one-more (λ i. m < a → sec w (i * a + m) ≡ sec w m) q (λ i k. l .letters i m k) (h m) i k })
 
 -- where word i of the leading copies starts
-pub leads-sum : (q a : ℕ) (len w : List ℕ) → Leads q a len w → q ≤ length len → (i : ℕ) → i ≤ q → sum (take i len) ≡ i * a
+pub leads-sum : (q a : ℕ) (len w : List ℕ) → Leads q a len w → q ≤ length len → (i : ℕ) → i ≤ q → sumOf (take i len) ≡ i * a
 leads-sum q a len w l h i k = sum-take-equal len i a (omega arith) (λ j n. l .lengths j (omega arith))
 
 -- the word behind the leading copies ends inside the letters
-pub leads-next : (t q a : ℕ) (len w : List ℕ) → Leads q a len w → t ≤ length len → q < t → q * a + getD len q 0 ≤ sum (take t len)
+pub leads-next : (t q a : ℕ) (len w : List ℕ) → Leads q a len w → t ≤ length len → q < t → q * a + getD len q 0 ≤ sumOf (take t len)
 leads-next t q a len w l h k = omega (arith, leads-sum q a len w l (omega arith) q (omega arith), word-end t len q h k)
 
 -- ---- the loop
@@ -114,12 +115,12 @@ module _ {al u : List ℕ} {l t : ℕ} {len w : List ℕ} {q a : ℕ} (held : He
   count = length-cut (take t len) w ∙ length-take-le t len (held .slots)
 
   -- where word i of the leading copies starts
-  lead-sum : (i : ℕ) → i ≤ q → sum (take i len) ≡ i * a
+  lead-sum : (i : ℕ) → i ≤ q → sumOf (take i len) ≡ i * a
   lead-sum = leads-sum q a len w leads (omega (arith, held .slots))
 
   -- the first word starts at 0
-  lead-none : sum (take 0 len) ≡ 0
-  unfolding sum
+  lead-none : sumOf (take 0 len) ≡ 0
+  unfolding sumOf
   lead-none = refl
 
   -- the leading copies are the first word
@@ -128,7 +129,7 @@ module _ {al u : List ℕ} {l t : ℕ} {len w : List ℕ} {q a : ℕ} (held : He
 
   -- the first word is the first a letters
   lead-first : getD words 0 [] ≡ take a w
-  unfolding sum
+  unfolding sumOf
   lead-first = word-at t len w 0 (held .slots) (omega arith) ∙ ap (λ x. take x w) (leads .lengths 0 z)
 
   -- where all words lead and the first stands before al, there is no completion
@@ -172,14 +173,14 @@ module _ {al u : List ℕ} {l t : ℕ} {len w : List ℕ} {q a : ℕ} (held : He
     kept-long = length-take-le (q - 1) (take (t - 1) len) (omega (arith, inside))
 
     -- and the last leading copy ends where the last word goes
-    kept-sum : sum kept + a ≡ q * a
+    kept-sum : sumOf kept + a ≡ q * a
     unfolding kept
-    kept-sum = omega (arith, ap sum (take-take (q - 1) (t - 1) len (omega arith)), sum-take-suc len (q - 1) (omega (arith, held .slots)), leads .lengths (q - 1) (omega arith), lead-sum q (omega arith), place (λ x. sum (take x len)) (suc (q - 1)) q (omega arith))
+    kept-sum = omega (arith, ap sumOf (take-take (q - 1) (t - 1) len (omega arith)), sum-take-suc len (q - 1) (omega (arith, held .slots)), leads .lengths (q - 1) (omega arith), lead-sum q (omega arith), place (λ x. sumOf (take x len)) (suc (q - 1)) q (omega arith))
 
     -- all the letters
-    whole-sum : sum kept + a + sum others + g ≡ l
-    unfolding sum
-    whole-sum = omega (arith, held .total, ap sum lengths-were ∙ sum-append (kept ++ a ∷ others) (g ∷ []), sum-append kept (a ∷ others))
+    whole-sum : sumOf kept + a + sumOf others + g ≡ l
+    unfolding sumOf
+    whole-sum = omega (arith, held .total, ap sumOf lengths-were ∙ sum-append (kept ++ a ∷ others) (g ∷ []), sum-append kept (a ∷ others))
 
     -- the word behind the leading copies is another
     stops-word : (getD len q 0 ≡ a → ((m : ℕ) → m < a → sec w (q * a + m) ≡ sec w m) → ⊥) → getD words q [] ≡ getD words 0 [] → ⊥
@@ -192,24 +193,24 @@ module _ {al u : List ℕ} {l t : ℕ} {len w : List ℕ} {q a : ℕ} (held : He
             ∙ word-long t len w (held .slots) (omega (arith, held .total, held .room)) 0 (omega arith)
             ∙ leads .lengths 0 z
 
-        letter : (i m : ℕ) → i < t → m < getD len i 0 → getD (getD words i []) m 0 ≡ sec w (sum (take i len) + m)
+        letter : (i m : ℕ) → i < t → m < getD len i 0 → getD (getD words i []) m 0 ≡ sec w (sumOf (take i len) + m)
         letter = word-letter t len w (held .slots) (omega (arith, held .total, held .room))
 
         letters-alike : (m : ℕ) → m < a → sec w (q * a + m) ≡ sec w m
         letters-alike m h =
-            place (sec w) (q * a + m) (sum (take q len) + m) (omega (arith, lead-sum q (omega arith)))
+            place (sec w) (q * a + m) (sumOf (take q len) + m) (omega (arith, lead-sum q (omega arith)))
             ∙ sym (letter q m more (omega (arith, alike)))
             ∙ ap (λ x. getD x m 0) e
             ∙ letter 0 m (omega arith) (omega (arith, leads .lengths 0 z))
-            ∙ place (sec w) (sum (take 0 len) + m) m (omega (arith, lead-none))
+            ∙ place (sec w) (sumOf (take 0 len) + m) m (omega (arith, lead-none))
 
     -- the last word moved behind the leading copies
     pub held-glue : (getD len q 0 ≡ a → ((m : ℕ) → m < a → sec w (q * a + m) ≡ sec w m) → ⊥) → before (take a w) al ≡ true → (v : List ℕ) → Moved (q * a) g l w v →
         Held al u l (t - 1) (set len (q - 1) (a + g)) v
-    unfolding sum
+    unfolding sumOf
     held-glue stops b v m = record {
       slots = rw (length-set len (q - 1) (a + g)) (omega (arith, held .slots));
-      total = ap sum lengths-are ∙ sum-append kept ((a + g) ∷ others) ∙ omega (arith, whole-sum);
+      total = ap sumOf lengths-are ∙ sum-append kept ((a + g) ∷ others) ∙ omega (arith, whole-sum);
       room = omega (arith, held .room, m .long);
       pool = subst (Pool al u) (sym becomes) (pool-glue al u words (held .pool) q (rw count more) lead-word (stops-word stops) (rw lead-first b));
     }

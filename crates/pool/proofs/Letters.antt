@@ -12,7 +12,7 @@ use borrow.Author.Tests.{eq-eqb, ne-eqb}
 use Rattle.words.proofs.Sequence.{sec}
 use Rattle.rings.specs.Counts.{occurs}
 use Rattle.pool.proofs.Pool.{Sorted}
-use Rattle.pool.proofs.Cut.{sum}
+use Rattle.words.specs.Sum.{sumOf}
 
 -- as many letters d as the first count says, then as many d + 1, and so on
 unfoldable pub lettersFrom : ℕ → List ℕ → List ℕ
@@ -24,8 +24,8 @@ abbrev pub letters : List ℕ → List ℕ
 letters cs = lettersFrom 0 cs
 
 -- there are as many letters as the counts say
-pub length-letters : (d : ℕ) (cs : List ℕ) → length (lettersFrom d cs) ≡ sum cs
-unfolding lettersFrom sum
+pub length-letters : (d : ℕ) (cs : List ℕ) → length (lettersFrom d cs) ≡ sumOf cs
+unfolding lettersFrom sumOf
 length-letters d [] = refl
 length-letters d (c ∷ cs) = length-append (replicate c d) (lettersFrom (suc d) cs) ∙ omega (arith, length-replicate c d, length-letters (suc d) cs)
 

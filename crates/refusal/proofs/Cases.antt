@@ -9,7 +9,8 @@ use lib.ListN.{replicate}
 use Rattle.words.specs.Search.{least}
 use Rattle.refusal.specs.declared.Refusal.{Refusal}
 use Rattle.refusal.specs.declared.Refusal.the-variants.{Length, Shades, Sector, Room, OffWalk, Counts, Pair}
-use Rattle.refusal.specs.Order.{Asked, sumOf}
+use Rattle.refusal.specs.Order.{Asked}
+use Rattle.words.specs.Sum.{sumOf}
 use Rattle.refusal.specs.Calls.{oneReading, twoReadings, withRoom, countedFirst, countedNext, walkRecord, walkStart}
 use Rattle.refusal.proofs.Facts.{within, passing, bad, firstBad, sized, paired, shaded, below, roomy, counted, walking}
 use Rattle.refusal.proofs.Chain.{unless, from5, from6, from4, from3, from2, from10, refusalOf}

@@ -8,7 +8,7 @@ use native.Mathlib.Omega.{arith}
 use native.Mathlib.Numerals.{add-one}
 use lib.ListN.{length, getD, drop, drop-of-length-le}
 use lib.Seq.{drop-cons}
-use Rattle.refusal.specs.Order.{sumOf}
+use Rattle.words.specs.Sum.{sumOf}
 
 -- the sum from place i on is the number at i and the sum after it
 pub sum-at : (cs : List ℕ) (i : ℕ) → i < length cs → sumOf (drop i cs) ≡ getD cs i 0 + sumOf (drop (i + 1) cs)

@@ -8,12 +8,13 @@
 -- That no call is given two refusals, nor both a refusal and none: proofs/Unique. The record reader and the listing program have
 -- orders of their own, so the refusals that only they give are never given here.
 -- Assumes nothing.
-use Prim.Native.Nat.{ℕ, _+_, _<_, _≤_}
+use Prim.Native.Nat.{ℕ, _<_, _≤_}
 use mathlib.Core.Path.{_≡_}
 use mathlib.Core.Bool.{Bool, true}
 use mathlib.Core.Option.{Option, none, some}
-use mathlib.Core.List.{List, [], _∷_}
+use mathlib.Core.List.{List}
 use lib.ListN.{length, getD}
+use Rattle.words.specs.Sum.{sumOf}
 use Rattle.words.specs.Readings.{Sized, Shaded}
 use Rattle.refusal.specs.declared.Refusal.{Refusal}
 use Rattle.refusal.specs.declared.Refusal.the-variants.{Length, Shades, Sector, Room, OffWalk, Counts, Cut, Mark, NotHome, Pair, Line, TooMany}
@@ -38,11 +39,6 @@ pub record Asked : Type 0 where
   pub counts : Option (List ℕ)
   -- the ring is a prenecklace, and its class is right
   pub onWalk : Bool
-
--- the exact sum
-unfoldable pub sumOf : List ℕ → ℕ
-sumOf [] = 0
-sumOf (x ∷ xs) = x + sumOf xs
 
 -- there are k counts, and their sum is n
 abbrev pub Fits : List ℕ → ℕ → ℕ → Type 0

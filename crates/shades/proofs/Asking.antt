@@ -1,5 +1,4 @@
 -- What the checks leave to the functions behind them, and the copying of sectors.
---     sum-of                      the sum of the counts is the sum of the lengths that the pool adds up
 --     first-asks, first-found     what filling the output asks, and what it leaves there
 --     next-asks, next-found, next-done    what the search for the next ring asks, and what it answers
 --     Copied, copy-more, copy-end         the copying
@@ -15,33 +14,28 @@ use lib.ListN.{length, getD, take, set, length-set}
 use lib.Seq.{take-all, take-suc, take-suc-set, take-append-seam}
 use Rattle.rings.specs.Counts.{countedNecklace}
 use Rattle.rings.specs.Steps.{firstOf, nextOf}
-use Rattle.refusal.specs.Order.{sumOf, Passed}
+use Rattle.refusal.specs.Order.{Passed}
+use Rattle.words.specs.Sum.{sumOf}
 use Rattle.refusal.specs.Calls.{countedFirst, countedNext}
-use Rattle.pool.proofs.Cut.{sum}
+use Rattle.words.specs.Sum.{sumOf}
 use Rattle.pool.proofs.Letters.{letters}
 use Rattle.completable.specs.Completion.{Fillable}
 use Rattle.counted.specs.declared.Sought.{Sought}
 use Rattle.counted.specs.Above.{Ready, Answers}
 use Rattle.shades.proofs.Least.{first-letters}
 
--- the two sums are one
-pub sum-of : (cs : List ℕ) → sum cs ≡ sumOf cs
-unfolding sum sumOf
-sum-of [] = refl
-sum-of (c ∷ cs) = omega (arith, sum-of cs)
-
 module _ (n k : ℕ) (cs : List ℕ) (passed : Passed (countedFirst n k cs)) where
   -- what filling the output asks
   pub first-asks : (o : List ℕ) → length o ≡ n → Fillable o cs
   first-asks o e = record {
-    room = omega (arith, sum-of cs, passed .0 .1 .1);
+    room = omega (arith, passed .0 .1 .1);
     size = omega (arith, passed .0 .0 .0 .0 .0 .0 .1);
     shades = omega (arith, passed .0 .1 .0, passed .0 .0 .0 .0 .1 .1);
   }
 
   -- what it leaves there is the first ring
-  pub first-found : (l : ℕ) (o : List ℕ) → length o ≡ n → l ≡ sum cs → take l o ≡ letters cs → firstOf (countedNecklace cs) n k ≡ some o
-  first-found l o e q h = first-letters n k cs (passed .0 .1 .0) (sum-of cs ∙ passed .0 .1 .1) ∙ ap some (sym h ∙ take-all l o (omega (arith, q, sum-of cs, passed .0 .1 .1)))
+  pub first-found : (l : ℕ) (o : List ℕ) → length o ≡ n → l ≡ sumOf cs → take l o ≡ letters cs → firstOf (countedNecklace cs) n k ≡ some o
+  first-found l o e q h = first-letters n k cs (passed .0 .1 .0) (passed .0 .1 .1) ∙ ap some (sym h ∙ take-all l o (omega (arith, q, passed .0 .1 .1)))
 
 module _ (w : List ℕ) (k m : ℕ) (cs t rest : List ℕ) (passed : Passed (countedNext w k m cs)) (e : t ≡ w) where
   -- the reading stands in the first sectors of an array
@@ -55,7 +49,7 @@ module _ (w : List ℕ) (k m : ℕ) (cs t rest : List ℕ) (passed : Passed (cou
     size = passed .0 .0 .0 .0 .0 .0 .1;
     shades = passed .0 .0 .0 .0 .1 .1;
     many = passed .0 .1 .0;
-    room = omega (arith, sum-of cs, passed .0 .1 .1, passed .0 .0 .0 .0 .0 .0 .1);
+    room = omega (arith, passed .0 .1 .1, passed .0 .0 .0 .0 .0 .0 .1);
     reading = rw front (record { long = refl; shades = passed .0 .0 .0 .1 });
   }
 

@@ -21,7 +21,7 @@ use Rattle.words.proofs.Readings.{first-is}
 use Rattle.rings.specs.Necklace.{necklace, notAboveTurn}
 use Rattle.rings.specs.Counts.{occurs, hasCounts, countedNecklace}
 use Rattle.rings.specs.Steps.{firstOf}
-use Rattle.pool.proofs.Cut.{sum}
+use Rattle.words.specs.Sum.{sumOf}
 use Rattle.pool.proofs.Pool.{Sorted}
 use Rattle.pool.proofs.Letters.{letters, occurs-append, occurs-letters, sorted-letters, length-letters}
 use Rattle.counted.proofs.Tallying.{occurs-none, occurs-here, occurs-other, counts-end}
@@ -31,7 +31,12 @@ use Rattle.counted.proofs.Blocking.{ring-known, ring-past}
 -- no letter of a sorted word is below its first
 sorted-first : (a : ℕ) (w : List ℕ) (c : ℕ) → Sorted (a ∷ w) → 0 < occurs c (a ∷ w) → a ≤ c
 sorted-first a [] c s h = elim (tri c a) [ lt e ↦ absurd (omega (arith, occurs-other a c [] (λ q. omega arith), occurs-none c)) | eq e ↦ omega arith | gt e ↦ omega arith ]
-sorted-first a (b ∷ w) c s h = elim (tri c a) [ lt e ↦ absurd (omega (arith, s 0 (omega arith), sorted-first b w c (λ i l. s (suc i) (omega arith)) (omega (arith, occurs-other a c (b ∷ w) (λ q. omega arith))))) | eq e ↦ omega arith | gt e ↦ omega arith ]
+sorted-first a (b ∷ w) c s h =
+    elim (tri c a) [
+      | lt e ↦ omega (arith, s 0 (omega arith), sorted-first b w c (λ i l. s (suc i) (omega arith)) (omega (arith, occurs-other a c (b ∷ w) (λ q. omega arith))))
+      | eq e ↦ omega arith
+      | gt e ↦ omega arith
+    ]
 
 -- words with one more of the same letter in front have the same letters behind it
 same-behind : (a : ℕ) (v w : List ℕ) → ((b : ℕ) → occurs b (a ∷ v) ≡ occurs b (a ∷ w)) → (b : ℕ) → occurs b v ≡ occurs b w
@@ -77,7 +82,7 @@ occurs-at (a ∷ w) (suc i) h =
       | gt e ↦ omega (arith, occurs-other a (sec w i) w (λ q. omega arith), occurs-at w i (omega arith))
     ]
 
-module _ (n k : ℕ) (cs : List ℕ) (many : length cs ≡ k) (whole : sum cs ≡ n) where
+module _ (n k : ℕ) (cs : List ℕ) (many : length cs ≡ k) (whole : sumOf cs ≡ n) where
   -- the letters are a reading
   letters-reading : Reading n k (letters cs)
   letters-reading = record { long = length-letters 0 cs ∙ whole; shades = λ i h. below (sec (letters cs) i) (occurs-at (letters cs) i (omega (arith, length-letters 0 cs))) }

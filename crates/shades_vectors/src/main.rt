@@ -31,6 +31,17 @@ fn print_refusal(r: Refusal) {
     print_number(b"refused ", refusal::number(r));
 }
 
+// The line of an answer of `next_ring`, which has left its ring in `out`.
+fn print_answer(answer: NextAnswer, out: &[u8]) {
+    match answer {
+        NextAnswer::Ring => print_ring(out),
+        NextAnswer::Done => {
+            show::text(b"done\n");
+        }
+        NextAnswer::Refused(r) => print_refusal(r),
+    }
+}
+
 // Whether `first_ring` gives a ring; a refusal is printed.
 fn begins(k: usize, counts: &[usize], ring: &mut [u8]) -> bool {
     match shades::first_ring(k, counts, ring) {
@@ -54,7 +65,8 @@ fn copy(to: &mut [u8], from: &[u8]) {
     }
 }
 
-// How many rings there are with these counts, from the first on until the answer is Done; each one's line is printed where they are listed.
+// How many rings there are with these counts, from the first on until there is no other; each one's line is printed where they are listed, and then that
+// of the last answer.
 fn walk(counts: &[usize], ring: &mut [u8], next: &mut [u8], listed: bool) -> usize {
     if !begins(counts.len(), counts, ring) {
         return 0;
@@ -67,6 +79,7 @@ fn walk(counts: &[usize], ring: &mut [u8], next: &mut [u8], listed: bool) -> usi
         rings += 1;
         let answer = shades::next_ring(ring, counts.len(), counts, next);
         let NextAnswer::Ring = answer else {
+            print_answer(answer, next);
             return rings;
         };
         copy(ring, next);
@@ -100,13 +113,8 @@ fn read(digits: &[u8], reading: &mut [u8]) {
 // One call of `next_ring` after the reading whose digits these are.
 fn step(digits: &[u8], k: usize, counts: &[usize], reading: &mut [u8], out: &mut [u8]) {
     read(digits, reading);
-    match shades::next_ring(reading, k, counts, out) {
-        NextAnswer::Ring => print_ring(out),
-        NextAnswer::Done => {
-            show::text(b"done\n");
-        }
-        NextAnswer::Refused(r) => print_refusal(r),
-    }
+    let answer = shades::next_ring(reading, k, counts, out);
+    print_answer(answer, out);
 }
 
 // The same, with room for the reading and the answer.

@@ -1,6 +1,7 @@
 -- Readings as lists of numbers, read from top to bottom: searches over the numbers below n, the order, turns, and all
 -- readings of n sectors and k shades.
 pub mod Search
+pub mod Sum
 pub mod Order
 pub mod Turn
 pub mod Readings

@@ -1,3 +1,5 @@
+-- `completable::completable` meets its contract. The loop: the arrays hold a pool of t words for al and the letters that are left, and t falls.
+-- Assumes nothing.
 use mathlib.Core.Path.{_∙_, sym}
 use mathlib.Core.Bool.{true≢false}
 use native.Mathlib.Omega.{arith}
@@ -14,103 +16,78 @@ Inv-loop al rem w₀ len₀ l t₀ w len t = Testing al rem l t len w
 abbrev μ-loop : tie.MeasureT-loop
 μ-loop al rem w₀ len₀ l t₀ w len t = t
 
--- src/lib.rt:124:18
 slice-aggregate-fill : tie.Need-slice-aggregate-fill Inv-loop μ-loop
 slice-aggregate-fill c = search needs
 
--- src/lib.rt:124:9
 fill-requires : tie.Need-fill-requires Inv-loop μ-loop
 fill-requires c κs = record { room = c .before .before .before .pre .room; size = search needs; shades = c .before .before .before .pre .shades }
 
--- src/lib.rt:126:9
 returns : tie.Need-returns Inv-loop μ-loop
 returns c = λ e. absurd (true≢false e)
 
--- src/lib.rt:129:5
 loop-holds : tie.Need-loop-holds Inv-loop μ-loop
 loop-holds c = test-start _ _ _ _ (c .before .before .before .before .before .before .pre) (search needs) (c .before .before .fill .ensures .0) (c .before .before .fill .ensures .1) (c .if1 .left)
 
--- src/lib.rt:130:17
 array-read-a : tie.Need-array-read-a Inv-loop μ-loop
 array-read-a c = search needs
 
--- src/lib.rt:131:27
 array-share-prefix-w : tie.Need-array-share-prefix-w Inv-loop μ-loop
 array-share-prefix-w c = let l = c .loop in let a = c .before .before .before .before .before .before .before .args in omega (arith, l .inv .size, test-first (a .al .now) (a .rem .now) _ (l .t) (l .len) (l .w) (l .inv))
 
--- src/lib.rt:131:27
 slice-aggregate-stands-before : tie.Need-slice-aggregate-stands-before Inv-loop μ-loop
 slice-aggregate-stands-before c = let l = c .before .loop in let a = c .before .before .before .before .before .before .before .before .args in sym (length-take-le _ _ (test-first (a .al .now) (a .rem .now) _ (l .t) (l .len) (l .w) (l .inv)))
 
--- src/lib.rt:131:13
 stands-before-requires : tie.Need-stands-before-requires Inv-loop μ-loop
 stands-before-requires c κs = search needs
 
--- src/lib.rt:132:13
 returns-2 : tie.Need-returns-2 Inv-loop μ-loop
 returns-2 c = λ e. absurd (true≢false e)
 
--- src/lib.rt:134:25
 slice-aggregate-leading : tie.Need-slice-aggregate-leading Inv-loop μ-loop
 slice-aggregate-leading c = sym (c .before .before .before .before .loop .inv .size)
 
--- src/lib.rt:134:29
 slice-aggregate-leading-2 : tie.Need-slice-aggregate-leading-2 Inv-loop μ-loop
 slice-aggregate-leading-2 c = sym (c .before .before .before .before .before .loop .inv .slots)
 
--- src/lib.rt:134:13
 leading-requires : tie.Need-leading-requires Inv-loop μ-loop
 leading-requires c κs = let l = c .before .before .before .before .before .loop in let a = c .before .before .before .before .before .before .before .before .before .before .before .before .args in test-laid (a .al .now) (a .rem .now) _ (l .t) (l .len) (l .w) (l .inv)
 
--- src/lib.rt:136:13
 returns-3 : tie.Need-returns-3 Inv-loop μ-loop
 returns-3 c = let l = c .before .before .before .before .before .before .before .loop in let a = c .before .before .before .before .before .before .before .before .before .before .before .before .before .before .args in λ e. test-stuck (a .al .now) (a .rem .now) _ (l .t) (l .len) (l .w) (l .inv) _ (c .before .leading .ensures) (c .if3 .taken) (sym (c .before .before .before .before .before .stands-before .ensures) ∙ not-false _ (c .before .before .before .before .if2 .left))
 
--- src/lib.rt:138:21
 sub-g : tie.Need-sub-g Inv-loop μ-loop
 sub-g c = search needs
 
--- src/lib.rt:138:17
 mul-g : tie.Need-mul-g Inv-loop μ-loop
 mul-g c = omega (arith, c .before .before .before .before .before .before .before .loop .inv .held .slots, c .before .before .before .before .before .before .before .loop .inv .slots)
 
--- src/lib.rt:138:17
 array-read-g : tie.Need-array-read-g Inv-loop μ-loop
 array-read-g c = omega (arith, c .before .before .before .before .before .before .before .loop .inv .held .slots, c .before .before .before .before .before .before .before .loop .inv .slots, c .before .leading .ensures .some, c .before .leading .ensures .fits)
 
--- src/lib.rt:139:22
 mul-moved : tie.Need-mul-moved Inv-loop μ-loop
 mul-moved c = let l = c .before .before .before .before .before .before .before .loop in let a = c .before .before .before .before .before .before .before .before .before .before .before .before .before .before .args in omega (arith, test-room (a .al .now) (a .rem .now) _ (l .t) (l .len) (l .w) (l .inv) _ (c .before .leading .ensures) (c .if3 .left), l .inv .few)
 
--- src/lib.rt:139:13
 moved-requires : tie.Need-moved-requires Inv-loop μ-loop
 moved-requires c κs = let l = c .before .before .before .before .before .before .before .loop in let a = c .before .before .before .before .before .before .before .before .before .before .before .before .before .before .args in (test-room (a .al .now) (a .rem .now) _ (l .t) (l .len) (l .w) (l .inv) _ (c .before .leading .ensures) (c .if3 .left), l .inv .few)
 
--- src/lib.rt:140:22
 add-len : tie.Need-add-len Inv-loop μ-loop
 add-len c = let l = c .before .before .before .before .before .before .before .before .loop in let a = c .before .before .before .before .before .before .before .before .before .before .before .before .before .before .before .args in omega (arith, test-sum (a .al .now) (a .rem .now) _ (l .t) (l .len) (l .w) (l .inv) _ (c .before .before .leading .ensures) (c .before .if3 .left))
 
--- src/lib.rt:140:13
 sub-len : tie.Need-sub-len Inv-loop μ-loop
 sub-len c = search needs
 
--- src/lib.rt:140:9
 mul-len : tie.Need-mul-len Inv-loop μ-loop
 mul-len c = omega (arith, c .before .before .before .before .before .before .before .before .loop .inv .held .slots, c .before .before .before .before .before .before .before .before .loop .inv .slots, c .before .before .leading .ensures .fits)
 
--- src/lib.rt:140:9
 array-write-len : tie.Need-array-write-len Inv-loop μ-loop
 array-write-len c = omega (arith, c .before .before .before .before .before .before .before .before .loop .inv .held .slots, c .before .before .before .before .before .before .before .before .loop .inv .slots, c .before .before .leading .ensures .some, c .before .before .leading .ensures .fits)
 
--- src/lib.rt:141:9
 sub-t : tie.Need-sub-t Inv-loop μ-loop
 sub-t c = search needs
 
--- src/lib.rt:129:5
 loop-less : tie.Need-loop-less Inv-loop μ-loop
 loop-less c = omega (arith, c .before .before .leading .ensures .some, c .before .before .leading .ensures .fits)
 
--- src/lib.rt:129:5
 loop-again : tie.Need-loop-again Inv-loop μ-loop
 loop-again c = let l = c .before .before .before .before .before .before .before .before .loop in let a = c .before .before .before .before .before .before .before .before .before .before .before .before .before .before .before .args in test-glue (a .al .now) (a .rem .now) _ (l .t) (l .len) (l .w) (l .inv) _ (c .before .before .leading .ensures) (c .before .if3 .left) (sym (c .before .before .before .before .before .before .stands-before .ensures) ∙ not-false _ (c .before .before .before .before .before .if2 .left)) _ (search needs) (c .moved .ensures)
 

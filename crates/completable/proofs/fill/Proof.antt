@@ -1,3 +1,5 @@
+-- `completable::fill` meets its contract. The loop: the letters of the first b counts are written, l in all.
+-- Assumes nothing.
 use Prim.Native.Nat.{_-_}
 use native.Mathlib.Omega.{arith}
 use lib.ListN.{length}
@@ -12,47 +14,36 @@ Inv-loop w₀ counts l₀ b₀ w l b = Filling w₀ counts w l b
 abbrev μ-loop : tie.MeasureT-loop
 μ-loop w₀ counts l₀ b₀ w l b = length counts - b
 
--- src/lib.rt:70:5
 loop-holds : tie.Need-loop-holds Inv-loop μ-loop
 loop-holds c = fill-start _ _
 
--- src/lib.rt:71:21
 mul-e : tie.Need-mul-e Inv-loop μ-loop
 mul-e c = search needs
 
--- src/lib.rt:71:21
 shared-slice-read-e : tie.Need-shared-slice-read-e Inv-loop μ-loop
 shared-slice-read-e c = search needs
 
--- src/lib.rt:71:17
 add-e : tie.Need-add-e Inv-loop μ-loop
 add-e c = let l = c .before .before .loop in let a = c .before .before .before .before .before .args in omega (arith, fill-room (a .w .now) (a .counts .now) (l .w) (l .l) (l .b) (l .inv) (c .before .loop-test .taken) (c .before .before .before .before .before .pre .room), l .inv .long)
 
--- src/lib.rt:72:22
 cast-put : tie.Need-cast-put Inv-loop μ-loop
 cast-put c = let l = c .before .before .before .loop in let a = c .before .before .before .before .before .before .args in omega (arith, fill-room (a .w .now) (a .counts .now) (l .w) (l .l) (l .b) (l .inv) (c .before .before .loop-test .taken) (c .before .before .before .before .before .before .pre .room), l .inv .long, c .before .before .before .before .before .before .pre .size, c .before .before .before .before .before .before .pre .shades)
 
--- src/lib.rt:72:9
 put-requires : tie.Need-put-requires Inv-loop μ-loop
 put-requires c κs = let l = c .before .before .before .loop in let a = c .before .before .before .before .before .before .args in (omega arith, fill-room (a .w .now) (a .counts .now) (l .w) (l .l) (l .b) (l .inv) (c .before .before .loop-test .taken) (c .before .before .before .before .before .before .pre .room))
 
--- src/lib.rt:74:9
 add-b : tie.Need-add-b Inv-loop μ-loop
 add-b c = search needs
 
--- src/lib.rt:70:5
 loop-less : tie.Need-loop-less Inv-loop μ-loop
 loop-less c = search needs
 
--- src/lib.rt:70:5
 loop-again : tie.Need-loop-again Inv-loop μ-loop
 loop-again c = let l = c .before .before .before .before .before .before .loop in let a = c .before .before .before .before .before .before .before .before .before .args in fill-more (a .w .now) (a .counts .now) (l .w) (l .l) (l .b) (l .inv) (c .before .before .before .before .before .loop-test .taken) _ (search needs) (c .before .before .put .ensures)
 
--- src/lib.rt:64:1
 same-length : tie.Need-same-length Inv-loop μ-loop
 same-length c = c .before .loop .inv .long
 
--- src/lib.rt:64:1
 returns : tie.Need-returns Inv-loop μ-loop
 returns c = fill-end _ _ _ _ _ (c .before .loop .inv) (c .loop-test .left)
 

@@ -1,3 +1,5 @@
+-- `completable::leading` meets its contract. The loop: the first q words are copies of the first.
+-- Assumes nothing.
 use Prim.Native.Nat.{_-_}
 use mathlib.Core.Path.{_∙_, sym}
 use native.Mathlib.Omega.{arith}
@@ -15,71 +17,54 @@ Inv-loop w len t a q₀ q = Counted t len w q
 abbrev μ-loop : tie.MeasureT-loop
 μ-loop w len t a q₀ q = t - q
 
--- src/lib.rt:84:13
 shared-slice-read-a : tie.Need-shared-slice-read-a Inv-loop μ-loop
 shared-slice-read-a c = search needs
 
--- src/lib.rt:86:5
 loop-holds : tie.Need-loop-holds Inv-loop μ-loop
 loop-holds c = lead-start _ _ _ (c .before .before .before .pre)
 
--- src/lib.rt:87:12
 mul-if1 : tie.Need-mul-if1 Inv-loop μ-loop
 mul-if1 c = search needs
 
--- src/lib.rt:87:12
 shared-slice-read-if1 : tie.Need-shared-slice-read-if1 Inv-loop μ-loop
 shared-slice-read-if1 c = search needs
 
--- src/lib.rt:88:13
 returns : tie.Need-returns Inv-loop μ-loop
 returns c = let l = c .before .before .before .loop in let s = c .before .before .before .before .before .before .before in lead-length (s .args .t) (s .args .len .now) (s .args .w .now) (l .q) (s .pre) (l .inv) (c .before .before .loop-test .taken) (c .if1 .taken)
 
--- src/lib.rt:90:17
 mul-o : tie.Need-mul-o Inv-loop μ-loop
 mul-o c = let l = c .before .before .before .loop in let s = c .before .before .before .before .before .before .before in let e = lead-fits (s .args .t) (s .args .len .now) (s .args .w .now) (l .q) (s .pre) (l .inv) (c .before .before .loop-test .taken) (c .if1 .left) in omega (arith, e, s .pre .few)
 
--- src/lib.rt:91:29
 add-same-word : tie.Need-add-same-word Inv-loop μ-loop
 add-same-word c = let l = c .before .before .before .loop in let s = c .before .before .before .before .before .before .before in let e = lead-fits (s .args .t) (s .args .len .now) (s .args .w .now) (l .q) (s .pre) (l .inv) (c .before .before .loop-test .taken) (c .if1 .left) in omega (arith, e, s .pre .few)
 
--- src/lib.rt:91:23
 sub-same-word : tie.Need-sub-same-word Inv-loop μ-loop
 sub-same-word c = search needs
 
--- src/lib.rt:91:23
 part-same-word-start : tie.Need-part-same-word-start Inv-loop μ-loop
 part-same-word-start c = search needs
 
--- src/lib.rt:91:23
 part-same-word-end : tie.Need-part-same-word-end Inv-loop μ-loop
 part-same-word-end c = let l = c .before .before .before .loop in let s = c .before .before .before .before .before .before .before in lead-fits (s .args .t) (s .args .len .now) (s .args .w .now) (l .q) (s .pre) (l .inv) (c .before .before .loop-test .taken) (c .if1 .left)
 
--- src/lib.rt:91:37
 slice-aggregate-same-word : tie.Need-slice-aggregate-same-word Inv-loop μ-loop
 slice-aggregate-same-word c = let l = c .before .before .before .before .before .loop in let s = c .before .before .before .before .before .before .before .before .before in sym (length-take-le (getD (s .args .len .now) 0 0) (s .args .w .now) (omega (arith, lead-fits (s .args .t) (s .args .len .now) (s .args .w .now) (l .q) (s .pre) (l .inv) (c .before .before .before .before .loop-test .taken) (c .before .before .if1 .left))))
 
--- src/lib.rt:91:13
 same-word-requires : tie.Need-same-word-requires Inv-loop μ-loop
 same-word-requires c κs = search needs
 
--- src/lib.rt:92:13
 returns-2 : tie.Need-returns-2 Inv-loop μ-loop
 returns-2 c = let l = c .before .before .before .before .before .before .before .loop in let s = c .before .before .before .before .before .before .before .before .before .before .before in let t = c .before .before .before .before .before .before .loop-test .taken in let e = c .before .before .before .before .if1 .left in lead-letters (s .args .t) (s .args .len .now) (s .args .w .now) (l .q) (s .pre) (l .inv) t (unlike (s .args .t) (s .args .len .now) (s .args .w .now) (l .q) (s .pre) (l .inv) t e (sym (c .before .same-word .ensures) ∙ not-true _ (c .if2 .taken)))
 
--- src/lib.rt:94:9
 add-q : tie.Need-add-q Inv-loop μ-loop
 add-q c = search needs
 
--- src/lib.rt:86:5
 loop-less : tie.Need-loop-less Inv-loop μ-loop
 loop-less c = search needs
 
--- src/lib.rt:86:5
 loop-again : tie.Need-loop-again Inv-loop μ-loop
 loop-again c = let l = c .before .before .before .before .before .before .before .loop in let s = c .before .before .before .before .before .before .before .before .before .before .before in let t = c .before .before .before .before .before .before .loop-test .taken in let e = c .before .before .before .before .if1 .left in lead-more (s .args .t) (s .args .len .now) (s .args .w .now) (l .q) (s .pre) (l .inv) t e (alike (s .args .t) (s .args .len .now) (s .args .w .now) (l .q) (s .pre) (l .inv) t (sym (c .before .same-word .ensures) ∙ not-false _ (c .if2 .left)))
 
--- src/lib.rt:80:1
 returns-3 : tie.Need-returns-3 Inv-loop μ-loop
 returns-3 c = lead-all _ _ _ _ (c .before .loop .inv) (c .loop-test .left)
 

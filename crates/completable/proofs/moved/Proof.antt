@@ -1,3 +1,5 @@
+-- `completable::moved` meets its contract. The loop: the places from o up to i have their new letters.
+-- Assumes nothing.
 use Prim.Native.Nat.{_-_}
 use mathlib.Core.Logic.{⊎-elim}
 use native.Mathlib.Omega.{arith}
@@ -12,62 +14,48 @@ Inv-loop o g l v w₀ i₀ w i = Moving o g l v w i
 abbrev μ-loop : tie.MeasureT-loop
 μ-loop o g l v w₀ i₀ w i = l - i
 
--- src/lib.rt:106:5
 loop-holds : tie.Need-loop-holds Inv-loop μ-loop
 loop-holds c = moving-start _ _ _ _ (omega arith)
 
--- src/lib.rt:107:16
 add-if1 : tie.Need-add-if1 Inv-loop μ-loop
 add-if1 c = search needs
 
--- src/lib.rt:108:22
 sub-w : tie.Need-sub-w Inv-loop μ-loop
 sub-w c = search needs
 
--- src/lib.rt:108:31
 sub-w-2 : tie.Need-sub-w-2 Inv-loop μ-loop
 sub-w-2 c = search needs
 
--- src/lib.rt:108:22
 add-w : tie.Need-add-w Inv-loop μ-loop
 add-w c = search needs
 
--- src/lib.rt:108:20
 array-read-w : tie.Need-array-read-w Inv-loop μ-loop
 array-read-w c = search needs
 
--- src/lib.rt:108:13
 array-write-w : tie.Need-array-write-w Inv-loop μ-loop
 array-write-w c = search needs
 
--- src/lib.rt:110:22
 sub-w-3 : tie.Need-sub-w-3 Inv-loop μ-loop
 sub-w-3 c = search needs
 
--- src/lib.rt:110:20
 array-read-w-2 : tie.Need-array-read-w-2 Inv-loop μ-loop
 array-read-w-2 c = search needs
 
--- src/lib.rt:110:13
 array-write-w-2 : tie.Need-array-write-w-2 Inv-loop μ-loop
 array-write-w-2 c = search needs
 
--- src/lib.rt:112:9
 add-i : tie.Need-add-i Inv-loop μ-loop
 add-i c = search needs
 
--- src/lib.rt:106:5
 loop-less : tie.Need-loop-less Inv-loop μ-loop
 loop-less c = search needs
 
--- src/lib.rt:106:5
 loop-again : tie.Need-loop-again Inv-loop μ-loop
 loop-again c =
     let l = c .before .before .loop in let a = c .before .before .before .args in
     ⊎-elim (λ m. rw (m .1) (moving-mid (a .o) (a .g) (a .l) _ (l .w) (l .i) (l .inv) (c .before .before .before .pre .0) (search needs) (c .before .loop-test .taken) (m .0 .taken)))
     (λ m. rw (m .1) (moving-high (a .o) (a .g) (a .l) _ (l .w) (l .i) (l .inv) (c .before .before .before .pre .0) (search needs) (c .before .loop-test .taken) (m .0 .left))) (c .if1 .came)
 
--- src/lib.rt:100:1
 returns : tie.Need-returns Inv-loop μ-loop
 returns c = moving-end _ _ _ _ _ _ (c .before .before .pre .0) (c .before .loop .inv) (c .loop-test .left)
 

@@ -1,3 +1,5 @@
+-- `completable::put` meets its contract. The loop: the letter is written from i up to j.
+-- Assumes nothing.
 use Prim.Native.Nat.{_-_}
 use native.Mathlib.Omega.{arith}
 use borrow.Author.Needs.{needs}
@@ -11,31 +13,24 @@ Inv-loop w₀ i e x j₀ w j = Putting w₀ i e x w j
 abbrev μ-loop : tie.MeasureT-loop
 μ-loop w₀ i e x j₀ w j = e - j
 
--- src/lib.rt:57:5
 loop-holds : tie.Need-loop-holds Inv-loop μ-loop
 loop-holds c = put-start _ _ _ _ (c .pre .0)
 
--- src/lib.rt:58:9
 slice-write-w : tie.Need-slice-write-w Inv-loop μ-loop
 slice-write-w c = omega (arith, c .before .loop .inv .long)
 
--- src/lib.rt:59:9
 add-j : tie.Need-add-j Inv-loop μ-loop
 add-j c = search needs
 
--- src/lib.rt:57:5
 loop-less : tie.Need-loop-less Inv-loop μ-loop
 loop-less c = search needs
 
--- src/lib.rt:57:5
 loop-again : tie.Need-loop-again Inv-loop μ-loop
 loop-again c = put-more _ _ _ _ _ _ (c .before .before .pre .1) (c .before .loop .inv) (c .loop-test .taken)
 
--- src/lib.rt:52:1
 same-length : tie.Need-same-length Inv-loop μ-loop
 same-length c = c .before .loop .inv .long
 
--- src/lib.rt:52:1
 returns : tie.Need-returns Inv-loop μ-loop
 returns c = put-end _ _ _ _ _ _ (c .before .loop .inv) (c .loop-test .left)
 

@@ -1,3 +1,5 @@
+-- `completable::same_word` meets its contract. The loop: v and w, of one length, have the same letters below i.
+-- Assumes nothing.
 use Prim.Native.Nat.{_≤_, _-_}
 use native.Mathlib.Omega.{arith}
 use lib.ListN.{length}
@@ -12,39 +14,30 @@ Inv-loop v w i₀ i = (i ≤ length v) × Agree v w i
 abbrev μ-loop : tie.MeasureT-loop
 μ-loop v w i₀ i = length v - i
 
--- src/lib.rt:39:9
 returns : tie.Need-returns Inv-loop μ-loop
 returns c = same-lengths _ _ (c .if1 .taken)
 
--- src/lib.rt:42:5
 loop-holds : tie.Need-loop-holds Inv-loop μ-loop
 loop-holds c = (omega arith, λ m h. absurd (omega arith))
 
--- src/lib.rt:43:12
 shared-slice-read-if2 : tie.Need-shared-slice-read-if2 Inv-loop μ-loop
 shared-slice-read-if2 c = search needs
 
--- src/lib.rt:43:20
 shared-slice-read-if2-2 : tie.Need-shared-slice-read-if2-2 Inv-loop μ-loop
 shared-slice-read-if2-2 c = search needs
 
--- src/lib.rt:44:13
 returns-2 : tie.Need-returns-2 Inv-loop μ-loop
 returns-2 c = same-not _ _ _ (c .if2 .taken)
 
--- src/lib.rt:46:9
 add-i : tie.Need-add-i Inv-loop μ-loop
 add-i c = search needs
 
--- src/lib.rt:42:5
 loop-less : tie.Need-loop-less Inv-loop μ-loop
 loop-less c = search needs
 
--- src/lib.rt:42:5
 loop-again : tie.Need-loop-again Inv-loop μ-loop
 loop-again c = let l = c .before .before .before .before .loop in let a = c .before .before .before .before .before .before .args in (omega arith, agree-more (a .v .now) (a .w .now) (l .i) (l .inv .1) (c .if2 .left))
 
--- src/lib.rt:35:1
 returns-3 : tie.Need-returns-3 Inv-loop μ-loop
 returns-3 c = same-end _ _ _ (c .before .before .if1 .left) (c .loop-test .left) (c .before .loop .inv .1)
 

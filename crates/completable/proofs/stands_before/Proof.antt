@@ -1,3 +1,5 @@
+-- `completable::stands_before` meets its contract. The loop: v and w have the same letters below j, and neither ends before it.
+-- Assumes nothing.
 use Prim.Native.Nat.{_≤_, _-_}
 use native.Mathlib.Omega.{arith}
 use lib.ListN.{length}
@@ -12,51 +14,39 @@ Inv-loop v w j₀ j = (j ≤ length v) × (j ≤ length w) × Agree v w j
 abbrev μ-loop : tie.MeasureT-loop
 μ-loop v w j₀ j = length w - j
 
--- src/lib.rt:19:5
 loop-holds : tie.Need-loop-holds Inv-loop μ-loop
 loop-holds c = (omega arith, omega arith, λ m h. absurd (omega arith))
 
--- src/lib.rt:21:13
 returns : tie.Need-returns Inv-loop μ-loop
 returns c = let l = c .before .before .loop in before-here _ _ (l .j) (c .before .loop-test .taken) (l .inv .0) (l .inv .2) (λ h. absurd (omega arith))
 
--- src/lib.rt:23:12
 shared-slice-read-if2 : tie.Need-shared-slice-read-if2 Inv-loop μ-loop
 shared-slice-read-if2 c = search needs
 
--- src/lib.rt:23:19
 shared-slice-read-if2-2 : tie.Need-shared-slice-read-if2-2 Inv-loop μ-loop
 shared-slice-read-if2-2 c = search needs
 
--- src/lib.rt:24:13
 returns-2 : tie.Need-returns-2 Inv-loop μ-loop
 returns-2 c = let l = c .before .before .before .before .before .loop in before-here _ _ (l .j) (c .before .before .before .before .loop-test .taken) (l .inv .0) (l .inv .2) (λ h. c .if2 .taken)
 
--- src/lib.rt:26:12
 shared-slice-read-if3 : tie.Need-shared-slice-read-if3 Inv-loop μ-loop
 shared-slice-read-if3 c = search needs
 
--- src/lib.rt:26:19
 shared-slice-read-if3-2 : tie.Need-shared-slice-read-if3-2 Inv-loop μ-loop
 shared-slice-read-if3-2 c = search needs
 
--- src/lib.rt:27:13
 returns-3 : tie.Need-returns-3 Inv-loop μ-loop
 returns-3 c = let l = c .before .before .before .before .before .before .before .before .loop in not-before-here _ _ (l .j) (omega arith) (l .inv .1) (l .inv .2) (λ h. c .if3 .taken)
 
--- src/lib.rt:29:9
 add-j : tie.Need-add-j Inv-loop μ-loop
 add-j c = search needs
 
--- src/lib.rt:19:5
 loop-less : tie.Need-loop-less Inv-loop μ-loop
 loop-less c = search needs
 
--- src/lib.rt:19:5
 loop-again : tie.Need-loop-again Inv-loop μ-loop
 loop-again c = let l = c .before .before .before .before .before .before .before .before .loop in let a = c .before .before .before .before .before .before .before .before .before .args in (omega arith, omega arith, agree-more (a .v .now) (a .w .now) (l .j) (l .inv .2) (omega (arith, c .before .before .before .if2 .left, c .if3 .left)))
 
--- src/lib.rt:15:1
 returns-4 : tie.Need-returns-4 Inv-loop μ-loop
 returns-4 c = let l = c .before .loop in not-before-end _ _ (l .j) (c .loop-test .left) (l .inv .0) (l .inv .2)
 

@@ -1,3 +1,5 @@
+-- `counted::above` meets its contract. Where the reading is no prenecklace, its longest beginning that is one is repeated first.
+-- Assumes nothing.
 use mathlib.Core.Path.{_≡_, _∙_, sym}
 use native.Mathlib.Omega.{arith}
 use lib.ListN.{length}
@@ -7,59 +9,45 @@ use Rattle.counted.proofs.Seeking.{above-opening, above-asks, above-siz
 use Rattle.counted.proofs.above.Statement.{statement}
 use Rattle.counted.proofs.above.Tie as tie
 
--- src/lib.rt:227:22
 array-share-prefix-start : tie.Need-array-share-prefix-start
 array-share-prefix-start c = search needs
 
--- src/lib.rt:227:22
 slice-aggregate-scan : tie.Need-slice-aggregate-scan
 slice-aggregate-scan c = sym (c .before .before .pre .reading .long)
 
--- src/lib.rt:227:9
 scan-requires : tie.Need-scan-requires
 scan-requires c κs = omega (arith, c .before .before .pre .reading .long, c .before .before .pre .pos)
 
--- src/lib.rt:230:9
 seek-requires : tie.Need-seek-requires
 seek-requires c κs = let a = c .before .before .before .before .before .args in let z : length (a .t1) ≡ 64 = search needs in above-opening (a .counts .now) (a .n) (a .k) (a .t1) z (c .before .before .before .before .before .pre) (c .before .before .scan .result .end) (c .before .before .scan .result .lyn) (c .before .before .scan .ensures) (c .if1 .taken)
 
--- src/lib.rt:230:9
 returns : tie.Need-returns
 returns c = c .seek .ensures
 
--- src/lib.rt:233:12
 array-borrow-prefix-ring : tie.Need-array-borrow-prefix-ring
 array-borrow-prefix-ring c = search needs
 
--- src/lib.rt:233:12
 slice-aggregate-repeat : tie.Need-slice-aggregate-repeat
 slice-aggregate-repeat c = sym (c .before .before .before .before .before .before .pre .reading .long)
 
--- src/lib.rt:233:5
 repeat-requires : tie.Need-repeat-requires
 repeat-requires c κs = let a = c .before .before .before .before .before .before .args in let z : length (a .t1) ≡ 64 = search needs in above-asks (a .counts .now) (a .n) (a .k) (a .t1) z (c .before .before .before .before .before .before .pre) (c .before .before .before .scan .result .end) (c .before .before .before .scan .result .lyn) (c .before .before .before .scan .ensures)
 
--- src/lib.rt:234:19
 array-share-prefix-ring : tie.Need-array-share-prefix-ring
 array-share-prefix-ring c = let a = c .before .before .before .before .before .before .before .before .args in let z : length (a .t1) ≡ 64 = search needs in omega (arith, above-size (a .counts .now) (a .n) (a .k) (a .t1) z (c .before .before .before .before .before .before .before .before .pre) (c .before .before .before .before .before .scan .result .end) (c .before .before .before .before .before .scan .result .lyn) (c .before .before .before .before .before .scan .ensures) (c .before .before .before .if1 .left) _ (c .before .repeat .ensures), c .before .before .before .before .before .before .before .before .pre .size)
 
--- src/lib.rt:234:19
 slice-aggregate-is-counted : tie.Need-slice-aggregate-is-counted
 slice-aggregate-is-counted c = let a = c .before .before .before .before .before .before .before .before .before .args in let z : length (a .t1) ≡ 64 = search needs in sym (length-take-le _ _ (omega (arith, above-size (a .counts .now) (a .n) (a .k) (a .t1) z (c .before .before .before .before .before .before .before .before .before .pre) (c .before .before .before .before .before .before .scan .result .end) (c .before .before .before .before .before .before .scan .result .lyn) (c .before .before .before .before .before .before .scan .ensures) (c .before .before .before .before .if1 .left) _ (c .before .before .repeat .ensures), c .before .before .before .before .before .before .before .before .before .pre .size)))
 
--- src/lib.rt:234:8
 is-counted-requires : tie.Need-is-counted-requires
 is-counted-requires c κs = let a = c .before .before .before .before .before .before .before .before .before .args in let z : length (a .t1) ≡ 64 = search needs in above-run (a .counts .now) (a .n) (a .k) (a .t1) z (c .before .before .before .before .before .before .before .before .before .pre) (c .before .before .before .before .before .before .scan .result .end) (c .before .before .before .before .before .before .scan .result .lyn) (c .before .before .before .before .before .before .scan .ensures) (c .before .before .before .before .if1 .left) _ (c .before .before .repeat .ensures)
 
--- src/lib.rt:235:9
 returns-2 : tie.Need-returns-2
 returns-2 c = let a = c .before .before .before .before .before .before .before .before .before .before .before .args in let z : length (a .t1) ≡ 64 = search needs in above-found (a .counts .now) (a .n) (a .k) (a .t1) z (c .before .before .before .before .before .before .before .before .before .before .before .pre) (c .before .before .before .before .before .before .before .before .scan .result .end) (c .before .before .before .before .before .before .before .before .scan .result .lyn) (c .before .before .before .before .before .before .before .before .scan .ensures) (c .before .before .before .before .before .before .if1 .left) _ (c .before .before .before .before .repeat .ensures) (sym (c .if2 .taken) ∙ c .before .is-counted .ensures)
 
--- src/lib.rt:240:5
 seek-requires-2 : tie.Need-seek-requires-2
 seek-requires-2 c κs = let a = c .before .before .before .before .before .before .before .before .before .before .before .args in let z : length (a .t1) ≡ 64 = search needs in above-on (a .counts .now) (a .n) (a .k) (a .t1) z (c .before .before .before .before .before .before .before .before .before .before .before .pre) (c .before .before .before .before .before .before .before .before .scan .result .end) (c .before .before .before .before .before .before .before .before .scan .result .lyn) (c .before .before .before .before .before .before .before .before .scan .ensures) (c .before .before .before .before .before .before .if1 .left) _ (c .before .before .before .before .repeat .ensures) (sym (c .if2 .left) ∙ c .before .is-counted .ensures)
 
--- src/lib.rt:223:1
 returns-3 : tie.Need-returns-3
 returns-3 c = let a = c .before .before .before .before .before .before .before .before .before .before .before .before .args in let z : length (a .t1) ≡ 64 = search needs in above-answers (a .counts .now) (a .n) (a .k) (a .t1) z (c .before .before .before .before .before .before .before .before .before .before .before .before .pre) (c .before .before .before .before .before .before .before .before .before .scan .result .end) (c .before .before .before .before .before .before .before .before .before .scan .result .lyn) (c .before .before .before .before .before .before .before .before .before .scan .ensures) (c .before .before .before .before .before .before .before .if1 .left) _ (c .before .before .before .before .before .repeat .ensures) (sym (c .before .if2 .left) ∙ c .before .before .is-counted .ensures) _ (c .seek2 .ensures)
 

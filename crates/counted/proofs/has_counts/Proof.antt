@@ -1,3 +1,5 @@
+-- `counted::has_counts` meets its contract. The loop: the first b shades stand in s as often as their counts say.
+-- Assumes nothing.
 use Prim.Native.Nat.{ℕ, _≤_, _<_, _-_}
 use mathlib.Core.Path.{_≡_, _∙_, sym}
 use native.Mathlib.Omega.{arith}
@@ -15,39 +17,30 @@ Inv-loop s counts b₀ b = (b ≤ length counts) × ((x : ℕ) → x < b → occ
 abbrev μ-loop : tie.MeasureT-loop
 μ-loop s counts b₀ b = length counts - b
 
--- src/lib.rt:36:5
 loop-holds : tie.Need-loop-holds Inv-loop μ-loop
 loop-holds c = (omega arith, λ x h. absurd (omega arith))
 
--- src/lib.rt:37:12
 tally-requires : tie.Need-tally-requires Inv-loop μ-loop
 tally-requires c κs = search needs
 
--- src/lib.rt:37:27
 mul-if1 : tie.Need-mul-if1 Inv-loop μ-loop
 mul-if1 c = search needs
 
--- src/lib.rt:37:27
 shared-slice-read-if1 : tie.Need-shared-slice-read-if1 Inv-loop μ-loop
 shared-slice-read-if1 c = search needs
 
--- src/lib.rt:38:13
 returns : tie.Need-returns Inv-loop μ-loop
 returns c = let a = c .before .before .before .before .before .before .before .args in counts-not (a .counts .now) (a .s .now) (c .before .before .before .before .loop .b) (c .before .before .before .loop-test .taken) (λ e. c .if1 .taken (c .before .before .tally .ensures ∙ e))
 
--- src/lib.rt:40:9
 add-b : tie.Need-add-b Inv-loop μ-loop
 add-b c = search needs
 
--- src/lib.rt:36:5
 loop-less : tie.Need-loop-less Inv-loop μ-loop
 loop-less c = search needs
 
--- src/lib.rt:36:5
 loop-again : tie.Need-loop-again Inv-loop μ-loop
 loop-again c = (omega arith, below-more _ _ (c .before .before .before .before .loop .inv .1) (sym (c .before .before .tally .ensures) ∙ c .if1 .left))
 
--- src/lib.rt:32:1
 returns-2 : tie.Need-returns-2 Inv-loop μ-loop
 returns-2 c = let a = c .before .before .before .before .args in counts-end (a .counts .now) (a .s .now) (c .before .loop .b) (c .loop-test .left) (c .before .loop .inv .1)
 

@@ -1,21 +1,19 @@
+-- `counted::is_counted` meets its contract. A prenecklace is a necklace exactly where its lyn divides its length.
+-- Assumes nothing.
 use borrow.Author.Needs.{needs}
 use Rattle.counted.proofs.Tallying.{counted-not, counted-is}
 use Rattle.counted.proofs.is_counted.Statement.{statement}
 use Rattle.counted.proofs.is_counted.Tie as tie
 
--- src/lib.rt:50:8
 rem-if1 : tie.Need-rem-if1
 rem-if1 c = search needs
 
--- src/lib.rt:51:9
 returns : tie.Need-returns
 returns c = let a = c .before .before .before .args in counted-not (a .counts .now) (a .s .now) (a .p) (c .before .before .before .pre) (c .if1 .taken)
 
--- src/lib.rt:53:5
 has-counts-requires : tie.Need-has-counts-requires
 has-counts-requires c κs = search needs
 
--- src/lib.rt:46:1
 returns-2 : tie.Need-returns-2
 returns-2 c = let a = c .before .before .before .before .args in counted-is (a .counts .now) (a .s .now) (a .p) (c .before .before .before .before .pre) (c .before .if1 .left) _ (c .has-counts .ensures)
 

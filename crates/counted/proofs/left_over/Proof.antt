@@ -1,3 +1,5 @@
+-- `counted::left_over` meets its contract. The loop: rem has what the first b counts leave beside u.
+-- Assumes nothing.
 use Prim.Native.Nat.{_-_}
 use mathlib.Core.Path.{sym}
 use native.Mathlib.Omega.{arith}
@@ -14,59 +16,45 @@ Inv-loop counts u rem₀ b₀ rem b = Leaving counts u rem b
 abbrev μ-loop : tie.MeasureT-loop
 μ-loop counts u rem₀ b₀ rem b = length counts - b
 
--- src/lib.rt:108:5
 loop-holds : tie.Need-loop-holds Inv-loop μ-loop
 loop-holds c = leave-start _ _
 
--- src/lib.rt:109:13
 tally-requires : tie.Need-tally-requires Inv-loop μ-loop
 tally-requires c κs = search needs
 
--- src/lib.rt:110:12
 mul-if1 : tie.Need-mul-if1 Inv-loop μ-loop
 mul-if1 c = search needs
 
--- src/lib.rt:110:12
 shared-slice-read-if1 : tie.Need-shared-slice-read-if1 Inv-loop μ-loop
 shared-slice-read-if1 c = search needs
 
--- src/lib.rt:111:13
 returns : tie.Need-returns Inv-loop μ-loop
 returns c = record { remains = λ e. absurd (true≢false (sym e)); exceeds = λ e. record { shade = c .before .before .before .before .loop .b; known = c .before .before .before .loop-test .taken; often = omega (arith, c .before .before .tally .ensures, c .if1 .taken) } }
 
--- src/lib.rt:116:18
 mul-rem : tie.Need-mul-rem Inv-loop μ-loop
 mul-rem c = search needs
 
--- src/lib.rt:116:18
 shared-slice-read-rem : tie.Need-shared-slice-read-rem Inv-loop μ-loop
 shared-slice-read-rem c = search needs
 
--- src/lib.rt:116:18
 sub-rem : tie.Need-sub-rem Inv-loop μ-loop
 sub-rem c = search needs
 
--- src/lib.rt:116:9
 mul-rem-2 : tie.Need-mul-rem-2 Inv-loop μ-loop
 mul-rem-2 c = search needs
 
--- src/lib.rt:116:9
 array-write-rem : tie.Need-array-write-rem Inv-loop μ-loop
 array-write-rem c = omega (arith, c .before .before .before .before .before .before .before .before .pre)
 
--- src/lib.rt:117:9
 add-b : tie.Need-add-b Inv-loop μ-loop
 add-b c = search needs
 
--- src/lib.rt:108:5
 loop-less : tie.Need-loop-less Inv-loop μ-loop
 loop-less c = search needs
 
--- src/lib.rt:108:5
 loop-again : tie.Need-loop-again Inv-loop μ-loop
 loop-again c = let l = c .before .before .before .before .before .loop in let a = c .before .before .before .before .before .before .before .before .args in leave-more (a .counts .now) (a .u .now) (l .rem) (l .b) _ (c .before .before .before .before .before .before .before .before .pre) (l .inv) (c .before .before .before .before .loop-test .taken) (c .before .before .before .tally .ensures) (c .before .if1 .left)
 
--- src/lib.rt:102:1
 returns-2 : tie.Need-returns-2 Inv-loop μ-loop
 returns-2 c = record { remains = λ e. leave-end _ _ _ _ (c .before .loop .inv) (c .loop-test .left); exceeds = λ e. absurd (true≢false e) }
 

@@ -1,3 +1,5 @@
+-- `counted::lift` meets its contract. The loop: each shade between that at place l and b is barred.
+-- Assumes nothing.
 use Prim.Native.Nat.{_-_}
 use borrow.Author.Needs.{needs}
 use Rattle.counted.specs.Places.{Lifted}
@@ -11,43 +13,33 @@ Inv-loop l k rem w b₀ b = Lifted w l k rem b
 abbrev μ-loop : tie.MeasureT-loop
 μ-loop l k rem w b₀ b = k - b
 
--- src/lib.rt:145:18
 array-read-b : tie.Need-array-read-b Inv-loop μ-loop
 array-read-b c = search needs
 
--- src/lib.rt:145:18
 cast-b : tie.Need-cast-b Inv-loop μ-loop
 cast-b c = search needs
 
--- src/lib.rt:145:17
 add-b : tie.Need-add-b Inv-loop μ-loop
 add-b c = search needs
 
--- src/lib.rt:146:5
 loop-holds : tie.Need-loop-holds Inv-loop μ-loop
 loop-holds c = lift-start _ _ _ _ (c .pre)
 
--- src/lib.rt:147:12
 possible-requires : tie.Need-possible-requires Inv-loop μ-loop
 possible-requires c κs = lift-asks _ _ _ _ _ (search needs) (c .before .before .pre) (c .before .loop .inv) (c .loop-test .taken)
 
--- src/lib.rt:148:13
 returns : tie.Need-returns Inv-loop μ-loop
 returns c = c .before .before .before .loop .inv
 
--- src/lib.rt:150:9
 add-b-2 : tie.Need-add-b-2 Inv-loop μ-loop
 add-b-2 c = search needs
 
--- src/lib.rt:146:5
 loop-less : tie.Need-loop-less Inv-loop μ-loop
 loop-less c = search needs
 
--- src/lib.rt:146:5
 loop-again : tie.Need-loop-again Inv-loop μ-loop
 loop-again c = lift-more _ _ _ _ _ (c .before .before .before .loop .inv) (c .before .before .loop-test .taken) (c .before .possible .ensures (c .if1 .left))
 
--- src/lib.rt:141:1
 returns-2 : tie.Need-returns-2 Inv-loop μ-loop
 returns-2 c = c .before .loop .inv
 

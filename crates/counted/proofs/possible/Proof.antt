@@ -1,3 +1,5 @@
+-- `counted::possible` meets its contract. The shade is barred where none is left of it, or where the pool leaves no completion.
+-- Assumes nothing.
 use mathlib.Core.Path.{_≡_, sym}
 use native.Mathlib.Omega.{arith}
 use lib.ListN.{length, take}
@@ -9,63 +11,48 @@ use Rattle.counted.proofs.Barring.{barred-none, barred-pool, completing
 use Rattle.counted.proofs.possible.Statement.{statement}
 use Rattle.counted.proofs.possible.Tie as tie
 
--- src/lib.rt:130:8
 mul-if1 : tie.Need-mul-if1
 mul-if1 c = search needs
 
--- src/lib.rt:130:8
 array-read-if1 : tie.Need-array-read-if1
 array-read-if1 c = search needs
 
--- src/lib.rt:131:9
 returns : tie.Need-returns
 returns c = let a = c .before .args in λ e. barred-none (take (a .l) (a .w)) (a .b) (a .t4) (c .if1 .taken)
 
--- src/lib.rt:134:13
 cast-al : tie.Need-cast-al
 cast-al c = search needs
 
--- src/lib.rt:134:5
 array-write-al : tie.Need-array-write-al
 array-write-al c = search needs
 
--- src/lib.rt:136:5
 mul-left : tie.Need-mul-left
 mul-left c = search needs
 
--- src/lib.rt:136:5
 array-read-left : tie.Need-array-read-left
 array-read-left c = search needs
 
--- src/lib.rt:136:5
 sub-left : tie.Need-sub-left
 sub-left c = search needs
 
--- src/lib.rt:136:5
 array-write-left : tie.Need-array-write-left
 array-write-left c = search needs
 
--- src/lib.rt:137:36
 add-al : tie.Need-add-al
 add-al c = search needs
 
--- src/lib.rt:137:30
 array-share-prefix-al : tie.Need-array-share-prefix-al
 array-share-prefix-al c = let s : length (c .before .args .w) ≡ 64 = search needs in simp length-set (omega (arith, c .before .pre .inside))
 
--- src/lib.rt:137:30
 slice-aggregate-completable : tie.Need-slice-aggregate-completable
 slice-aggregate-completable c = let s : length (c .before .before .args .w) ≡ 64 = search needs in sym (length-take-le _ _ (simp length-set (omega (arith, c .before .before .pre .inside))))
 
--- src/lib.rt:137:44
 slice-aggregate-completable-2 : tie.Need-slice-aggregate-completable-2
 slice-aggregate-completable-2 c = search needs
 
--- src/lib.rt:137:5
 completable-requires : tie.Need-completable-requires
 completable-requires c κs = let a = c .before .before .before .args in completing (a .w) (a .l) (a .b) (a .t4) (search needs) (search needs) (c .before .before .before .pre)
 
--- src/lib.rt:126:1
 returns-2 : tie.Need-returns-2
 returns-2 c = let a = c .before .before .before .before .args in let s : length (a .w) ≡ 64 = search needs in let s₂ : length (a .t4) ≡ 16 = search needs in λ e. barred-pool (take (a .l) (a .w)) (a .b) (a .t4) (omega (arith, c .before .before .before .before .pre .shade)) (c .before .before .before .if1 .left) (rw (add-one (a .l), take-suc-set (a .w) (a .l) (a .b) (omega (arith, c .before .before .before .before .pre .inside))) at (c .completable .ensures e))
 

@@ -1,3 +1,5 @@
+-- `counted::repeat` meets its contract. The loop: the first m sectors repeat the first p.
+-- Assumes nothing.
 use Prim.Native.Nat.{_-_}
 use native.Mathlib.Omega.{arith}
 use lib.ListN.{length}
@@ -12,39 +14,30 @@ Inv-loop s₀ p m₀ s m = Copying p s₀ s m
 abbrev μ-loop : tie.MeasureT-loop
 μ-loop s₀ p m₀ s m = length s₀ - m
 
--- src/lib.rt:89:5
 loop-holds : tie.Need-loop-holds Inv-loop μ-loop
 loop-holds c = repeat-start _ _ (c .pre)
 
--- src/lib.rt:90:18
 sub-s : tie.Need-sub-s Inv-loop μ-loop
 sub-s c = c .before .loop .inv .run .fits
 
--- src/lib.rt:90:16
 slice-read-s : tie.Need-slice-read-s Inv-loop μ-loop
 slice-read-s c = omega (arith, c .before .before .loop .inv .run .pos)
 
--- src/lib.rt:90:9
 slice-write-s : tie.Need-slice-write-s Inv-loop μ-loop
 slice-write-s c = search needs
 
--- src/lib.rt:91:9
 add-m : tie.Need-add-m Inv-loop μ-loop
 add-m c = search needs
 
--- src/lib.rt:89:5
 loop-less : tie.Need-loop-less Inv-loop μ-loop
 loop-less c = omega (arith, c .before .before .loop .inv .long)
 
--- src/lib.rt:89:5
 loop-again : tie.Need-loop-again Inv-loop μ-loop
 loop-again c = repeat-more _ _ _ _ (c .before .before .loop .inv) (c .before .loop-test .taken)
 
--- src/lib.rt:84:1
 same-length : tie.Need-same-length Inv-loop μ-loop
 same-length c = c .before .loop .inv .long
 
--- src/lib.rt:84:1
 returns : tie.Need-returns Inv-loop μ-loop
 returns c = repeat-end _ _ _ _ (c .before .loop .inv) (c .loop-test .left)
 

@@ -1,3 +1,5 @@
+-- `counted::seek` meets its contract. The loop: the next ring above `ring` is that above `start`, and fewer readings are left above at each turn.
+-- Assumes nothing.
 use mathlib.Core.Path.{_∙_, sym}
 use native.Mathlib.Omega.{arith}
 use lib.ListN.{take}
@@ -16,63 +18,48 @@ Inv-loop n k counts ring₀ ring = Standing counts n k ring₀ ring
 abbrev μ-loop : tie.MeasureT-loop
 μ-loop n k counts ring₀ ring = count (before (take n ring)) (readings n k)
 
--- src/lib.rt:202:5
 loop-holds : tie.Need-loop-holds Inv-loop μ-loop
 loop-holds c = seek-start _ _ _ _ (search needs) (c .before .pre)
 
--- src/lib.rt:203:13
 find-requires : tie.Need-find-requires Inv-loop μ-loop
 find-requires c κs = c .loop .inv .opening
 
--- src/lib.rt:206:13
 returns : tie.Need-returns Inv-loop μ-loop
 returns c = let l = c .before .before .loop in let a = c .before .before .before .before .args in let r = c .before .find .result in seek-none (a .counts .now) (a .n) (a .k) (a .start) (l .ring) (l .inv) (r .end) (r .shade) (c .before .find .ensures) (c .if1 .taken)
 
--- src/lib.rt:211:23
 cast-ring : tie.Need-cast-ring Inv-loop μ-loop
 cast-ring c = omega (arith, c .before .before .find .ensures .known (omega (arith, c .before .if1 .left)), c .before .before .before .before .before .pre .ready .shades)
 
--- src/lib.rt:211:14
 sub-ring : tie.Need-sub-ring Inv-loop μ-loop
 sub-ring c = omega (arith, c .before .if1 .left)
 
--- src/lib.rt:211:9
 array-write-ring : tie.Need-array-write-ring Inv-loop μ-loop
 array-write-ring c = omega (arith, c .before .before .find .ensures .within, c .before .before .before .before .before .pre .ready .size, c .before .if1 .left)
 
--- src/lib.rt:212:16
 array-borrow-prefix-ring : tie.Need-array-borrow-prefix-ring Inv-loop μ-loop
 array-borrow-prefix-ring c = simp length-set (omega (arith, c .before .before .before .loop .inv .size, c .before .before .before .before .before .pre .ready .size))
 
--- src/lib.rt:212:16
 slice-aggregate-repeat : tie.Need-slice-aggregate-repeat Inv-loop μ-loop
 slice-aggregate-repeat c = sym (length-take-le _ _ (simp length-set (omega (arith, c .before .before .before .before .loop .inv .size, c .before .before .before .before .before .before .pre .ready .size))))
 
--- src/lib.rt:212:9
 repeat-requires : tie.Need-repeat-requires Inv-loop μ-loop
 repeat-requires c κs = let l = c .before .before .before .before .loop in let a = c .before .before .before .before .before .before .args in let r = c .before .before .before .find .result in seek-asks (a .counts .now) (a .n) (a .k) (a .start) (l .ring) (l .inv) (r .end) (r .shade) (c .before .before .before .find .ensures) (c .before .before .if1 .left)
 
--- src/lib.rt:213:23
 array-share-prefix-ring : tie.Need-array-share-prefix-ring Inv-loop μ-loop
 array-share-prefix-ring c = let l = c .before .before .before .before .before .before .loop in let a = c .before .before .before .before .before .before .before .before .args in let r = c .before .before .before .before .before .find .result in omega (arith, seek-size (a .counts .now) (a .n) (a .k) (a .start) (l .ring) (l .inv) (r .end) (r .shade) (c .before .before .before .before .before .find .ensures) (c .before .before .before .before .if1 .left) _ (c .before .repeat .ensures), c .before .before .before .before .before .before .before .before .pre .ready .size)
 
--- src/lib.rt:213:23
 slice-aggregate-is-counted : tie.Need-slice-aggregate-is-counted Inv-loop μ-loop
 slice-aggregate-is-counted c = let l = c .before .before .before .before .before .before .before .loop in let a = c .before .before .before .before .before .before .before .before .before .args in let r = c .before .before .before .before .before .before .find .result in sym (length-take-le _ _ (omega (arith, seek-size (a .counts .now) (a .n) (a .k) (a .start) (l .ring) (l .inv) (r .end) (r .shade) (c .before .before .before .before .before .before .find .ensures) (c .before .before .before .before .before .if1 .left) _ (c .before .before .repeat .ensures), c .before .before .before .before .before .before .before .before .before .pre .ready .size)))
 
--- src/lib.rt:213:12
 is-counted-requires : tie.Need-is-counted-requires Inv-loop μ-loop
 is-counted-requires c κs = let l = c .before .before .before .before .before .before .before .loop in let a = c .before .before .before .before .before .before .before .before .before .args in let r = c .before .before .before .before .before .before .find .result in seek-run (a .counts .now) (a .n) (a .k) (a .start) (l .ring) (l .inv) (r .end) (r .shade) (c .before .before .before .before .before .before .find .ensures) (c .before .before .before .before .before .if1 .left) _ (c .before .before .repeat .ensures)
 
--- src/lib.rt:214:13
 returns-2 : tie.Need-returns-2 Inv-loop μ-loop
 returns-2 c = let l = c .before .before .before .before .before .before .before .before .before .loop in let a = c .before .before .before .before .before .before .before .before .before .before .before .args in let r = c .before .before .before .before .before .before .before .before .find .result in seek-found (a .counts .now) (a .n) (a .k) (a .start) (l .ring) (l .inv) (r .end) (r .shade) (c .before .before .before .before .before .before .before .before .find .ensures) (c .before .before .before .before .before .before .before .if1 .left) _ (c .before .before .before .before .repeat .ensures) (sym (c .if2 .taken) ∙ c .before .is-counted .ensures)
 
--- src/lib.rt:202:5
 loop-less : tie.Need-loop-less Inv-loop μ-loop
 loop-less c = let l = c .before .before .before .before .before .before .before .before .before .loop in let a = c .before .before .before .before .before .before .before .before .before .before .before .args in let r = c .before .before .before .before .before .before .before .before .find .result in seek-falls (a .counts .now) (a .n) (a .k) (a .start) (l .ring) (l .inv) (r .end) (r .shade) (c .before .before .before .before .before .before .before .before .find .ensures) (c .before .before .before .before .before .before .before .if1 .left) _ (c .before .before .before .before .repeat .ensures)
 
--- src/lib.rt:202:5
 loop-again : tie.Need-loop-again Inv-loop μ-loop
 loop-again c = let l = c .before .before .before .before .before .before .before .before .before .loop in let a = c .before .before .before .before .before .before .before .before .before .before .before .args in let r = c .before .before .before .before .before .before .before .before .find .result in seek-on (a .counts .now) (a .n) (a .k) (a .start) (l .ring) (l .inv) (r .end) (r .shade) (c .before .before .before .before .before .before .before .before .find .ensures) (c .before .before .before .before .before .before .before .if1 .left) _ (c .before .before .before .before .repeat .ensures) (sym (c .if2 .left) ∙ c .before .is-counted .ensures)
 

@@ -1,3 +1,5 @@
+-- `counted::tally` meets its contract. The loop: x of the first i sectors have the shade b.
+-- Assumes nothing.
 use Prim.Native.Nat.{_≤_, _-_}
 use mathlib.Core.Path.{_≡_, sym}
 use mathlib.Core.Logic.{⊎-elim}
@@ -15,35 +17,27 @@ Inv-loop s b x₀ i₀ x i = (i ≤ length s) × (x ≤ i) × (x ≡ occurs b (t
 abbrev μ-loop : tie.MeasureT-loop
 μ-loop s b x₀ i₀ x i = length s - i
 
--- src/lib.rt:22:5
 loop-holds : tie.Need-loop-holds Inv-loop μ-loop
 loop-holds c = (omega arith, omega arith, sym (occurs-none (c .args .b)))
 
--- src/lib.rt:23:13
 shared-slice-read-if1 : tie.Need-shared-slice-read-if1 Inv-loop μ-loop
 shared-slice-read-if1 c = search needs
 
--- src/lib.rt:23:13
 cast-if1 : tie.Need-cast-if1 Inv-loop μ-loop
 cast-if1 c = omega (arith, c .shared-slice-known .given (c .before .before .loop .i))
 
--- src/lib.rt:24:13
 add-x : tie.Need-add-x Inv-loop μ-loop
 add-x c = search needs
 
--- src/lib.rt:26:9
 add-i : tie.Need-add-i Inv-loop μ-loop
 add-i c = search needs
 
--- src/lib.rt:22:5
 loop-less : tie.Need-loop-less Inv-loop μ-loop
 loop-less c = search needs
 
--- src/lib.rt:22:5
 loop-again : tie.Need-loop-again Inv-loop μ-loop
 loop-again c = let l = c .before .before .before .loop in let a = c .before .before .before .before .args in ⊎-elim (λ m. rw (m .1) (omega arith, omega arith, tally-hit (a .b) (a .s .now) (l .i) (l .x) (c .before .before .loop-test .taken) (l .inv .2) (m .0 .taken))) (λ m. rw (m .1) (omega arith, omega arith, tally-miss (a .b) (a .s .now) (l .i) (l .x) (c .before .before .loop-test .taken) (l .inv .2) (m .0 .left))) (c .if1 .came)
 
--- src/lib.rt:17:1
 returns : tie.Need-returns Inv-loop μ-loop
 returns c = tally-end _ _ _ _ (c .loop-test .left) (c .before .loop .inv .2)
 

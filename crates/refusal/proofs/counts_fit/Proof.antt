@@ -5,7 +5,7 @@ use mathlib.Core.Path.{_≡_}
 use native.Mathlib.Omega.{arith}
 use lib.ListN.{length, drop}
 use borrow.Author.Needs.{needs}
-use Rattle.refusal.specs.Order.{sumOf}
+use Rattle.words.specs.Sum.{sumOf}
 use Rattle.refusal.proofs.Sum.{sum-on, sum-over, sum-end}
 use Rattle.refusal.proofs.counts_fit.Statement.{statement}
 use Rattle.refusal.proofs.counts_fit.Tie as tie

@@ -1,3 +1,5 @@
+-- `shades::copy` meets its contract. The loop: the first i sectors are copied.
+-- Assumes nothing.
 use Prim.Native.Nat.{_-_}
 use mathlib.Core.Path.{_∙_, sym, refl}
 use native.Mathlib.Omega.{arith}
@@ -13,35 +15,27 @@ Inv-loop out₀ s i₀ out i = Copied s out i
 abbrev μ-loop : tie.MeasureT-loop
 μ-loop out₀ s i₀ out i = length s - i
 
--- src/lib.rt:28:5
 loop-holds : tie.Need-loop-holds Inv-loop μ-loop
 loop-holds c = record { long = c .pre; within = omega arith; done = refl }
 
--- src/lib.rt:29:18
 shared-slice-read-out : tie.Need-shared-slice-read-out Inv-loop μ-loop
 shared-slice-read-out c = search needs
 
--- src/lib.rt:29:9
 slice-write-out : tie.Need-slice-write-out Inv-loop μ-loop
 slice-write-out c = omega (arith, c .before .before .loop .inv .long)
 
--- src/lib.rt:30:9
 add-i : tie.Need-add-i Inv-loop μ-loop
 add-i c = search needs
 
--- src/lib.rt:28:5
 loop-less : tie.Need-loop-less Inv-loop μ-loop
 loop-less c = search needs
 
--- src/lib.rt:28:5
 loop-again : tie.Need-loop-again Inv-loop μ-loop
 loop-again c = copy-more _ _ _ (c .before .before .loop .inv) (c .before .loop-test .taken)
 
--- src/lib.rt:23:1
 same-length : tie.Need-same-length Inv-loop μ-loop
 same-length c = c .before .loop .inv .long ∙ sym (c .before .before .pre)
 
--- src/lib.rt:23:1
 returns : tie.Need-returns Inv-loop μ-loop
 returns c = copy-end _ _ _ (c .before .loop .inv) (c .loop-test .left)
 

@@ -1,3 +1,5 @@
+-- `shades::first_ring` meets its contract. Behind the checks, the letters of the counts in increasing order are the first ring.
+-- Assumes nothing.
 use mathlib.Core.Path.{refl}
 use lib.ListN.{length}
 use borrow.Author.Needs.{needs}
@@ -5,31 +7,24 @@ use Rattle.shades.proofs.Asking.{first-asks, first-found}
 use Rattle.shades.proofs.first_ring.Statement.{statement}
 use Rattle.shades.proofs.first_ring.Tie as tie
 
--- src/lib.rt:38:11
 check-first-requires : tie.Need-check-first-requires
 check-first-requires c κs = search needs
 
--- src/lib.rt:39:26
 enum-known-r : tie.Need-enum-known-r
 enum-known-r c = search needs
 
--- src/lib.rt:41:31
 enum-told : tie.Need-enum-told
 enum-told c = search needs
 
--- src/lib.rt:41:13
 fill-requires : tie.Need-fill-requires
 fill-requires c κs = let a = c .before .before .before .before .before .before .args in first-asks (length (a .out .now)) (a .k) (a .counts .now) (rw (c .before .enum-told .given .1) at (c .before .before .before .check-first .ensures)) (a .out .now) refl
 
--- src/lib.rt:35:1
 returns : tie.Need-returns
 returns c = (rw (c .before .r .given .1) at (c .before .before .before .check-first .ensures), refl)
 
--- src/lib.rt:35:1
 same-length : tie.Need-same-length
 same-length c = search needs
 
--- src/lib.rt:35:1
 returns-2 : tie.Need-returns-2
 returns-2 c = let a = c .before .before .before .before .before .before .before .before .before .args in let p = (rw (c .before .before .before .before .enum-told .given .1) at (c .before .before .before .before .before .before .check-first .ensures)) in (p, first-found (length (a .out .now)) (a .k) (a .counts .now) p _ _ (search needs) (c .before .before .fill .ensures .0) (c .before .before .fill .ensures .1))
 

@@ -1,3 +1,5 @@
+-- `shades::next_ring` meets its contract. Behind the checks, the search answers the next ring or that there is none.
+-- Assumes nothing.
 use mathlib.Core.Path.{_≡_, _∙_, sym, refl}
 use native.Mathlib.Omega.{arith}
 use lib.ListN.{length}
@@ -8,59 +10,45 @@ use Rattle.shades.proofs.Asking.{next-asks, next-found, next-done}
 use Rattle.shades.proofs.next_ring.Statement.{statement}
 use Rattle.shades.proofs.next_ring.Tie as tie
 
--- src/lib.rt:51:11
 check-next-requires : tie.Need-check-next-requires
 check-next-requires c κs = search needs
 
--- src/lib.rt:52:26
 enum-known-r : tie.Need-enum-known-r
 enum-known-r c = search needs
 
--- src/lib.rt:54:17
 enum-told : tie.Need-enum-told
 enum-told c = search needs
 
--- src/lib.rt:56:18
 array-borrow-prefix-start : tie.Need-array-borrow-prefix-start
 array-borrow-prefix-start c = let p = (rw (c .enum-told .given .1) at (c .before .before .check-next .ensures)) in omega (arith, p .0 .0 .0 .0 .0 .0 .1)
 
--- src/lib.rt:56:18
 slice-aggregate-copy : tie.Need-slice-aggregate-copy
 slice-aggregate-copy c = let p = (rw (c .before .enum-told .given .1) at (c .before .before .before .check-next .ensures)) in sym (length-take-le _ _ (omega (arith, p .0 .0 .0 .0 .0 .0 .1)))
 
--- src/lib.rt:56:13
 copy-requires : tie.Need-copy-requires
 copy-requires c κs = let p = (rw (c .before .enum-told .given .1) at (c .before .before .before .check-next .ensures)) in length-take-le _ _ (omega (arith, p .0 .0 .0 .0 .0 .0 .1))
 
--- src/lib.rt:57:17
 above-requires : tie.Need-above-requires
 above-requires c κs = let p = (rw (c .before .before .before .enum-told .given .1) at (c .before .before .before .before .before .check-next .ensures)) in let a = c .before .before .before .before .before .before .before .before .before .args in next-asks (a .s .now) (a .k) (length (a .out .now)) (a .counts .now) _ _ p (c .before .copy .ensures)
 
--- src/lib.rt:59:17
 returns : tie.Need-returns
 returns c = let p = (rw (c .before .before .before .before .before .before .enum-told .given .1) at (c .before .before .before .before .before .before .before .before .check-next .ensures)) in let a = c .before .before .before .before .before .before .before .before .before .before .before .before .args in (p, next-done (a .s .now) (a .k) (length (a .out .now)) (a .counts .now) _ _ p (c .before .before .before .before .copy .ensures) _ (c .before .before .above .ensures) (not-true _ (c .if1 .taken)), refl)
 
--- src/lib.rt:62:23
 array-share-prefix-ring : tie.Need-array-share-prefix-ring
 array-share-prefix-ring c = let p = (rw (c .before .before .before .before .before .before .before .before .enum-told .given .1) at (c .before .before .before .before .before .before .before .before .before .before .check-next .ensures)) in let z : length (c .before .before .before .before .above .result .ring) ≡ 64 = search needs in omega (arith, p .0 .0 .0 .0 .0 .0 .1)
 
--- src/lib.rt:62:23
 slice-aggregate-copy-2 : tie.Need-slice-aggregate-copy-2
 slice-aggregate-copy-2 c = let p = (rw (c .before .before .before .before .before .before .before .before .before .enum-told .given .1) at (c .before .before .before .before .before .before .before .before .before .before .before .check-next .ensures)) in let z : length (c .before .before .before .before .before .above .result .ring) ≡ 64 = search needs in sym (length-take-le _ _ (omega (arith, p .0 .0 .0 .0 .0 .0 .1)))
 
--- src/lib.rt:62:13
 copy-requires-2 : tie.Need-copy-requires-2
 copy-requires-2 c κs = let p = (rw (c .before .before .before .before .before .before .before .before .before .enum-told .given .1) at (c .before .before .before .before .before .before .before .before .before .before .before .check-next .ensures)) in let z : length (c .before .before .before .before .before .above .result .ring) ≡ 64 = search needs in p .0 .0 .1 ∙ sym (length-take-le _ _ (omega (arith, p .0 .0 .0 .0 .0 .0 .1)))
 
--- src/lib.rt:48:1
 returns-2 : tie.Need-returns-2
 returns-2 c = (rw (c .before .r .given .1) at (c .before .before .before .check-next .ensures), refl)
 
--- src/lib.rt:48:1
 same-length : tie.Need-same-length
 same-length c = search needs
 
--- src/lib.rt:48:1
 returns-3 : tie.Need-returns-3
 returns-3 c = let p = (rw (c .before .before .before .before .before .before .before .before .before .before .before .before .enum-told .given .1) at (c .before .before .before .before .before .before .before .before .before .before .before .before .before .before .check-next .ensures)) in let a = c .before .before .before .before .before .before .before .before .before .before .before .before .before .before .before .before .before .before .args in (p, next-found (a .s .now) (a .k) (length (a .out .now)) (a .counts .now) _ _ p (c .before .before .before .before .before .before .before .before .before .before .copy .ensures) _ (c .before .before .before .before .before .before .before .before .above .ensures) (not-false _ (c .before .before .before .before .before .before .if1 .left)) _ (c .before .before .copy2 .ensures))
 

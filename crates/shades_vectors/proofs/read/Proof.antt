@@ -1,14 +1,11 @@
-use Prim.Native.Nat.{ℕ, suc, _≤_, _<_, _+_, _-_}
-use mathlib.Core.Path.{_≡_, _∙_, sym, ap, refl}
-use mathlib.Core.Logic.{⊎-elim}
-use native.Mathlib.Omega.{arith}
-use lib.ListN.{length, getD, take, drop, set}
+-- `shades_vectors::read` does nothing that is not allowed. The loop keeps the length.
+-- Assumes nothing.
+use Prim.Native.Nat.{_-_}
+use mathlib.Core.Path.{_≡_}
+use lib.ListN.{length}
 use borrow.Author.Needs.{needs}
 use Rattle.shades_vectors.proofs.read.Statement.{statement}
 use Rattle.shades_vectors.proofs.read.Tie as tie
-use Rattle.shades_vectors.proofs.read.Reads as reads
-use Rattle.shades_vectors.proofs.read.Lts as lts
-use Rattle.shades_vectors.proofs.shade.Reads as shade-reads
 
 abbrev Inv-loop : tie.InvT-loop
 Inv-loop digits reading₀ i₀ reading i = length reading ≡ length reading₀
@@ -16,47 +13,36 @@ Inv-loop digits reading₀ i₀ reading i = length reading ≡ length reading₀
 abbrev μ-loop : tie.MeasureT-loop
 μ-loop digits reading₀ i₀ reading i = length reading₀ - i
 
--- src/main.rt:107:5
 loop-holds : tie.Need-loop-holds Inv-loop μ-loop
 loop-holds c = search needs
 
--- src/main.rt:109:13
 same-length : tie.Need-same-length Inv-loop μ-loop
 same-length c = search needs
 
--- src/main.rt:109:13
 returns : tie.Need-returns Inv-loop μ-loop
 returns c = search needs
 
--- src/main.rt:111:28
 shared-slice-read-shade : tie.Need-shared-slice-read-shade Inv-loop μ-loop
 shared-slice-read-shade c = search needs
 
--- src/main.rt:111:22
 shade-requires : tie.Need-shade-requires Inv-loop μ-loop
 shade-requires c κs = search needs
 
--- src/main.rt:111:9
 slice-write-reading : tie.Need-slice-write-reading Inv-loop μ-loop
 slice-write-reading c = search needs
 
--- src/main.rt:112:9
 add-i : tie.Need-add-i Inv-loop μ-loop
 add-i c = search needs
 
--- src/main.rt:107:5
 loop-less : tie.Need-loop-less Inv-loop μ-loop
 loop-less c = search needs
 
--- src/main.rt:107:5
 loop-again : tie.Need-loop-again Inv-loop μ-loop
 loop-again c = search needs
 
--- src/main.rt:105:1
 same-length-2 : tie.Need-same-length-2 Inv-loop μ-loop
 same-length-2 c = search needs
 
--- src/main.rt:105:1
 returns-2 : tie.Need-returns-2 Inv-loop μ-loop
 returns-2 c = search needs
 
