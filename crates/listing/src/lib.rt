@@ -78,7 +78,8 @@ fn print_rings(k: usize, n: usize, buf: &mut [u8])
     io::write_all(STDOUT_FILENO, &buf[..m]);
 }
 
-// What the program writes for a line, by way of a lent buffer: the listing, or the refusal's line.
+// What the program writes for a line, by way of a lent buffer: the listing, or the refusal's line. No public call: no contract can say what is written,
+// and the buffer is the program's.
 pub fn print_through(line: &[u8], buf: &mut [u8])
     requires { ⌜ 200 ≤ length (now buf) ⌝ }
 {
