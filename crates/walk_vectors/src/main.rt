@@ -90,6 +90,22 @@ fn list(n: usize, k: usize, marks: usize) {
     }
 }
 
+// The next prenecklaces after a lent one, with bullets behind what is no necklace.
+fn after(s: &[u8], k: usize, times: usize) {
+    let started = walk::start(s, k);
+    let mut w = started.walk;
+    let mut count: usize = 0;
+    while count < times {
+        let t = walk::next_prenecklace(w);
+        w = t.walk;
+        print_ring(w);
+        let c = w.class;
+        print_mark(c, 1);
+        show::text(b"\n");
+        count += 1;
+    }
+}
+
 // How many rings a walk from the all-zero ring comes to, that ring not counted, and the sum of the moves, Done's included.
 fn count_rings(n: usize, k: usize, kind: usize) {
     let mut w = from_zeros(n, k);
@@ -221,6 +237,7 @@ fn main() {
     count_rings(4, 3, 0);
     count_rings(4, 3, 1);
     count_rings(4, 3, 2);
+    after(b"\0\x01\x01\x01\0\x01\x01\x01\x01", 2, 5);
     all(b"\0\x01\x01\x01\0\x01\x01\x01\x01", 2);
     all(b"\0\0\0\x01", 2);
     all(b"\0\0\x01\x01", 2);

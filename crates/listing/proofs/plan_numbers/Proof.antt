@@ -1,3 +1,4 @@
+-- `listing::plan_numbers` meets its contract. Assumes nothing.
 use Prim.Native.Nat.{_^_}
 use mathlib.Core.Path.{_∙_, sym, refl}
 use borrow.Author.Needs.{needs}
@@ -5,31 +6,24 @@ use borrow.Author.Tests.{ltb-true, ltb-false}
 use Rattle.listing.proofs.plan_numbers.Statement.{statement}
 use Rattle.listing.proofs.plan_numbers.Tie as tie
 
--- src/lib.rt:20:9
 returns : tie.Need-returns
 returns c = search needs
 
--- src/lib.rt:23:9
 returns-2 : tie.Need-returns-2
 returns-2 c = search needs
 
--- src/lib.rt:26:9
 returns-3 : tie.Need-returns-3
 returns-3 c = search needs
 
--- src/lib.rt:29:9
 returns-4 : tie.Need-returns-4
 returns-4 c = search needs
 
--- src/lib.rt:31:8
 power-above-requires : tie.Need-power-above-requires
 power-above-requires c κs = search needs
 
--- src/lib.rt:32:9
 returns-5 : tie.Need-returns-5
 returns-5 c = let a = c .before .before .before .before .before .before .args in (search needs, search needs, ltb-true (a .limit) (a .k ^ a .n) (sym (c .before .power-above .ensures) ∙ c .if5 .taken))
 
--- src/lib.rt:16:1
 returns-6 : tie.Need-returns-6
 returns-6 c = let a = c .before .before .before .before .before .before .args in (refl, refl, record { sized = search needs; shaded = search needs; few = ltb-false (a .limit) (a .k ^ a .n) (sym (c .before .power-above .ensures) ∙ c .if5 .left) })
 

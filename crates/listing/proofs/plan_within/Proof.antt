@@ -1,29 +1,24 @@
+-- `listing::plan_within` meets its contract. Assumes nothing.
 use borrow.Author.Needs.{needs}
 use Rattle.listing.proofs.Plans.{plan-spelt}
 use Rattle.listing.proofs.plan_within.Statement.{statement}
 use Rattle.listing.proofs.plan_within.Tie as tie
 
--- src/lib.rt:41:11
 parse-line-requires : tie.Need-parse-line-requires
 parse-line-requires c κs = search needs
 
--- src/lib.rt:42:42
 enum-told : tie.Need-enum-told
 enum-told c = search needs
 
--- src/lib.rt:43:22
 enum-known-k : tie.Need-enum-known-k
 enum-known-k c = search needs
 
--- src/lib.rt:43:31
 plan-numbers-requires : tie.Need-plan-numbers-requires
 plan-numbers-requires c κs = search needs
 
--- src/lib.rt:38:1
 returns : tie.Need-returns
 returns c = rw (c .enum-told .given .1) at (c .before .before .parse-line .ensures)
 
--- src/lib.rt:38:1
 returns-2 : tie.Need-returns-2
 returns-2 c = let g = c .before .before .k .given in let a = c .before .before .before .before .before .before .args in plan-spelt (a .limit) (a .line .now) (g .0 .0) (g .0 .1 .0) (c .plan-numbers .result) (rw (g .1) at (c .before .before .before .before .parse-line .ensures)) (c .plan-numbers .ensures)
 

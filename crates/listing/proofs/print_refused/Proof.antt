@@ -1,3 +1,4 @@
+-- `listing::print_refused` meets its contract. Assumes nothing.
 use mathlib.Core.Path.{_≡_}
 use native.Mathlib.Omega.{arith}
 use lib.ListN.{length}
@@ -7,35 +8,28 @@ use Rattle.listing.proofs.Turns.{put-inside}
 use Rattle.listing.proofs.print_refused.Statement.{statement}
 use Rattle.listing.proofs.print_refused.Tie as tie
 
--- src/lib.rt:58:39
 number-requires : tie.Need-number-requires
 number-requires c κs = search needs
 
--- src/lib.rt:58:9
 put-refused-requires : tie.Need-put-refused-requires
 put-refused-requires c κs = search needs
 
--- src/lib.rt:59:34
 slice-reshare-prefix-write-all : tie.Need-slice-reshare-prefix-write-all
 slice-reshare-prefix-write-all c =
     let l : length (c .before .before .put-refused .last .0) ≡ length (c .before .before .before .before .before .before .args .buf .now) = search needs in
     omega (arith, put-inside _ _ _ _ _ (omega arith) (c .before .before .put-refused .ensures))
 
--- src/lib.rt:59:34
 slice-aggregate-write-all : tie.Need-slice-aggregate-write-all
 slice-aggregate-write-all c =
     let l : length (c .before .before .before .put-refused .last .0) ≡ length (c .before .before .before .before .before .before .before .args .buf .now) = search needs in
     simp length-take (omega (arith, put-inside _ _ _ _ _ (omega arith) (c .before .before .before .put-refused .ensures)))
 
--- src/lib.rt:59:5
 write-all-requires : tie.Need-write-all-requires
 write-all-requires c κs = search needs
 
--- src/lib.rt:57:1
 same-length : tie.Need-same-length
 same-length c = search needs
 
--- src/lib.rt:57:1
 returns : tie.Need-returns
 returns c = search needs
 

@@ -1,40 +1,32 @@
+-- `listing::print_through` meets its contract. Assumes nothing.
 use borrow.Author.Needs.{needs}
 use Rattle.listing.proofs.print_through.Statement.{statement}
 use Rattle.listing.proofs.print_through.Tie as tie
 
--- src/lib.rt:85:11
 plan-requires : tie.Need-plan-requires
 plan-requires c κs = search needs
 
--- src/lib.rt:86:27
 enum-known-k : tie.Need-enum-known-k
 enum-known-k c = search needs
 
--- src/lib.rt:86:36
 print-rings-requires : tie.Need-print-rings-requires
 print-rings-requires c κs = let p = rw (c .before .before .k .given .1) at (c .before .before .before .before .plan .ensures) in (p .1, search needs)
 
--- src/lib.rt:87:26
 enum-known-r : tie.Need-enum-known-r
 enum-known-r c = search needs
 
--- src/lib.rt:87:32
 print-refused-requires : tie.Need-print-refused-requires
 print-refused-requires c κs = search needs
 
--- src/lib.rt:82:1
 same-length : tie.Need-same-length
 same-length c = search needs
 
--- src/lib.rt:82:1
 returns : tie.Need-returns
 returns c = search needs
 
--- src/lib.rt:82:1
 same-length-2 : tie.Need-same-length-2
 same-length-2 c = search needs
 
--- src/lib.rt:82:1
 returns-2 : tie.Need-returns-2
 returns-2 c = search needs
 

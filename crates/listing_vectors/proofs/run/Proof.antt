@@ -1,3 +1,4 @@
+-- `listing_vectors::run` meets its contract. Assumes nothing.
 use Prim.Native.Nat.{ℕ, suc, _≤_, _<_, _+_, _-_}
 use mathlib.Core.Path.{_≡_, _∙_, sym, ap, refl}
 use mathlib.Core.Logic.{⊎-elim}
@@ -12,59 +13,45 @@ use Rattle.listing.proofs.print.Reads as print-reads
 use Rattle.listing_vectors.proofs.find.Reads as find-reads
 use Rattle.show.proofs.text.Reads as text-reads
 
--- src/main.rt:26:9
 find-requires : tie.Need-find-requires
 find-requires c κs = search needs
 
--- src/main.rt:28:20
 slice-aggregate-text : tie.Need-slice-aggregate-text
 slice-aggregate-text c = search needs
 
--- src/main.rt:28:9
 text-requires : tie.Need-text-requires
 text-requires c κs = search needs
 
--- src/main.rt:29:20
 slice-aggregate-text-2 : tie.Need-slice-aggregate-text-2
 slice-aggregate-text-2 c = simp length-take (omega arith)
 
--- src/main.rt:29:9
 text-requires-2 : tie.Need-text-requires-2
 text-requires-2 c κs = search needs
 
--- src/main.rt:30:20
 slice-aggregate-text-3 : tie.Need-slice-aggregate-text-3
 slice-aggregate-text-3 c = search needs
 
--- src/main.rt:30:9
 text-requires-3 : tie.Need-text-requires-3
 text-requires-3 c κs = search needs
 
--- src/main.rt:31:30
 add-print : tie.Need-add-print
 add-print c = search needs
 
--- src/main.rt:31:24
 sub-print : tie.Need-sub-print
 sub-print c = search needs
 
--- src/main.rt:31:24
 part-print-start : tie.Need-part-print-start
 part-print-start c = search needs
 
--- src/main.rt:31:24
 part-print-end : tie.Need-part-print-end
 part-print-end c = search needs
 
--- src/main.rt:31:9
 print-requires : tie.Need-print-requires
 print-requires c κs = search needs
 
--- src/main.rt:25:1
 returns : tie.Need-returns
 returns c = search needs
 
--- src/main.rt:25:1
 returns-2 : tie.Need-returns-2
 returns-2 c = search needs
 

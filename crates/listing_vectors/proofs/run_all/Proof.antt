@@ -1,3 +1,4 @@
+-- `listing_vectors::run_all` meets its contract. Assumes nothing.
 use Prim.Native.Nat.{ℕ, suc, _≤_, _<_, _+_, _-_}
 use mathlib.Core.Path.{_≡_, _∙_, sym, ap, refl}
 use mathlib.Core.Logic.{⊎-elim}
@@ -17,59 +18,45 @@ Inv-loop cases at₀ at = at ≤ length cases + 1
 abbrev μ-loop : tie.MeasureT-loop
 μ-loop cases at₀ at = length cases + 1 - at
 
--- src/main.rt:38:5
 loop-holds : tie.Need-loop-holds Inv-loop μ-loop
 loop-holds c = search needs
 
--- src/main.rt:39:29
 sub-find : tie.Need-sub-find Inv-loop μ-loop
 sub-find c = search needs
 
--- src/main.rt:39:29
 part-find-start : tie.Need-part-find-start Inv-loop μ-loop
 part-find-start c = search needs
 
--- src/main.rt:39:29
 part-find-end : tie.Need-part-find-end Inv-loop μ-loop
 part-find-end c = search needs
 
--- src/main.rt:39:24
 find-requires : tie.Need-find-requires Inv-loop μ-loop
 find-requires c κs = search needs
 
--- src/main.rt:39:19
 add-end : tie.Need-add-end Inv-loop μ-loop
 add-end c = search needs
 
--- src/main.rt:40:13
 sub-run : tie.Need-sub-run Inv-loop μ-loop
 sub-run c = search needs
 
--- src/main.rt:40:13
 part-run-start : tie.Need-part-run-start Inv-loop μ-loop
 part-run-start c = search needs
 
--- src/main.rt:40:13
 part-run-end : tie.Need-part-run-end Inv-loop μ-loop
 part-run-end c = search needs
 
--- src/main.rt:40:9
 run-requires : tie.Need-run-requires Inv-loop μ-loop
 run-requires c κs = search needs
 
--- src/main.rt:41:14
 add-at : tie.Need-add-at Inv-loop μ-loop
 add-at c = search needs
 
--- src/main.rt:38:5
 loop-less : tie.Need-loop-less Inv-loop μ-loop
 loop-less c = search needs
 
--- src/main.rt:38:5
 loop-again : tie.Need-loop-again Inv-loop μ-loop
 loop-again c = search needs
 
--- src/main.rt:36:1
 returns : tie.Need-returns Inv-loop μ-loop
 returns c = search needs
 

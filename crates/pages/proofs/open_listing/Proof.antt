@@ -1,3 +1,4 @@
+-- `pages::open_listing` meets its contract. Assumes nothing.
 use native.Mathlib.Omega.{arith}
 use borrow.Author.Needs.{needs}
 use lib.ListN.{length-take}
@@ -6,33 +7,26 @@ use Rattle.pages.proofs.Pages.{zeros-part, started-at, open-length, ope
 use Rattle.pages.proofs.open_listing.Statement.{statement}
 use Rattle.pages.proofs.open_listing.Tie as tie
 
--- src/lib.rt:60:31
 array-share-prefix-zeros : tie.Need-array-share-prefix-zeros
 array-share-prefix-zeros c = search needs
 
--- src/lib.rt:60:31
 slice-aggregate-start : tie.Need-slice-aggregate-start
 slice-aggregate-start c = simp length-take (omega arith)
 
--- src/lib.rt:60:9
 start-requires : tie.Need-start-requires
 start-requires c κs = search needs
 
--- src/lib.rt:62:9
 put-first-requires : tie.Need-put-first-requires
 put-first-requires c κs = search needs
 
--- src/lib.rt:63:9
 put-walk-requires : tie.Need-put-walk-requires
 put-walk-requires c κs =
     let w = started-at (c .before .before .before .before .before .before .before .before .before .args .k) (c .before .before .before .before .before .before .before .before .before .args .n) (c .before .before .before .before .before .before .before .before .before .pre .0) _ (c .before .before .before .before .before .before .start .result .walk) (c .before .before .before .before .before .before .start .result .answer) (zeros-part (c .before .before .before .before .before .before .before .before .before .args .n) 64 (omega arith)) (c .before .before .before .before .before .before .start .ensures) in
     rw w (omega (arith, length-zeros (c .before .before .before .before .before .before .before .before .before .args .n), c .before .before .before .before .before .before .before .before .before .pre .0 .sized))
 
--- src/lib.rt:54:1
 same-length : tie.Need-same-length
 same-length c = open-length (c .before .before .before .before .before .before .before .before .before .before .before .before .args .k) (c .before .before .before .before .before .before .before .before .before .before .before .before .args .n) (c .before .before .before .before .before .before .before .before .before .before .before .before .pre .0) (c .before .before .before .before .before .before .before .before .before .before .before .before .args .buf .now) _ _ (c .before .before .before .before .before .before .before .before .before .start .result .walk) _ _ (started-at (c .before .before .before .before .before .before .before .before .before .before .before .before .args .k) (c .before .before .before .before .before .before .before .before .before .before .before .before .args .n) (c .before .before .before .before .before .before .before .before .before .before .before .before .pre .0) _ (c .before .before .before .before .before .before .before .before .before .start .result .walk) (c .before .before .before .before .before .before .before .before .before .start .result .answer) (zeros-part (c .before .before .before .before .before .before .before .before .before .before .before .before .args .n) 64 (omega arith)) (c .before .before .before .before .before .before .before .before .before .start .ensures)) (c .before .before .before .before .before .before .before .before .before .before .before .before .pre .1) (c .before .before .before .before .before .before .put-first .ensures) (c .before .before .put-walk .ensures)
 
--- src/lib.rt:54:1
 returns : tie.Need-returns
 returns c = opened (c .before .before .before .before .before .before .before .before .before .before .before .before .args .k) (c .before .before .before .before .before .before .before .before .before .before .before .before .args .n) (c .before .before .before .before .before .before .before .before .before .before .before .before .pre .0) (c .before .before .before .before .before .before .before .before .before .before .before .before .args .buf .now) _ _ (c .before .before .before .before .before .before .before .before .before .start .result .walk) _ _ (started-at (c .before .before .before .before .before .before .before .before .before .before .before .before .args .k) (c .before .before .before .before .before .before .before .before .before .before .before .before .args .n) (c .before .before .before .before .before .before .before .before .before .before .before .before .pre .0) _ (c .before .before .before .before .before .before .before .before .before .start .result .walk) (c .before .before .before .before .before .before .before .before .before .start .result .answer) (zeros-part (c .before .before .before .before .before .before .before .before .before .before .before .before .args .n) 64 (omega arith)) (c .before .before .before .before .before .before .before .before .before .start .ensures)) (c .before .before .before .before .before .before .before .before .before .before .before .before .pre .1) (c .before .before .before .before .before .before .put-first .ensures) (c .before .before .put-walk .ensures)
 
