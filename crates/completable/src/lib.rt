@@ -1,7 +1,6 @@
 // Whether a Lyndon word can be completed by given letters to a necklace. No arrangement of the letters is tried: a pool of words decides it
 // (`pool`, proofs/Pool). No public call of the catalogue: those of `shades` check what these ask for.
 ghost use mathlib.Core.Path.{_≡_};
-ghost use mathlib.Core.Bool.{false};
 ghost use mathlib.Core.List.{_++_};
 ghost use Prim.Native.Nat.{_+_, _-_, _≤_};
 ghost use lib.ListN.{length, take, replicate};
@@ -10,7 +9,7 @@ ghost use Rattle.pool.proofs.Cut.{Moved};
 ghost use Rattle.words.specs.Sum.{sumOf};
 ghost use Rattle.pool.proofs.Letters.{letters};
 ghost use Rattle.completable.specs.Pool.{Laid, Leading};
-ghost use Rattle.completable.specs.Completion.{Fillable, Completing, Hopeless};
+ghost use Rattle.completable.specs.Completion.{Fillable, Completing, Decides};
 
 // Whether v stands before w.
 fn stands_before(v: &[u8], w: &[u8]) -> bool
@@ -115,10 +114,10 @@ fn moved(v: [u8; 64], o: usize, g: usize, l: usize) -> [u8; 64]
     w
 }
 
-// Whether the pool of the letters that rem counts leaves al a completion to a necklace. The answer no is certain.
+// Whether some word with exactly the letters that rem counts completes al to a necklace.
 pub fn completable(al: &[u8], rem: &[usize]) -> bool
     requires { ⌜ Completing (now al) (now rem) ⌝ }
-    ensures { λ r. ⌜ (r ≡ false → Hopeless (now (al .entry)) (now (rem .entry))) ⌝ }
+    ensures { λ r. ⌜ Decides (now (al .entry)) (now (rem .entry)) r ⌝ }
 {
     let mut w = [0u8; 64];
     let mut len = [1usize; 64];
@@ -134,7 +133,7 @@ pub fn completable(al: &[u8], rem: &[usize]) -> bool
         }
         let q = leading(&w, &len, t);
         if q == t {
-            return false;
+            return false; // only copies are left
         }
         let g = len[t - 1];
         w = moved(w, q * a, g, l);

@@ -1,17 +1,19 @@
 -- Shades to which the pool leaves no completion.
 --     barred-none        no such shade is left
---     barred-pool        the pool leaves no completion
+--     barred-pool, fitting-pool           the pool leaves no completion, or it leaves one
+--     allows-none, allows-pool            what that is for the answer
+--     counts-long        the letters of a word are as many as its counts say
 --     completing         what the pool asks
 --     raised-lyndon      raising a sector of a prenecklace and cutting behind it gives a Lyndon word
 --     lift-start, lift-asks, lift-more    the shades above that at a place, one after the other
 -- Assumes nothing.
-use Prim.Native.Nat.{ℕ, suc, _+_, _-_, _<_, _≤_}
+use Prim.Native.Nat.{ℕ, zero, suc, _+_, _-_, _<_, _≤_}
 use mathlib.Core.Path.{_≡_, refl, sym, _∙_, subst}
-use mathlib.Core.Bool.{true}
+use mathlib.Core.Bool.{Bool, true, false, true≢false}
 use mathlib.Core.List.{List, [], _∷_, _++_, append-assoc}
 use native.Mathlib.Omega.{arith}
 use native.Mathlib.Numerals.{add-one}
-use lib.ListN.{length, getD, take, set, length-set, length-append, List·getD-append}
+use lib.ListN.{length, getD, take, set, length-set, length-append, List·getD-append, List·getD-eq-default}
 use lib.Seq.{getD-set-same, getD-set-other, take-suc-set, length-take-le, getD-take, getD-at, set-out}
 use Rattle.words.proofs.Split.{lt, eq, gt, tri}
 use Rattle.words.proofs.Sequence.{sec}
@@ -23,9 +25,9 @@ use Rattle.necklaces.proofs.Raise.{raise-lyn}
 use Rattle.necklaces.proofs.Words.{pre-of}
 use Rattle.necklaces.proofs.Lyndon.{lyndon-of}
 use Rattle.words.specs.Sum.{sumOf}
-use Rattle.completable.specs.Completion.{Completing, Hopeless}
-use Rattle.counted.specs.Places.{Barred, Possible, Liftable, Lifted}
-use Rattle.counted.proofs.Tallying.{occurs-here, occurs-other}
+use Rattle.completable.specs.Completion.{Completing, Hopeless, Hopeful, Decides}
+use Rattle.counted.specs.Places.{Barred, Fitting, Allows, Possible, Liftable, Lifted, LiftedTo}
+use Rattle.counted.proofs.Tallying.{occurs-none, occurs-here, occurs-other}
 use Rattle.counted.proofs.Leaving.{sum-le}
 
 -- no such shade is left
@@ -36,20 +38,62 @@ barred-none u b rem e v h n = omega (arith, h b, occurs-here b b v refl)
 abbrev pub lessOne : List ℕ → ℕ → List ℕ
 lessOne rem b = set rem b (getD rem b 0 - 1)
 
--- the pool leaves no completion
-pub barred-pool : (u : List ℕ) (b : ℕ) (rem : List ℕ) → b < length rem → (getD rem b 0 ≡ 0 → ⊥) → Hopeless (u ++ b ∷ []) (lessOne rem b) → Barred u b rem
-barred-pool u b rem l z h v c n = h v counts (rw append-assoc n)
+-- the counts of a word without its first letter
+less-counts : (b : ℕ) (rem v : List ℕ) → b < length rem → ((x : ℕ) → occurs x (b ∷ v) ≡ getD rem x 0) → (x : ℕ) → occurs x v ≡ getD (lessOne rem b) x 0
+less-counts b rem v l c x =
+    elim (tri b x) [
+      | lt e ↦ other (λ q. omega arith)
+      | eq e ↦ rw (← e, getD-set-same rem b (getD rem b 0 - 1) 0 l) (omega (arith, c b, occurs-here b b v refl))
+      | gt e ↦ other (λ q. omega arith)
+    ]
   where
-    counts : (x : ℕ) → occurs x v ≡ getD (lessOne rem b) x 0
-    counts x =
-        elim (tri b x) [
-          | lt e ↦ other (λ q. omega arith)
-          | eq e ↦ rw (← e, getD-set-same rem b (getD rem b 0 - 1) 0 l) (omega (arith, c b, occurs-here b b v refl))
-          | gt e ↦ other (λ q. omega arith)
-        ]
-      where
-        other : (b ≡ x → ⊥) → occurs x v ≡ getD (lessOne rem b) x 0
-        other q = sym (occurs-other b x v q) ∙ c x ∙ sym (getD-set-other rem b x (getD rem b 0 - 1) 0 (λ e. q (sym e)))
+    other : (b ≡ x → ⊥) → occurs x v ≡ getD (lessOne rem b) x 0
+    other q = sym (occurs-other b x v q) ∙ c x ∙ sym (getD-set-other rem b x (getD rem b 0 - 1) 0 (λ e. q (sym e)))
+
+-- and with a letter put in front
+more-counts : (b : ℕ) (rem v : List ℕ) → b < length rem → (getD rem b 0 ≡ 0 → ⊥) → ((x : ℕ) → occurs x v ≡ getD (lessOne rem b) x 0) → (x : ℕ) → occurs x (b ∷ v) ≡ getD rem x 0
+more-counts b rem v l z c x =
+    elim (tri b x) [
+      | lt e ↦ other (λ q. omega arith)
+      | eq e ↦ rw (← e) (omega (arith, c b, occurs-here b b v refl, getD-set-same rem b (getD rem b 0 - 1) 0 l))
+      | gt e ↦ other (λ q. omega arith)
+    ]
+  where
+    other : (b ≡ x → ⊥) → occurs x (b ∷ v) ≡ getD rem x 0
+    other q = occurs-other b x v q ∙ c x ∙ getD-set-other rem b x (getD rem b 0 - 1) 0 (λ e. q (sym e))
+
+-- the pool leaves no completion
+pub barred-pool : (u : List ℕ) (b : ℕ) (rem : List ℕ) → b < length rem → Hopeless (u ++ b ∷ []) (lessOne rem b) → Barred u b rem
+barred-pool u b rem l h v c n = h v (less-counts b rem v l c) (rw append-assoc n)
+
+-- or it leaves one
+pub fitting-pool : (u : List ℕ) (b : ℕ) (rem : List ℕ) → b < length rem → (getD rem b 0 ≡ 0 → ⊥) → Hopeful (u ++ b ∷ []) (lessOne rem b) → Fitting u b rem
+fitting-pool u b rem l z h = record { rest = h .rest; letters = more-counts b rem (h .rest) l z (h .letters); whole = rw append-assoc at (h .whole) }
+
+-- no such shade is left
+pub allows-none : (u : List ℕ) (b : ℕ) (rem : List ℕ) → getD rem b 0 ≡ 0 → Allows u b rem false
+allows-none u b rem e = record { yes = λ q. absurd (true≢false (sym q)); no = λ q. barred-none u b rem e }
+
+-- the pool decides
+pub allows-pool : (u : List ℕ) (b : ℕ) (rem : List ℕ) (r : Bool) → b < length rem → (getD rem b 0 ≡ 0 → ⊥) → Decides (u ++ b ∷ []) (lessOne rem b) r → Allows u b rem r
+allows-pool u b rem r l z d = record { yes = λ q. fitting-pool u b rem l z (d .yes q); no = λ q. barred-pool u b rem l (d .no q) }
+
+-- the letters of a word are as many as its counts say
+pub counts-long : (v cs : List ℕ) → ((b : ℕ) → occurs b v ≡ getD cs b 0) → length v ≡ sumOf cs
+unfolding sumOf
+counts-long [] cs c = omega (arith, sum-le cs [] (λ b. omega (arith, c b, occurs-none b)))
+counts-long (a ∷ v) cs c = omega (arith, counts-long v (lessOne cs a) (less-counts a cs v inside c), sum-less cs a some)
+  where
+    some : 0 < getD cs a 0
+    some = omega (arith, c a, occurs-here a a v refl)
+
+    inside : a < length cs
+    inside = elim (tri a (length cs)) [ lt h ↦ h | eq h ↦ absurd (omega (arith, some, List·getD-eq-default cs 0 {n = a} (omega arith))) | gt h ↦ absurd (omega (arith, some, List·getD-eq-default cs 0 {n = a} (omega arith))) ]
+
+    sum-less : (cs : List ℕ) (a : ℕ) → 0 < getD cs a 0 → suc (sumOf (lessOne cs a)) ≡ sumOf cs
+    sum-less [] a z = absurd (omega arith)
+    sum-less (x ∷ cs) zero z = omega arith
+    sum-less (x ∷ cs) (suc a) z = omega (arith, sum-less cs a z)
 
 -- one less is left in no greater a sum
 less-sum : (rem : List ℕ) (b : ℕ) → sumOf (lessOne rem b) ≤ sumOf rem
@@ -118,3 +162,11 @@ lift-more w l k rem b r h x = record {
   most = omega arith;
   barred = λ a m q. elim (tri a b) [ lt e ↦ r .barred a m e | eq e ↦ subst (λ y. Barred (take l w) y rem) (sym e) x | gt e ↦ absurd (omega arith) ];
 }
+
+-- some word goes on with it
+pub lift-found : (w : List ℕ) (l k : ℕ) (rem : List ℕ) (b : ℕ) → Lifted w l k rem b → Fitting (take l w) b rem → LiftedTo w l k rem b
+lift-found w l k rem b r f = record { lifted = r; fitting = λ h. f }
+
+-- no shade is left
+pub lift-end : (w : List ℕ) (l k : ℕ) (rem : List ℕ) (b : ℕ) → Lifted w l k rem b → k ≤ b → LiftedTo w l k rem b
+lift-end w l k rem b r h = record { lifted = r; fitting = λ q. absurd (omega arith) }

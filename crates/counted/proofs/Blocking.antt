@@ -2,6 +2,7 @@
 --     ring-occurs          each shade stands in a ring as often as the counts say
 --     blocked-exceeds      what stands before the place is already more than the counts allow
 --     blocked-barred       the shade is barred
+--     begun-fitting        the shade fits: some ring goes on with it
 --     raise-asks, raise-none, raise-some    one place
 --     Past, find-start, find-asks, find-found, find-more, find-end    one place after the other, from the last on
 -- Assumes nothing.
@@ -10,19 +11,21 @@ use mathlib.Core.Path.{_≡_, sym, ap, _∙_, subst}
 use mathlib.Core.Bool.{true}
 use mathlib.Core.List.{List, _∷_, _++_}
 use native.Mathlib.Omega.{arith}
-use lib.ListN.{length, getD, take, drop}
-use lib.Seq.{split-at, length-take-le, getD-take, ext-getD}
-use Rattle.words.proofs.Split.{lt, eq, gt, tri, both-left, both-right}
+use lib.ListN.{length, getD, take, drop, List·getD-append, List·getD-eq-default}
+use lib.Seq.{split-at, length-take-le, getD-take, getD-at, ext-getD}
+use Rattle.words.proofs.Split.{lt, eq, gt, tri, both, both-left, both-right}
 use Rattle.words.proofs.Sequence.{sec}
 use Rattle.rings.specs.Necklace.{necklace}
 use Rattle.rings.specs.Counts.{occurs, hasCounts, countedNecklace}
 use Rattle.rings.specs.Prenecklace.{prenecklace}
+use Rattle.words.specs.Sum.{sumOf}
 use Rattle.necklaces.proofs.Run.{pre-shorter, pre-through}
 use Rattle.necklaces.proofs.Words.{pre-of, of-pre}
-use Rattle.pool.proofs.Letters.{occurs-append}
-use Rattle.counted.specs.Places.{Ring, Blocked, Remains, Exceeds, Barred, Liftable, Lifted, Raisable, Raises, Placed}
+use Rattle.pool.proofs.Copies.{occurs-append}
+use Rattle.counted.specs.Places.{Ring, Blocked, Begun, Remains, Exceeds, Barred, Fitting, Liftable, LiftedTo, Raisable, Raises, Placed}
 use Rattle.counted.specs.Above.{Opening}
-use Rattle.counted.proofs.Tallying.{counts-at, occurs-past}
+use Rattle.counted.proofs.Tallying.{counts-at, counts-end, occurs-at, occurs-past}
+use Rattle.counted.proofs.Barring.{counts-long}
 use Rattle.counted.proofs.Leaving.{remains-sum}
 
 -- a beginning of a prenecklace is a prenecklace
@@ -86,6 +89,48 @@ module _ (cs : List ℕ) (n k : ℕ) (w : List ℕ) (l b : ℕ) (inside : l < n)
             | gt h ↦ past x (omega arith)
           ]
 
+-- ---- where a ring goes on
+
+-- the shade fits
+pub begun-fitting : (cs : List ℕ) (k : ℕ) (w : List ℕ) (l b : ℕ) (rem : List ℕ) → l ≤ length w → length cs ≡ k → ((m : ℕ) → m < l → sec w m < k) → Remains cs (take l w) rem → Fitting (take l w) b rem →
+    Begun cs (sumOf cs) k w l b
+unfolding countedNecklace
+begun-fitting cs k w l b rem room many known r f = record {
+  ring = v;
+  known = record {
+    reading = record { long = counts-long v cs counts; shades = λ i h. below (sec v i) (occurs-at v i (omega (arith, counts-long v cs counts))) };
+    counted = both (necklace v) (hasCounts cs v) (f .whole) (sym (counts-end cs v (length cs) (omega arith) (λ x h. counts x)));
+  };
+  agree = λ m h. List·getD-append (take l w) (b ∷ f .rest) 0 m (omega (arith, short)) ∙ getD-take l w m 0 h;
+  here = getD-at (take l w) b (f .rest) 0 l short;
+}
+  where
+    v : List ℕ
+    v = take l w ++ b ∷ f .rest
+
+    short : length (take l w) ≡ l
+    short = length-take-le l w room
+
+    past : (x : ℕ) → length cs ≤ x → occurs x v ≡ getD cs x 0
+    past x h =
+        omega (arith, occurs-append x (take l w) (b ∷ f .rest), f .letters x, r .past x h, List·getD-eq-default cs 0 {n = x} h, occurs-past x k (take l w) (λ i q. let i< : i < l = omega (arith, short) in rw (getD-take l w i 0 i<) (known i i<)) (omega arith))
+
+    counts : (x : ℕ) → occurs x v ≡ getD cs x 0
+    counts x =
+        elim (tri x (length cs)) [
+          | lt h ↦ omega (arith, occurs-append x (take l w) (b ∷ f .rest), f .letters x, r .left x h)
+          | eq h ↦ past x (omega arith)
+          | gt h ↦ past x (omega arith)
+        ]
+
+    below : (x : ℕ) → 0 < occurs x v → x < k
+    below x h =
+        elim (tri x k) [
+          | lt e ↦ e
+          | eq e ↦ absurd (omega (arith, counts x, List·getD-eq-default cs 0 {n = x} (omega arith)))
+          | gt e ↦ absurd (omega (arith, counts x, List·getD-eq-default cs 0 {n = x} (omega arith)))
+        ]
+
 -- ---- one place
 
 -- what is asked of the shades at the place
@@ -94,14 +139,15 @@ raise-asks w l k cs rem p r = record { inside = p .inside; shades = p .shades; r
 
 -- no ring of the counts goes on there
 pub raise-none : (w : List ℕ) (l k : ℕ) (cs : List ℕ) → length w ≡ 64 → Raisable w l k cs → Exceeds cs (take l w) → Raises w l k cs k
-raise-none w l k cs size p x = record { above = p .low; most = omega arith; blocked = λ n b h m q. blocked-exceeds cs n k w l b h (omega (arith, p .inside)) x }
+raise-none w l k cs size p x = record { above = p .low; most = omega arith; begun = λ h. absurd (omega arith); blocked = λ n b h m q. blocked-exceeds cs n k w l b h (omega (arith, p .inside)) x }
 
 -- each shade between is barred
-pub raise-some : (w : List ℕ) (l k : ℕ) (cs rem : List ℕ) (r : ℕ) → length w ≡ 64 → Raisable w l k cs → Remains cs (take l w) rem → Lifted w l k rem r → Raises w l k cs r
+pub raise-some : (w : List ℕ) (l k : ℕ) (cs rem : List ℕ) (r : ℕ) → length w ≡ 64 → Raisable w l k cs → Remains cs (take l w) rem → LiftedTo w l k rem r → Raises w l k cs r
 raise-some w l k cs rem r size p left up = record {
-  above = up .above;
-  most = up .most;
-  blocked = λ n b h m q. blocked-barred cs n k w l b h (omega (arith, p .inside)) rem (p .many) left (up .barred b m q);
+  above = up .lifted .above;
+  most = up .lifted .most;
+  blocked = λ n b h m q. blocked-barred cs n k w l b h (omega (arith, p .inside)) rem (p .many) left (up .lifted .barred b m q);
+  begun = λ h. begun-fitting cs k w l r rem (omega (arith, p .inside)) (p .many) (p .known) left (up .fitting h);
 }
 
 -- ---- one place after the other, from the last on
@@ -121,23 +167,28 @@ find-asks w n k cs i size p at z = record {
   inside = omega (arith, at .within, p .ready .size);
   shades = p .ready .shades;
   many = p .ready .many;
-  room = p .ready .room;
+  room = omega (arith, p .ready .whole, p .ready .size);
   pre = beginning-pre w n (suc (i - 1)) (omega (arith, at .within)) (omega (arith, p .ready .size)) (p .pre);
-  low = rw (getD-take n w (i - 1) 0 inside) at (p .ready .reading .shades (i - 1) inside);
+  low = known (i - 1) inside;
+  known = λ m h. known m (omega (arith, inside));
 }
   where
     inside : i - 1 < n
     inside = omega (arith, at .within)
 
+    known : (m : ℕ) → m < n → sec w m < k
+    known m h = rw (getD-take n w m 0 h) at (p .ready .reading .shades m h)
+
 module _ (w : List ℕ) (n k : ℕ) (cs : List ℕ) (i r : ℕ) (at : Past w n k cs i) (z : 0 < i) (up : Raises w (i - 1) k cs r) where
   -- the place can be raised
-  pub find-found : r < k → Placed w n k cs (record { end = i; shade = r })
-  find-found h = record {
+  pub find-found : sumOf cs ≡ n → r < k → Placed w n k cs (record { end = i; shade = r })
+  find-found whole h = record {
     within = at .within;
     blocked = at .blocked;
     above = λ q. up .above;
     known = λ q. h;
     between = λ b q m. up .blocked n b (omega (arith, at .within)) m;
+    begun = λ q. rw whole at (up .begun h);
   }
 
   -- it cannot
@@ -158,4 +209,5 @@ find-end w n k cs i at e = record {
   above = λ q. absurd (omega arith);
   known = λ q. absurd (omega arith);
   between = λ b q. absurd (omega arith);
+  begun = λ q. absurd (omega arith);
 }

@@ -1,34 +1,37 @@
 -- The search for the next ring, over the arrays that hold it: the first n sectors of an array of 64.
---     Standing cs n k start ring                what the loop of `seek` knows: the next ring above `ring` is that above `start`
+--     Standing cs n k start ring p              what the loop of `seek` knows: the next ring above `ring` is that above `start`
 --     seek-start, seek-none, seek-asks          the loop starts; there is no place to raise; what repeating asks
---     seek-size, seek-run, seek-found, seek-on, seek-falls    what is raised is a ring, or the search goes on from there
+--     lastRaised n start ring                   the place that was raised last, or 0
+--     seek-right                                the place that is raised lies further right than that before: there are at most n rounds
+--     seek-size, seek-run, seek-last, seek-falls, seek-found, seek-on    what is raised is a ring, or the search goes on from there
 --     above-opening, above-asks                 the reading is a prenecklace; what repeating asks where it is none
 --     above-size, above-run, above-found, above-on, above-answers    its longest beginning that is one is repeated: that is the ring, or the search goes on from there
 -- Assumes nothing.
-use Prim.Native.Nat.{ℕ, suc, _-_, _<_, _≤_}
-use mathlib.Core.Path.{_≡_, refl, sym, _∙_}
+use Prim.Native.Nat.{ℕ, zero, suc, _-_, _<_, _≤_}
+use mathlib.Core.Path.{_≡_, refl, sym, ap, _∙_, subst}
 use mathlib.Core.Bool.{true, false, true≢false}
 use mathlib.Core.Option.{some}
 use mathlib.Core.List.{List, _++_}
 use native.Mathlib.Omega.{arith}
 use lib.ListN.{length, take, drop, set, length-set, length-append, length-drop}
 use lib.Seq.{take-at, length-take-le, getD-take, getD-set-same, getD-set-other}
-use Rattle.words.specs.Order.{before}
-use Rattle.words.specs.Readings.{readings, count}
+use Rattle.words.specs.Order.{before, upTo, same}
+use Rattle.words.proofs.Split.{lt, eq, gt, tri, clash}
 use Rattle.words.proofs.Sequence.{sec}
-use Rattle.words.proofs.Lex.{before-less}
+use Rattle.words.proofs.Lex.{same-refl, same-false, before-less, before-irrefl, before-upTo, upTo-refl, upTo-before-trans}
+use Rattle.rings.specs.Prenecklace.{lyn}
 use Rattle.rings.specs.Counts.{countedNecklace}
 use Rattle.rings.specs.Steps.{nextOf}
 use Rattle.necklaces.proofs.Run.{Pre, Run, pre-shorter}
 use Rattle.necklaces.proofs.Raise.{raise-lyn}
 use Rattle.necklaces.proofs.Words.{pre-of}
-use Rattle.necklaces.proofs.Lyndon.{run-prenecklace}
+use Rattle.necklaces.proofs.Lyndon.{run-prenecklace, run-lyn}
 use Rattle.counted.specs.declared.Sought.{Sought}
 use Rattle.classify.specs.Beginning.{Opened}
 use Rattle.counted.specs.Runs.{Repeatable, Repeats}
-use Rattle.counted.specs.Places.{Ring, Blocked, Placed}
+use Rattle.counted.specs.Places.{Ring, Blocked, Begun, Placed}
 use Rattle.counted.specs.Above.{Ready, Opening, Answers}
-use Rattle.counted.proofs.Stepping.{Step, step-none, step-found, step-on, step-falls, Lifts, raise-step, Settles, settle-step}
+use Rattle.counted.proofs.Stepping.{Step, step-none, step-found, step-on, Further, further-right, Lifts, raise-step, Settles, settle-step}
 
 -- ---- a new ring in the first n sectors
 
@@ -44,22 +47,38 @@ holds t n ring e h size = record { size = omega (arith, length-append t (drop n 
 -- a step leaves a prenecklace in the array
 step-opening : (cs : List ℕ) (n k : ℕ) (w t next : List ℕ) → Ready w n k cs → Step cs n k (take n w) t → take n next ≡ t → Opening next n k cs
 step-opening cs n k w t next ready step e = record {
-  ready = record { pos = ready .pos; size = ready .size; shades = ready .shades; many = ready .many; room = ready .room; reading = rw e (step .reading) };
+  ready = record { pos = ready .pos; size = ready .size; shades = ready .shades; many = ready .many; whole = ready .whole; reading = rw e (step .reading) };
   pre = rw e (step .pre);
 }
 
 -- ---- the loop of `seek`
 
--- the next ring above `ring` is that above `start`
-pub record Standing (cs : List ℕ) (n k : ℕ) (start ring : List ℕ) : Type 0 where
+-- the place, counted from 1, that was raised last, or 0 where none was: what stands up to there is repeated, so it is the lyn
+unfoldable pub lastRaised : ℕ → List ℕ → List ℕ → ℕ
+lastRaised n start ring = elim (same (take n start) (take n ring)) [ true ↦ 0 | false ↦ lyn (take n ring) ]
+
+-- none was
+pub last-none : (n : ℕ) (start : List ℕ) → lastRaised n start start ≡ 0
+unfolding lastRaised
+last-none n start = rw (same-refl (take n start), lastRaised)
+
+-- one was
+last-some : (n : ℕ) (start ring : List ℕ) (i : ℕ) → before (take n start) (take n ring) ≡ true → Run (sec (take n ring)) (length (take n ring)) i → lastRaised n start ring ≡ i
+unfolding lastRaised
+last-some n start ring i up r = rw (same-false (take n start) (take n ring) (λ e. clash (before (take n start) (take n ring)) up (subst (λ x. before (take n start) x ≡ false) e (before-irrefl (take n start)))), lastRaised) (run-lyn (take n ring) i r)
+
+-- the next ring above `ring` is that above `start`; p is the place, counted from 1, that was raised last, or 0
+pub record Standing (cs : List ℕ) (n k : ℕ) (start ring : List ℕ) (p : ℕ) : Type 0 where
   pub size : length ring ≡ 64
   pub opening : Opening ring n k cs
   pub next : nextOf (countedNecklace cs) k (take n ring) ≡ nextOf (countedNecklace cs) k (take n start)
+  pub reached : upTo (take n start) (take n ring) ≡ true
+  pub further : 0 < p → Further cs n k (take n ring) p
 
-pub seek-start : (cs : List ℕ) (n k : ℕ) (start : List ℕ) → length start ≡ 64 → Opening start n k cs → Standing cs n k start start
-seek-start cs n k start size p = record { size = size; opening = p; next = refl }
+pub seek-start : (cs : List ℕ) (n k : ℕ) (start : List ℕ) → length start ≡ 64 → Opening start n k cs → Standing cs n k start start (lastRaised n start start)
+seek-start cs n k start size p = record { size = size; opening = p; next = refl; reached = upTo-refl (take n start); further = λ h. absurd (omega (arith, last-none n start)) }
 
-module _ (cs : List ℕ) (n k : ℕ) (start ring : List ℕ) (at : Standing cs n k start ring) (i b : ℕ) (found : Placed ring n k cs (record { end = i; shade = b })) where
+module _ (cs : List ℕ) (n k : ℕ) (start ring : List ℕ) (p : ℕ) (at : Standing cs n k start ring p) (i b : ℕ) (found : Placed ring n k cs (record { end = i; shade = b })) where
   long : length (take n ring) ≡ n
   long = at .opening .ready .reading .long
 
@@ -83,6 +102,14 @@ module _ (cs : List ℕ) (n k : ℕ) (start ring : List ℕ) (at : Standing cs n
   seek-none z = record { ring = λ e. absurd (true≢false (sym e)); done = λ e. sym (at .next) ∙ step-none cs n k (take n ring) long (no-ring z) }
 
   module _ (z : i ≡ 0 → ⊥) where
+    -- the place lies further right than that before
+    pub seek-right : p < i
+    seek-right = go p (at .further)
+      where
+        go : (p : ℕ) → (0 < p → Further cs n k (take n ring) p) → p < i
+        go zero f = omega arith
+        go (suc p) f = further-right cs n k (take n ring) (suc p) i long (f (omega arith)) (λ l c h q r y. still-blocked l c q (found .blocked l c h q (omega (arith, r, same-sector l q)) y))
+
     inside : i - 1 < n
     inside = omega (arith, found .within)
 
@@ -148,6 +175,17 @@ module _ (cs : List ℕ) (n k : ℕ) (start ring : List ℕ) (at : Standing cs n
       pub seek-run : Run (sec (take n (t ++ drop n (set ring (i - 1) b)))) (length (take n (t ++ drop n (set ring (i - 1) b)))) i
       seek-run = rw (next-holds .front) (rep .run)
 
+      risen : before (take n start) (take n (t ++ drop n (set ring (i - 1) b))) ≡ true
+      risen = rw (next-holds .front) (upTo-before-trans (take n start) (take n ring) t (at .reached) (step .above))
+
+      -- the place that was raised last is now this one
+      pub seek-last : lastRaised n start (t ++ drop n (set ring (i - 1) b)) ≡ i
+      seek-last = last-some n start (t ++ drop n (set ring (i - 1) b)) i risen seek-run
+
+      -- fewer places are left behind it
+      pub seek-falls : n - lastRaised n start (t ++ drop n (set ring (i - 1) b)) < n - p
+      seek-falls = omega (arith, seek-last, seek-right, found .within)
+
       -- it is a ring of the counts
       pub seek-found : true ≡ countedNecklace cs (take n (t ++ drop n (set ring (i - 1) b))) → Answers start n k cs (record { some = true; ring = t ++ drop n (set ring (i - 1) b) })
       seek-found h = record {
@@ -156,16 +194,25 @@ module _ (cs : List ℕ) (n k : ℕ) (start ring : List ℕ) (at : Standing cs n
       }
 
       -- it is none
-      pub seek-on : false ≡ countedNecklace cs (take n (t ++ drop n (set ring (i - 1) b))) → Standing cs n k start (t ++ drop n (set ring (i - 1) b))
-      seek-on h = record {
+      pub seek-on : false ≡ countedNecklace cs (take n (t ++ drop n (set ring (i - 1) b))) → Standing cs n k start (t ++ drop n (set ring (i - 1) b)) (lastRaised n start (t ++ drop n (set ring (i - 1) b)))
+      seek-on h = rw seek-last (record {
         size = next-holds .size;
         opening = step-opening cs n k ring t (t ++ drop n (set ring (i - 1) b)) (at .opening .ready) step (next-holds .front);
         next = rw (next-holds .front) (sym (step-on cs n k (take n ring) long t step (sym (rw (next-holds .front) at h))) ∙ at .next);
-      }
+        further = λ y. rw (next-holds .front) (record { run = rw whole at (rep .run); other = sym (rw (next-holds .front) at h); ring = begun .ring; known = begun .known; agree = as-begun });
+        reached = before-upTo (take n start) (take n (t ++ drop n (set ring (i - 1) b))) risen;
+      })
+        where
+          begun : Begun cs n k ring (i - 1) b
+          begun = found .begun (omega arith)
 
-      -- fewer readings are left above
-      pub seek-falls : count (before (take n (t ++ drop n (set ring (i - 1) b)))) (readings n k) < count (before (take n ring)) (readings n k)
-      seek-falls = rw (next-holds .front) (step-falls cs n k (take n ring) long t step)
+          as-begun : (m : ℕ) → m < i → sec (begun .ring) m ≡ sec t m
+          as-begun m q =
+              elim (tri m (i - 1)) [
+                | lt e ↦ begun .agree m e ∙ sym (same-sector m (omega (arith, inside))) ∙ sym (lifts .keeps m e)
+                | eq e ↦ ap (sec (begun .ring)) e ∙ begun .here ∙ sym (lifts .here) ∙ ap (sec t) (sym e)
+                | gt e ↦ absurd (omega arith)
+              ]
 
 -- ---- where the search starts
 

@@ -1,23 +1,24 @@
 -- From a reading to a greater prenecklace with no ring of the counts between.
 --     Step cs n k w v                   v is such a prenecklace, from w
 --     step-found, step-on, step-none    it is the next ring; it is none, and the next ring above it is that above w; there is no ring above w
---     step-falls                        fewer readings are left above
+--     Further, further-right            some ring begins as w does up to a place; the place that is raised next lies further right
 --     repeat-floor, repeat-shades       a prenecklace that begins like a repetition is not below it; the shades of a repetition
 --     Lifts, raise-step                 a place is raised, and what stands before it is repeated
 --     Settles, settle-step              the longest beginning that is a prenecklace is repeated
 -- Assumes nothing.
 use Prim.Native.Nat.{ℕ, suc, _-_, _%_, _<_, _≤_}
-use mathlib.Core.Path.{_≡_, refl, sym, _∙_}
+use mathlib.Core.Path.{_≡_, refl, sym, _∙_, subst}
 use mathlib.Core.Bool.{true, false}
 use mathlib.Core.Option.{none, some}
 use mathlib.Core.List.{List}
 use native.Mathlib.Omega.{arith}
 use native.Mathlib.Nat.{mod-lt}
 use lib.ListN.{length}
+use lib.Seq.{ext-getD}
 use Rattle.words.specs.Order.{before, upTo}
-use Rattle.words.specs.Readings.{Reading, readings, count}
+use Rattle.words.specs.Readings.{Reading, readings}
 use Rattle.words.proofs.Split.{lt, eq, gt, tri, both, both-left, both-right, agree, clash, refuted}
-use Rattle.words.proofs.Sequence.{sec, Less, place, one-more, less-asym}
+use Rattle.words.proofs.Sequence.{sec, Less, Cmp, below, alike, above, cmp, place, one-more, less-asym}
 use Rattle.words.proofs.Lex.{Lex, ahead, equal, behind, lex, before-less, less-before, not-less-upTo, before-trans, upTo-not-before}
 use Rattle.words.proofs.Readings.{all-weaken, readings-all, first-is, first-nothing, first-cong}
 use Rattle.rings.specs.Prenecklace.{prenecklace}
@@ -28,7 +29,6 @@ use Rattle.necklaces.proofs.Repeat.{run-rep}
 use Rattle.necklaces.proofs.Raise.{run-floor}
 use Rattle.necklaces.proofs.Words.{pre-of, necklace-prenecklace}
 use Rattle.necklaces.proofs.Lyndon.{run-prenecklace}
-use Rattle.necklaces.proofs.FullWalk.{fewer-above}
 use Rattle.counted.specs.Places.{Ring, Blocked}
 use Rattle.counted.proofs.Blocking.{ring-necklace}
 
@@ -53,10 +53,6 @@ module _ (cs : List ℕ) (n k : ℕ) (w : List ℕ) (long : length w ≡ n) wher
       (first-nothing n k (aboveOf (countedNecklace cs) w) (λ u r. refuted (aboveOf (countedNecklace cs) w u) (λ p. let (ring, up) = passing w u r p in h u ring up)))
 
   module _ (v : List ℕ) (step : Step cs n k w v) where
-    -- fewer readings are left above
-    pub step-falls : count (before v) (readings n k) < count (before w) (readings n k)
-    step-falls = fewer-above n k w v (step .reading) (step .above)
-
     -- it is the next ring
     pub step-found : countedNecklace cs v ≡ true → nextOf (countedNecklace cs) k w ≡ some v
     unfolding nextOf aboveOf
@@ -115,6 +111,34 @@ module _ (cs : List ℕ) (n k p : ℕ) (w t : List ℕ) (long : length w ≡ n) 
             | eq h ↦ later v ring d (omega arith) l
             | gt h ↦ later v ring d (omega arith) l
           ]
+
+-- where a place was raised before: t repeats its first p sectors and is no ring of the counts, but some ring begins so
+pub record Further (cs : List ℕ) (n k : ℕ) (t : List ℕ) (p : ℕ) : Type 0 where
+  pub run : Run (sec t) n p
+  pub other : countedNecklace cs t ≡ false
+  pub ring : List ℕ
+  pub known : Ring cs n k ring
+  pub agree : (m : ℕ) → m < p → sec ring m ≡ sec t m
+
+-- the ring leaves t behind the part that is repeated, and so the place that is raised next lies further right
+pub further-right : (cs : List ℕ) (n k : ℕ) (t : List ℕ) (p e : ℕ) → length t ≡ n → Further cs n k t p → ((l b : ℕ) → e ≤ l → l < n → sec t l < b → b < k → Blocked cs n k t l b) → p < e
+further-right cs n k t p e long f blocked = go (cmp (sec t) (sec v) n)
+  where
+    v : List ℕ
+    v = f .ring
+
+    far : (i : ℕ) → (sec v i ≡ sec t i → ⊥) → p ≤ i
+    far i q = elim (tri i p) [ lt h ↦ absurd (q (f .agree i h)) | eq h ↦ omega arith | gt h ↦ omega arith ]
+
+    go : Cmp (sec t) (sec v) n → p < e
+    go (above d) = absurd (run-floor (sec t) (sec v) n p (f .run) (ring-pre cs n k v (f .known)) d (far (d .at) (λ q. omega (arith, d .less))))
+    go (alike h) =
+        clash (countedNecklace cs v) (f .known .counted)
+        (subst (λ x. countedNecklace cs x ≡ false) (ext-getD 0 t v (long ∙ sym (f .known .reading .long)) (λ i l. h i (omega (arith, long)))) (f .other))
+    go (below d) = elim (tri (d .at) e) [ lt h ↦ omega (arith, far (d .at) (λ q. omega (arith, d .less))) | eq h ↦ absurd (hit (omega arith)) | gt h ↦ absurd (hit (omega arith)) ]
+      where
+        hit : e ≤ d .at → ⊥
+        hit h = blocked (d .at) (sec v (d .at)) h (d .bound) (d .less) (f .known .reading .shades (d .at) (d .bound)) v (f .known) (λ m q. sym (d .agree m q)) refl
 
 -- t has the first l sectors of w, then the greater shade b, and repeats these
 pub record Lifts (n k : ℕ) (w t : List ℕ) (l b : ℕ) : Type 0 where

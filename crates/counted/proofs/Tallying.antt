@@ -1,10 +1,11 @@
 -- Counting shades.
 --     tally-hit, tally-miss, tally-end    how often a shade stands in the first i sectors
 --     counts-at, counts-end, counts-not   what `hasCounts` says of each shade
+--     occurs-at                           each shade of a word occurs in it
 --     occurs-past                         a shade past the greatest does not occur
 --     counted-not, counted-is             a prenecklace with a known lyn is a necklace with given counts, or is not
 -- Assumes nothing.
-use Prim.Native.Nat.{ℕ, suc, _+_, _%_, _<_, _≤_}
+use Prim.Native.Nat.{ℕ, zero, suc, _+_, _%_, _<_, _≤_}
 use mathlib.Core.Path.{_≡_, refl, sym, ap, _∙_}
 use mathlib.Core.Bool.{Bool, true, false}
 use mathlib.Core.List.{List, [], _∷_}
@@ -14,7 +15,7 @@ use lib.ListN.{length, getD, take}
 use lib.Seq.{take-suc, take-all, ext-getD}
 use borrow.Author.Tests.{eq-eqb, ne-eqb}
 use Rattle.words.specs.Search.{tab}
-use Rattle.words.proofs.Split.{refuted}
+use Rattle.words.proofs.Split.{lt, eq, gt, tri, refuted}
 use Rattle.words.proofs.Search.{length-tab, getD-tab}
 use Rattle.words.proofs.Sequence.{sec}
 use Rattle.words.proofs.Lex.{same-true, true-same}
@@ -22,7 +23,7 @@ use Rattle.rings.specs.Necklace.{necklace}
 use Rattle.rings.specs.Counts.{occurs, countsOf, hasCounts, countedNecklace}
 use Rattle.necklaces.proofs.Run.{Run}
 use Rattle.necklaces.proofs.Lyndon.{run-necklace, necklace-run}
-use Rattle.pool.proofs.Letters.{occurs-append}
+use Rattle.pool.proofs.Copies.{occurs-append}
 
 -- ---- one shade
 
@@ -57,6 +58,17 @@ tally-end b s i x h e = e ∙ ap (occurs b) (take-all i s h)
 pub occurs-past : (b k : ℕ) (w : List ℕ) → ((i : ℕ) → i < length w → sec w i < k) → k ≤ b → occurs b w ≡ 0
 occurs-past b k [] h l = occurs-none b
 occurs-past b k (a ∷ w) h l = occurs-other a b w (λ e. omega (arith, h 0 (omega arith))) ∙ occurs-past b k w (λ i m. h (suc i) (omega arith)) l
+
+-- each letter of a word occurs in it
+pub occurs-at : (w : List ℕ) (i : ℕ) → i < length w → 0 < occurs (sec w i) w
+occurs-at [] i h = absurd (omega arith)
+occurs-at (a ∷ w) zero h = omega (arith, occurs-here a a w refl)
+occurs-at (a ∷ w) (suc i) h =
+    elim (tri a (sec w i)) [
+      | lt e ↦ omega (arith, occurs-other a (sec w i) w (λ q. omega arith), occurs-at w i (omega arith))
+      | eq e ↦ omega (arith, occurs-here a (sec w i) w e)
+      | gt e ↦ omega (arith, occurs-other a (sec w i) w (λ q. omega arith), occurs-at w i (omega arith))
+    ]
 
 -- ---- all shades
 

@@ -22,7 +22,7 @@ pub record Ready (w : List ℕ) (n k : ℕ) (cs : List ℕ) : Type 0 where
   pub size : n ≤ 64
   pub shades : k ≤ 16
   pub many : length cs ≡ k
-  pub room : sumOf cs ≤ 64
+  pub whole : sumOf cs ≡ n
   pub reading : Reading n k (take n w)
 
 -- they are also a prenecklace

@@ -2,14 +2,13 @@
 // Rings are looked for from one prenecklace to a greater one. Each time the last place is found that can be raised so that the pool leaves a
 // completion (`completable`); what follows that place repeats what stands before it.
 ghost use mathlib.Core.Path.{_≡_};
-ghost use mathlib.Core.Bool.{false};
 ghost use Prim.Native.Nat.{_<_, _≤_};
 ghost use lib.ListN.{length, take};
 ghost use Rattle.rings.specs.Counts.{occurs, hasCounts, countedNecklace};
 ghost use Rattle.necklaces.proofs.Run.{Run};
 ghost use Rattle.words.proofs.Sequence.{sec};
 ghost use Rattle.counted.specs.Runs.{Repeatable, Repeats};
-ghost use Rattle.counted.specs.Places.{Beside, Possible, Barred, Liftable, Lifted, Raisable, Raises, Placed};
+ghost use Rattle.counted.specs.Places.{Beside, Possible, Allows, Liftable, LiftedTo, Raisable, Raises, Placed};
 ghost use Rattle.counted.specs.Above.{Ready, Opening, Answers};
 
 // How often the shade b stands in s.
@@ -93,10 +92,10 @@ fn left_over(counts: &[usize], u: &[u8]) -> Left
     }
 }
 
-// Whether the pool leaves the first l sectors with the shade b behind them a completion, where rem counts what is left beside those l.
+// Whether letters can complete the first l sectors with the shade b behind them to a necklace, where rem counts what is left beside those l.
 fn possible(w: [u8; 64], l: usize, b: usize, rem: [usize; 16]) -> bool
     requires { ⌜ Possible w l b rem ⌝ }
-    ensures { λ r. ⌜ (r ≡ false → Barred (take l w) b rem) ⌝ }
+    ensures { λ r. ⌜ Allows (take l w) b rem r ⌝ }
 {
     if rem[b] == 0 {
         return false;
@@ -108,10 +107,10 @@ fn possible(w: [u8; 64], l: usize, b: usize, rem: [usize; 16]) -> bool
     completable::completable(&al[..l + 1], &left)
 }
 
-// The least shade above that at place l to which the pool leaves a completion, or k.
+// The least shade above that at place l to which letters leave a completion, or k.
 fn lift(w: [u8; 64], l: usize, k: usize, rem: [usize; 16]) -> usize
     requires { ⌜ Liftable w l k rem ⌝ }
-    ensures { λ r. ⌜ Lifted w l k rem r ⌝ }
+    ensures { λ r. ⌜ LiftedTo w l k rem r ⌝ }
 {
     let mut b = (w[l] as usize) + 1;
     while b < k {
@@ -123,7 +122,7 @@ fn lift(w: [u8; 64], l: usize, k: usize, rem: [usize; 16]) -> usize
     b
 }
 
-// The least shade above that at place l with which a ring of these counts may go on there, or k.
+// The least shade above that at place l with which a ring of these counts goes on there, or k.
 fn open_shade(w: [u8; 64], l: usize, k: usize, counts: &[usize]) -> usize
     requires { ⌜ Raisable w l k (now counts) ⌝ }
     ensures { λ r. ⌜ Raises w l k (now (counts .entry)) r ⌝ }
@@ -142,7 +141,7 @@ pub struct Place {
     pub shade: usize,
 }
 
-// The last place that can be raised so that a ring of these counts may begin so.
+// The last place that can be raised so that a ring of these counts begins so.
 fn find(w: [u8; 64], n: usize, k: usize, counts: &[usize]) -> Place
     requires { ⌜ Opening w n k (now counts) ⌝ }
     ensures { λ r. ⌜ Placed w n k (now (counts .entry)) r ⌝ }
@@ -164,7 +163,7 @@ pub struct Sought {
     pub ring: [u8; 64],
 }
 
-// The least ring of these counts above the prenecklace in the first n sectors.
+// The least ring of these counts above the prenecklace in the first n sectors. Each round raises a place further right: there are at most n.
 fn seek(start: [u8; 64], n: usize, k: usize, counts: &[usize]) -> Sought
     requires { ⌜ Opening start n k (now counts) ⌝ }
     ensures { λ r. ⌜ Answers start n k (now (counts .entry)) r ⌝ }

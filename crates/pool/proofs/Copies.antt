@@ -94,6 +94,12 @@ each-rearranged xs ys r h = each-of xs (λ y l. each-at h y (omega (arith, r y))
 
 -- ---- single letters
 
+-- a letter occurs in two words joined as often as in both
+pub occurs-append : (b : ℕ) (v w : List ℕ) → occurs b (v ++ w) ≡ occurs b v + occurs b w
+unfolding occurs
+occurs-append b [] w = omega arith
+occurs-append b (a ∷ v) w = omega (arith, occurs-append b v w)
+
 -- the letters of a word, each a word by itself
 unfoldable pub singles : List ℕ → List (List ℕ)
 singles [] = []

@@ -7,7 +7,7 @@
 -- Assumes nothing.
 use Prim.Native.Nat.{ℕ, suc, _+_, _-_, _*_, _<_, _≤_}
 use mathlib.Core.Path.{_≡_, refl, sym, ap, _∙_, subst}
-use mathlib.Core.Bool.{true}
+use mathlib.Core.Bool.{true, false}
 use mathlib.Core.List.{List, [], _∷_, _++_}
 use native.Mathlib.Omega.{arith}
 use native.Mathlib.Nat.{zero-mul}
@@ -20,7 +20,8 @@ use Rattle.rings.specs.Necklace.{necklace}
 use Rattle.rings.specs.Counts.{occurs}
 use Rattle.necklaces.proofs.Run.{Lyn}
 use Rattle.pool.proofs.Copies.{singles}
-use Rattle.pool.proofs.Pool.{Sorted, Pool, glued, pool-start, pool-glue, pool-stuck}
+use Rattle.pool.proofs.Made.{Completed}
+use Rattle.pool.proofs.Pool.{Sorted, Pool, glued, pool-start, pool-glue, pool-stuck, pool-yes}
 use Rattle.pool.proofs.Cut.{cut, sum-append, sum-take-suc, sum-take-le, sum-take-equal, length-cut, cut-at, parts, cut-ones, Moved, cut-moved}
 use Rattle.words.specs.Sum.{sumOf}
 
@@ -135,6 +136,10 @@ module _ {al u : List ℕ} {l t : ℕ} {len w : List ℕ} {q a : ℕ} (held : He
   -- where all words lead and the first stands before al, there is no completion
   pub held-stuck : q ≡ t → before (take a w) al ≡ true → (v : List ℕ) → ((b : ℕ) → occurs b v ≡ occurs b u) → necklace (al ++ v) ≡ true → ⊥
   held-stuck e b = pool-stuck al u words (held .pool) (λ i k. lead-word i (omega (arith, count))) (rw lead-first b)
+
+  -- where the first does not stand before al, there is one
+  pub held-yes : 0 < length al → before (take a w) al ≡ false → Completed al u
+  held-yes y b = pool-yes al u words y (held .pool) (rw lead-first b)
 
   module _ (g : ℕ) (last : getD len (t - 1) 0 ≡ g) (more : q < t) where
     -- the leading copies and the last word fit into the letters

@@ -11,6 +11,7 @@ use lib.ListN.{length, getD, take, replicate, length-append, length-replicate}
 use borrow.Author.Tests.{eq-eqb, ne-eqb}
 use Rattle.words.proofs.Sequence.{sec}
 use Rattle.rings.specs.Counts.{occurs}
+use Rattle.pool.proofs.Copies.{occurs-append}
 use Rattle.pool.proofs.Pool.{Sorted}
 use Rattle.words.specs.Sum.{sumOf}
 
@@ -35,12 +36,6 @@ unfolding lettersFrom
 letters-suc d i b [] e h = absurd (omega arith)
 letters-suc d zero b (c ∷ cs) e h = let q : d ≡ b = omega arith in rw q (append-nil (replicate c b))
 letters-suc d (suc i) b (c ∷ cs) e h = ap (λ x. replicate c d ++ x) (letters-suc (suc d) i b cs (omega arith) (omega arith)) ∙ sym (append-assoc (replicate c d) (lettersFrom (suc d) (take i cs)) (replicate (getD cs i 0) b))
-
--- a letter occurs in two words joined as often as in both
-pub occurs-append : (b : ℕ) (v w : List ℕ) → occurs b (v ++ w) ≡ occurs b v + occurs b w
-unfolding occurs
-occurs-append b [] w = omega arith
-occurs-append b (a ∷ v) w = omega (arith, occurs-append b v w)
 
 -- a letter stands in its copies
 pub occurs-replicate : (b n : ℕ) → occurs b (replicate n b) ≡ n

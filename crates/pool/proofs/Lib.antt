@@ -5,7 +5,10 @@
 --     Clear       lists of which no ending lies under the necklace; the letters of a completion are one
 --     Exchange    in such a list some copy of the least word can be joined with some copy of the greatest
 --     Shape       the order in which the pool stands, and that joining keeps it
---     Pool        the pool's steps, and the theorem: where it is stuck there is no completion
+--     Lowest      words that lie under each of their proper endings
+--     Product     such words that do not fall, one behind the other, are a necklace
+--     Made        the pool's words are such words
+--     Pool        the pool's steps, and the theorems: where it is stuck there is no completion, where its least word is not before al there is one
 --     Cut         a pool laid out in two arrays
 --     Held        the pool's steps as a loop over these arrays sees them
 --     Letters     the letters of given counts in increasing order
@@ -14,6 +17,9 @@ pub mod Copies
 pub mod Clear
 pub mod Exchange
 pub mod Shape
+pub mod Lowest
+pub mod Product
+pub mod Made
 pub mod Pool
 pub mod Cut
 pub mod Held

@@ -9,7 +9,7 @@
 -- Assumes nothing.
 use Prim.Native.Nat.{ℕ, zero, suc, _+_, _-_, _<_, _≤_}
 use mathlib.Core.Path.{_≡_, refl, sym, ap, _∙_, subst}
-use mathlib.Core.Bool.{true}
+use mathlib.Core.Bool.{true, false}
 use mathlib.Core.List.{List, [], _∷_, _++_, append-assoc}
 use native.Mathlib.Omega.{arith}
 use lib.ListN.{length, getD, set, take, replicate, length-append, length-replicate, getD-replicate, List·getD-append}
@@ -27,6 +27,7 @@ use Rattle.pool.proofs.Copies.{each-replicate, each-rearranged, copies,
 use Rattle.pool.proofs.Clear.{read, Clear, over, onto, short-last, letters-clear}
 use Rattle.pool.proofs.Exchange.{over-not, Exchanged, exchange}
 use Rattle.pool.proofs.Shape.{Rising, flat, step, Shape, settle, Ladder, ladder-top, ladder-stands, shape-first, shape-later, Topped, topped}
+use Rattle.pool.proofs.Made.{Made, over-short, made-start, made-join, Completed, made-whole}
 
 -- the letters of w do not fall
 abbrev pub Sorted : List ℕ → Type 0
@@ -42,6 +43,7 @@ pub record Arranged (al v : List ℕ) (xs : List (List ℕ)) : Type 0 where
 pub record Pool (al w : List ℕ) (xs : List (List ℕ)) : Type 0 where
   pub lyn : Lyn (sec al) (length al)
   pub shape : Shape (getD xs 0 []) xs
+  pub made : Made w xs
   pub arranged : (v : List ℕ) → ((b : ℕ) → occurs b v ≡ occurs b w) → necklace (al ++ v) ≡ true → Arranged al v xs
 
 -- ---- the start
@@ -66,6 +68,7 @@ pool-start al [] lyn z h = absurd (omega arith)
 pool-start al (a ∷ w) lyn z h = record {
   lyn = lyn;
   shape = go (letters-rise a w h);
+  made = made-start (a ∷ w);
   arranged = λ v e n. record { list = singles v; moved = singles-rearranged v (a ∷ w) e; clear = letters-clear al v n };
 }
   where
@@ -77,6 +80,11 @@ pool-start al (a ∷ w) lyn z h = record {
 -- the pool with its last word joined to word q - 1
 unfoldable pub glued : ℕ → List (List ℕ) → List (List ℕ)
 glued q xs = set (take (length xs - 1) xs) (q - 1) (getD xs (q - 1) [] ++ getD xs (length xs - 1) [])
+
+-- the last of the copies, put to what follows
+replicate-shift : (n : ℕ) (s : List ℕ) (r : List (List ℕ)) → replicate (suc n) s ++ r ≡ replicate n s ++ s ∷ r
+replicate-shift zero s r = refl
+replicate-shift (suc n) s r = ap (λ x. s ∷ x) (replicate-shift n s r)
 
 -- joining s with g leaves each completion an arrangement
 join-arranged : (al v s g : List ℕ) (n : ℕ) (xs : List (List ℕ)) → Lyn (sec al) (length al) → Short s al → Ladder s g xs →
@@ -100,11 +108,14 @@ join-arranged al v s g n xs lyn short l r = record { list = e .new; clear = e .c
 
 -- joining s with g leaves a pool
 join-pool : (al w s g : List ℕ) (n : ℕ) (xs : List (List ℕ)) → Short s al → Ladder s g xs → Pool al w (replicate (suc n) s ++ (xs ++ g ∷ [])) → Pool al w (replicate n s ++ (s ++ g) ∷ xs)
-join-pool al w s g n xs short l p = record { lyn = p .lyn; shape = go n; arranged = λ v c h. join-arranged al v s g n xs (p .lyn) short l (p .arranged v c h) }
+join-pool al w s g n xs short l p = record { lyn = p .lyn; shape = go n; made = made-join w s g (replicate n s) xs (over-short (ladder-top l)) (subst (Made w) parted (p .made)); arranged = λ v c h. join-arranged al v s g n xs (p .lyn) short l (p .arranged v c h) }
   where
     go : (n : ℕ) → Shape (getD (replicate n s ++ (s ++ g) ∷ xs) 0 []) (replicate n s ++ (s ++ g) ∷ xs)
     go zero = shape-first l
     go (suc n) = shape-later l n
+
+    parted : replicate (suc n) s ++ (xs ++ g ∷ []) ≡ (replicate n s ++ s ∷ xs) ++ g ∷ []
+    parted = replicate-shift n s (xs ++ g ∷ []) ∙ sym (append-assoc (replicate n s) (s ∷ xs) (g ∷ []))
 
 -- ---- words by their places
 
@@ -138,11 +149,6 @@ glued-at a xs s g = rw (e₁, e₂, take-append-seam, List·getD-append (a ++ s 
 
     inside : length a < length (a ++ s ∷ xs)
     inside = rw (length-append a (s ∷ xs)) (omega arith)
-
--- the last of the copies, put to what follows
-replicate-shift : (n : ℕ) (s : List ℕ) (r : List (List ℕ)) → replicate (suc n) s ++ r ≡ replicate n s ++ s ∷ r
-replicate-shift zero s r = refl
-replicate-shift (suc n) s r = ap (λ x. s ∷ x) (replicate-shift n s r)
 
 -- the last word taken out and joined to the last copy of the least
 pub pool-glue : (al w : List ℕ) (xs : List (List ℕ)) → Pool al w xs → (q : ℕ) → q < length xs → ((i : ℕ) → i < q → getD xs i [] ≡ getD xs 0 []) →
@@ -198,6 +204,10 @@ pool-stuck al w xs p lead b v c h = none-clear (p .arranged v c h)
         ends [] e k l = let g = rw copies-none at l in omega arith
         ends (y ∷ ys) e k l = copies-not-clear y ys e k (short-last al s (p .lyn) (p .shape .long) (before-short s al b) v)
 
+-- where the least word does not stand before al, there is one
+pub pool-yes : (al w : List ℕ) (xs : List (List ℕ)) → 0 < length al → Pool al w xs → before (getD xs 0 []) al ≡ false → Completed al w
+pool-yes al w xs z p h = made-whole al w (getD xs 0 []) xs z (p .lyn) (p .shape) (p .made) h
+
 -- ---- the whole run
 
 -- a pool that comes from another by such steps
@@ -217,3 +227,8 @@ pub no-completion : (al w : List ℕ) → Lyn (sec al) (length al) → 0 < lengt
     ((i : ℕ) → i < length xs → getD xs i [] ≡ getD xs 0 []) → before (getD xs 0 []) al ≡ true →
     (v : List ℕ) → ((b : ℕ) → occurs b v ≡ occurs b w) → necklace (al ++ v) ≡ true → ⊥
 no-completion al w lyn z sorted xs r = pool-stuck al w xs (pool-reached (pool-start al w lyn z sorted) r)
+
+-- EXACT: where it comes to a least word that does not stand before al, some word with the letters of w completes al to a necklace
+pub completion : (al w : List ℕ) → 0 < length al → Lyn (sec al) (length al) → 0 < length w → Sorted w → (xs : List (List ℕ)) → Reached al (singles w) xs →
+    before (getD xs 0 []) al ≡ false → Completed al w
+completion al w y lyn z sorted xs r = pool-yes al w xs y (pool-reached (pool-start al w lyn z sorted) r)

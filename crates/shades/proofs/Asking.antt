@@ -49,7 +49,7 @@ module _ (w : List ℕ) (k m : ℕ) (cs t rest : List ℕ) (passed : Passed (cou
     size = passed .0 .0 .0 .0 .0 .0 .1;
     shades = passed .0 .0 .0 .0 .1 .1;
     many = passed .0 .1 .0;
-    room = omega (arith, passed .0 .1 .1, passed .0 .0 .0 .0 .0 .0 .1);
+    whole = passed .0 .1 .1;
     reading = rw front (record { long = refl; shades = passed .0 .0 .0 .1 });
   }
 

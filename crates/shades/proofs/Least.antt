@@ -3,7 +3,7 @@
 --     sorted-necklace    so it is a necklace
 --     first-letters      so the letters of the counts in increasing order are the first ring
 -- Assumes nothing.
-use Prim.Native.Nat.{ℕ, zero, suc, _<_, _≤_}
+use Prim.Native.Nat.{ℕ, suc, _<_, _≤_}
 use mathlib.Core.Path.{_≡_, refl, sym, ap, _∙_}
 use mathlib.Core.Bool.{true, false}
 use mathlib.Core.Option.{some}
@@ -23,8 +23,9 @@ use Rattle.rings.specs.Counts.{occurs, hasCounts, countedNecklace}
 use Rattle.rings.specs.Steps.{firstOf}
 use Rattle.words.specs.Sum.{sumOf}
 use Rattle.pool.proofs.Pool.{Sorted}
-use Rattle.pool.proofs.Letters.{letters, occurs-append, occurs-letters, sorted-letters, length-letters}
-use Rattle.counted.proofs.Tallying.{occurs-none, occurs-here, occurs-other, counts-end}
+use Rattle.pool.proofs.Copies.{occurs-append}
+use Rattle.pool.proofs.Letters.{letters, occurs-letters, sorted-letters, length-letters}
+use Rattle.counted.proofs.Tallying.{occurs-none, occurs-here, occurs-other, occurs-at, counts-end}
 use Rattle.counted.specs.Places.{Ring}
 use Rattle.counted.proofs.Blocking.{ring-known, ring-past}
 
@@ -70,17 +71,6 @@ occurs-turn b i w = omega (arith, occurs-append b (drop i w) (take i w), occurs-
 pub sorted-necklace : (w : List ℕ) → Sorted w → necklace w ≡ true
 unfolding necklace notAboveTurn
 sorted-necklace w s = all-of (length w) (notAboveTurn w) (λ i h. sorted-least w (turn i w) s (λ b. occurs-turn b i w))
-
--- each letter of a word occurs in it
-occurs-at : (w : List ℕ) (i : ℕ) → i < length w → 0 < occurs (sec w i) w
-occurs-at [] i h = absurd (omega arith)
-occurs-at (a ∷ w) zero h = omega (arith, occurs-here a a w refl)
-occurs-at (a ∷ w) (suc i) h =
-    elim (tri a (sec w i)) [
-      | lt e ↦ omega (arith, occurs-other a (sec w i) w (λ q. omega arith), occurs-at w i (omega arith))
-      | eq e ↦ omega (arith, occurs-here a (sec w i) w e)
-      | gt e ↦ omega (arith, occurs-other a (sec w i) w (λ q. omega arith), occurs-at w i (omega arith))
-    ]
 
 module _ (n k : ℕ) (cs : List ℕ) (many : length cs ≡ k) (whole : sumOf cs ≡ n) where
   -- the letters are a reading

@@ -1,12 +1,11 @@
 -- `completable::completable` meets its contract. The loop: the arrays hold a pool of t words for al and the letters that are left, and t falls.
 -- Assumes nothing.
 use mathlib.Core.Path.{_∙_, sym}
-use mathlib.Core.Bool.{true≢false}
 use native.Mathlib.Omega.{arith}
 use borrow.Author.Needs.{needs}
 use lib.Seq.{length-take-le}
-use borrow.Author.Tests.{not-false}
-use Rattle.completable.proofs.Testing.{Testing, test-start, test-laid, test-first, test-stuck, test-room, test-sum, test-glue}
+use borrow.Author.Tests.{not-false, not-true}
+use Rattle.completable.proofs.Testing.{Testing, test-none, test-start, test-yes, test-laid, test-first, test-stuck, test-room, test-sum, test-glue}
 use Rattle.completable.proofs.completable.Statement.{statement}
 use Rattle.completable.proofs.completable.Tie as tie
 
@@ -23,7 +22,7 @@ fill-requires : tie.Need-fill-requires Inv-loop μ-loop
 fill-requires c κs = record { room = c .before .before .before .pre .room; size = search needs; shades = c .before .before .before .pre .shades }
 
 returns : tie.Need-returns Inv-loop μ-loop
-returns c = λ e. absurd (true≢false e)
+returns c = test-none _ _ _ _ (c .before .before .before .before .before .before .pre) (c .before .before .fill .ensures .1) (c .if1 .taken)
 
 loop-holds : tie.Need-loop-holds Inv-loop μ-loop
 loop-holds c = test-start _ _ _ _ (c .before .before .before .before .before .before .pre) (search needs) (c .before .before .fill .ensures .0) (c .before .before .fill .ensures .1) (c .if1 .left)
@@ -41,7 +40,7 @@ stands-before-requires : tie.Need-stands-before-requires Inv-loop μ-loop
 stands-before-requires c κs = search needs
 
 returns-2 : tie.Need-returns-2 Inv-loop μ-loop
-returns-2 c = λ e. absurd (true≢false e)
+returns-2 c = let l = c .before .before .before .loop in let a = c .before .before .before .before .before .before .before .before .before .before .args in test-yes (a .al .now) (a .rem .now) _ (l .t) (l .len) (l .w) (l .inv) (c .before .before .before .before .before .before .before .before .before .before .pre) (sym (c .before .stands-before .ensures) ∙ not-true _ (c .if2 .taken))
 
 slice-aggregate-leading : tie.Need-slice-aggregate-leading Inv-loop μ-loop
 slice-aggregate-leading c = sym (c .before .before .before .before .loop .inv .size)
@@ -53,7 +52,7 @@ leading-requires : tie.Need-leading-requires Inv-loop μ-loop
 leading-requires c κs = let l = c .before .before .before .before .before .loop in let a = c .before .before .before .before .before .before .before .before .before .before .before .before .args in test-laid (a .al .now) (a .rem .now) _ (l .t) (l .len) (l .w) (l .inv)
 
 returns-3 : tie.Need-returns-3 Inv-loop μ-loop
-returns-3 c = let l = c .before .before .before .before .before .before .before .loop in let a = c .before .before .before .before .before .before .before .before .before .before .before .before .before .before .args in λ e. test-stuck (a .al .now) (a .rem .now) _ (l .t) (l .len) (l .w) (l .inv) _ (c .before .leading .ensures) (c .if3 .taken) (sym (c .before .before .before .before .before .stands-before .ensures) ∙ not-false _ (c .before .before .before .before .if2 .left))
+returns-3 c = let l = c .before .before .before .before .before .before .before .loop in let a = c .before .before .before .before .before .before .before .before .before .before .before .before .before .before .args in test-stuck (a .al .now) (a .rem .now) _ (l .t) (l .len) (l .w) (l .inv) _ (c .before .leading .ensures) (c .if3 .taken) (sym (c .before .before .before .before .before .stands-before .ensures) ∙ not-false _ (c .before .before .before .before .if2 .left))
 
 sub-g : tie.Need-sub-g Inv-loop μ-loop
 sub-g c = search needs

@@ -22,7 +22,7 @@ open-shade-requires : tie.Need-open-shade-requires Inv-loop μ-loop
 open-shade-requires c κs = let a = c .before .before .before .args in find-asks (a .w) (a .n) (a .k) (a .counts .now) (c .before .loop .i) (search needs) (c .before .before .before .pre) (c .before .loop .inv) (c .loop-test .taken)
 
 returns : tie.Need-returns Inv-loop μ-loop
-returns c = let a = c .before .before .before .before .before .args in find-found (a .w) (a .n) (a .k) (a .counts .now) (c .before .before .before .loop .i) _ (c .before .before .before .loop .inv) (c .before .before .loop-test .taken) (c .before .open-shade .ensures) (c .if1 .taken)
+returns c = let a = c .before .before .before .before .before .args in find-found (a .w) (a .n) (a .k) (a .counts .now) (c .before .before .before .loop .i) _ (c .before .before .before .loop .inv) (c .before .before .loop-test .taken) (c .before .open-shade .ensures) (c .before .before .before .before .before .pre .ready .whole) (c .if1 .taken)
 
 sub-i : tie.Need-sub-i Inv-loop μ-loop
 sub-i c = search needs

@@ -3,7 +3,7 @@
 use Prim.Native.Nat.{_-_}
 use borrow.Author.Needs.{needs}
 use Rattle.counted.specs.Places.{Lifted}
-use Rattle.counted.proofs.Barring.{lift-start, lift-asks, lift-more}
+use Rattle.counted.proofs.Barring.{lift-start, lift-asks, lift-more, lift-found, lift-end}
 use Rattle.counted.proofs.lift.Statement.{statement}
 use Rattle.counted.proofs.lift.Tie as tie
 
@@ -29,7 +29,7 @@ possible-requires : tie.Need-possible-requires Inv-loop μ-loop
 possible-requires c κs = lift-asks _ _ _ _ _ (search needs) (c .before .before .pre) (c .before .loop .inv) (c .loop-test .taken)
 
 returns : tie.Need-returns Inv-loop μ-loop
-returns c = c .before .before .before .loop .inv
+returns c = lift-found _ _ _ _ _ (c .before .before .before .loop .inv) (c .before .possible .ensures .yes (c .if1 .taken))
 
 add-b-2 : tie.Need-add-b-2 Inv-loop μ-loop
 add-b-2 c = search needs
@@ -38,10 +38,10 @@ loop-less : tie.Need-loop-less Inv-loop μ-loop
 loop-less c = search needs
 
 loop-again : tie.Need-loop-again Inv-loop μ-loop
-loop-again c = lift-more _ _ _ _ _ (c .before .before .before .loop .inv) (c .before .before .loop-test .taken) (c .before .possible .ensures (c .if1 .left))
+loop-again c = lift-more _ _ _ _ _ (c .before .before .before .loop .inv) (c .before .before .loop-test .taken) (c .before .possible .ensures .no (c .if1 .left))
 
 returns-2 : tie.Need-returns-2 Inv-loop μ-loop
-returns-2 c = c .before .loop .inv
+returns-2 c = lift-end _ _ _ _ _ (c .before .loop .inv) (c .loop-test .left)
 
 pub lift-spec : {M : Type 1} → statement M
 lift-spec =

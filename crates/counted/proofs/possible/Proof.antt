@@ -7,7 +7,7 @@ use borrow.Author.Needs.{needs}
 use lib.ListN.{length-set}
 use lib.Seq.{length-take-le, take-suc-set}
 use native.Mathlib.Numerals.{add-one}
-use Rattle.counted.proofs.Barring.{barred-none, barred-pool, completing}
+use Rattle.counted.proofs.Barring.{allows-none, allows-pool, completing}
 use Rattle.counted.proofs.possible.Statement.{statement}
 use Rattle.counted.proofs.possible.Tie as tie
 
@@ -18,7 +18,7 @@ array-read-if1 : tie.Need-array-read-if1
 array-read-if1 c = search needs
 
 returns : tie.Need-returns
-returns c = let a = c .before .args in λ e. barred-none (take (a .l) (a .w)) (a .b) (a .t4) (c .if1 .taken)
+returns c = let a = c .before .args in allows-none (take (a .l) (a .w)) (a .b) (a .t4) (c .if1 .taken)
 
 cast-al : tie.Need-cast-al
 cast-al c = search needs
@@ -54,7 +54,7 @@ completable-requires : tie.Need-completable-requires
 completable-requires c κs = let a = c .before .before .before .args in completing (a .w) (a .l) (a .b) (a .t4) (search needs) (search needs) (c .before .before .before .pre)
 
 returns-2 : tie.Need-returns-2
-returns-2 c = let a = c .before .before .before .before .args in let s : length (a .w) ≡ 64 = search needs in let s₂ : length (a .t4) ≡ 16 = search needs in λ e. barred-pool (take (a .l) (a .w)) (a .b) (a .t4) (omega (arith, c .before .before .before .before .pre .shade)) (c .before .before .before .if1 .left) (rw (add-one (a .l), take-suc-set (a .w) (a .l) (a .b) (omega (arith, c .before .before .before .before .pre .inside))) at (c .completable .ensures e))
+returns-2 c = let a = c .before .before .before .before .args in let s : length (a .w) ≡ 64 = search needs in let s₂ : length (a .t4) ≡ 16 = search needs in allows-pool (take (a .l) (a .w)) (a .b) (a .t4) _ (omega (arith, c .before .before .before .before .pre .shade)) (c .before .before .before .if1 .left) (rw (add-one (a .l), take-suc-set (a .w) (a .l) (a .b) (omega (arith, c .before .before .before .before .pre .inside))) at (c .completable .ensures))
 
 pub possible-spec : {M : Type 1} → statement M
 possible-spec =
