@@ -1,6 +1,8 @@
 -- What the two loops of a move rest on, over plain lists.
---     Over k w i, over-start, over-more, over-found, over-none    the search for the last place to raise, from the end: no place past i can be raised
+--     Over k w i, over-start, over-more, over-found, over-none, over-empty, over-shadeless
+--                                                                 the search for the last place to raise, from the end: no place past i can be raised
 --     Copied u v i m, copied-start, copied-more, copied-end       the copying: the first m sectors of v repeat the first i of u
+--     round-in, round-on, round-back                              the place to copy from, which is m % i
 -- Assumes nothing.
 use Prim.Native.Nat.{ℕ, suc, _+_, _-_, _%_, _<_, _≤_}
 use mathlib.Core.Path.{_≡_, refl, sym, ap, _∙_}
@@ -8,7 +10,7 @@ use mathlib.Core.Bool.{false}
 use mathlib.Core.List.{List}
 use native.Mathlib.Omega.{arith}
 use native.Mathlib.Numerals.{add-one}
-use native.Mathlib.Nat.{mod-lt, mod-eq-of-lt, add-mod-left}
+use native.Mathlib.Nat.{mod-lt, mod-eq-of-lt, mod-self, mod-add-mod}
 use lib.ListN.{length, getD, set, length-set}
 use lib.Seq.{getD-set-same, getD-set-other, ext-getD}
 use borrow.Author.Tests.{lt-ltb, le-ltb}
@@ -27,6 +29,20 @@ Over k w i = (m : ℕ) → i < m → m ≤ length w → lowAt k w m ≡ false
 pub over-start : (k : ℕ) (w : List ℕ) → Over k w (length w)
 over-start k w m h b = absurd (omega arith)
 
+pub over-none : (k : ℕ) (w : List ℕ) → Over k w 0 → 0 ≡ lastLow k w
+unfolding lastLow
+over-none k w h =
+    let g = greatest (length w) (lowAt k w) in
+    elim (tri 0 g) [ lt z ↦ clash (lowAt k w g) (greatest-at (length w) (lowAt k w) z) (h g z (greatest-le (length w) (lowAt k w))) | eq z ↦ z | gt z ↦ absurd (omega arith) ]
+
+-- there is no sector, or no shade at all
+pub over-empty : (k : ℕ) (w : List ℕ) → length w < 1 → 0 ≡ lastLow k w
+over-empty k w e = over-none k w (λ m h b. absurd (omega arith))
+
+pub over-shadeless : (k : ℕ) (w : List ℕ) → k < 1 → 0 ≡ lastLow k w
+unfolding lowAt
+over-shadeless k w e = over-none k w (λ m h b. le-ltb (suc (getD w (m - 1) 0)) k (omega arith))
+
 pub over-more : (k : ℕ) (w : List ℕ) (i : ℕ) → 0 < i → Over k w i → k ≤ getD w (i - 1) 0 + 1 → Over k w (i - 1)
 unfolding lowAt
 over-more k w i z h l m b d =
@@ -40,12 +56,6 @@ pub over-found : (k : ℕ) (w : List ℕ) (i : ℕ) → 0 < i → i ≤ length w
 unfolding lastLow lowAt
 over-found k w i z b h l = sym (greatest-is (length w) (lowAt k w) i z b (lt-ltb (suc (getD w (i - 1) 0)) k (omega arith)) h)
 
-pub over-none : (k : ℕ) (w : List ℕ) → Over k w 0 → 0 ≡ lastLow k w
-unfolding lastLow
-over-none k w h =
-    let g = greatest (length w) (lowAt k w) in
-    elim (tri 0 g) [ lt z ↦ clash (lowAt k w g) (greatest-at (length w) (lowAt k w) z) (h g z (greatest-le (length w) (lowAt k w))) | eq z ↦ z | gt z ↦ absurd (omega arith) ]
-
 -- ---- the copying
 
 -- the first m sectors of v repeat the first i of u
@@ -58,22 +68,36 @@ pub record Copied (u v : List ℕ) (i m : ℕ) : Type 0 where
 pub copied-start : (u : List ℕ) (i : ℕ) → i ≤ length u → Copied u u i i
 copied-start u i b = record { long = refl; from = omega arith; to = b; done = λ x h. rw (mod-eq-of-lt h) }
 
-pub copied-more : (u v : List ℕ) (i m : ℕ) → 0 < i → Copied u v i m → m < length v → Copied u (set v m (getD v (m - i) 0)) i (m + 1)
-copied-more u v i m z c h =
-    record { long = length-set v m (getD v (m - i) 0) ∙ c .long; from = omega (arith, c .from); to = omega (arith, c .long); done = at }
+pub copied-more : (u v : List ℕ) (i m from : ℕ) → 0 < i → Copied u v i m → from ≡ m % i → m < length v → Copied u (set v m (getD v from 0)) i (m + 1)
+copied-more u v i m from z c e h =
+    record { long = length-set v m (getD v from 0) ∙ c .long; from = omega (arith, c .from); to = omega (arith, c .long); done = at }
   where
-    here : getD v (m - i) 0 ≡ getD u (m % i) 0
+    here : getD v from 0 ≡ getD u (m % i) 0
     here =
-        let e : i + (m - i) ≡ m = omega (arith, c .from) in
-        c .done (m - i) (omega (arith, c .from)) ∙ ap (λ (y : ℕ). getD u y 0) (sym (add-mod-left i (m - i)) ∙ ap (λ (y : ℕ). y % i) e)
+        let l : from < i = rw e (mod-lt m z) in
+        c .done from (omega (arith, c .from)) ∙ ap (λ (y : ℕ). getD u y 0) (mod-eq-of-lt l ∙ e)
 
-    at : (x : ℕ) → x < m + 1 → getD (set v m (getD v (m - i) 0)) x 0 ≡ getD u (x % i) 0
+    at : (x : ℕ) → x < m + 1 → getD (set v m (getD v from 0)) x 0 ≡ getD u (x % i) 0
     at x q =
         elim (tri x m) [
-          | lt e ↦ getD-set-other v m x (getD v (m - i) 0) 0 (λ y. omega arith) ∙ c .done x e
-          | eq e ↦ rw e (getD-set-same v m (getD v (m - i) 0) 0 h ∙ here)
-          | gt e ↦ absurd (omega arith)
+          | lt l ↦ getD-set-other v m x (getD v from 0) 0 (λ y. omega arith) ∙ c .done x l
+          | eq l ↦ rw l (getD-set-same v m (getD v from 0) 0 h ∙ here)
+          | gt l ↦ absurd (omega arith)
         ]
+
+-- the place to copy from, for the next sector: one on, or the first again
+module _ (i m from : ℕ) (z : 0 < i) (e : from ≡ m % i) where
+  pub round-in : from < i
+  round-in = rw e (mod-lt m z)
+
+  next-round : (m + 1) % i ≡ (from + 1) % i
+  next-round = rw e (sym (mod-add-mod m i 1))
+
+  pub round-on : (from + 1 ≡ i → ⊥) → from + 1 ≡ (m + 1) % i
+  round-on h = sym (next-round ∙ mod-eq-of-lt (omega (arith, round-in)))
+
+  pub round-back : from + 1 ≡ i → 0 ≡ (m + 1) % i
+  round-back h = sym (next-round ∙ ap (λ (x : ℕ). x % i) h ∙ mod-self i)
 
 -- where u is w with the sector at place i raised, the copying gives what the page says
 pub copied-end : (w v : List ℕ) (i m : ℕ) → 0 < i → i ≤ length w → Copied (set w (i - 1) (getD w (i - 1) 0 + 1)) v i m → length v ≤ m → v ≡ repeated (length w) (raised i w)

@@ -1,7 +1,8 @@
--- What the loop of `advance` knows, over plain lists: `Stands` is `Walked` of the theory for the ring's first n sectors, with lyn as the number that rises.
+-- What the loop of `advance` knows, over plain lists: `Stands` is `Walked` of the theory, with lyn as the number that rises.
 --     kind-at, class-at     the kind and the class of a prenecklace by its lyn
 --     stands-start          at the start
 --     stands-low            what raising asks for
+--     full-necklace         a ring of which no place can be raised is a necklace
 --     stands-none           no place can be raised: there is none of the kind
 --     stands-found          the next prenecklace is of the kind
 --     stands-on             it is not
@@ -11,29 +12,28 @@ use Prim.Native.Nat.{ℕ, _+_, _-_, _%_, _<_, _≤_}
 use mathlib.Core.Path.{_≡_, refl, sym, ap, _∙_}
 use mathlib.Core.Logic.{⊎-elim, _⊎_, inl, inr}
 use mathlib.Core.Bool.{true, false}
-use mathlib.Core.Option.{none}
-use mathlib.Core.List.{List, _++_}
+use mathlib.Core.List.{List}
 use native.Mathlib.Omega.{arith}
 use native.Mathlib.Numerals.{add-one}
 use native.Mathlib.Nat.{mod-self}
-use lib.ListN.{length, getD, take, drop, length-append, length-drop}
-use lib.Seq.{take-at, drop-at, length-take-le}
+use lib.ListN.{length, getD}
 use lib.Dec.{eqb}
 use borrow.Author.Tests.{eq-eqb, ne-eqb, eqb-true, eqb-false}
+use Rattle.words.specs.Order.{before, upTo}
 use Rattle.words.specs.Readings.{Reading}
 use Rattle.words.proofs.Split.{Test, passes, fails, test, agree, clash, lt, eq, gt, tri}
+use Rattle.words.proofs.Lex.{ahead, equal, behind, lex, before-irrefl, before-not-upTo}
 use Rattle.words.proofs.Sequence.{sec}
 use Rattle.rings.specs.declared.Class.the-variants.{Single, Repeating, Opening}
 use Rattle.rings.specs.Necklace.{necklace, lyndon}
 use Rattle.rings.specs.Prenecklace.{prenecklace, lyn}
 use Rattle.rings.specs.Class.{classOf}
 use Rattle.rings.specs.Next.{lastLow, raised, repeated, nextPrenecklace}
-use Rattle.rings.specs.Steps.{moves}
 use Rattle.necklaces.proofs.Run.{Run}
 use Rattle.necklaces.proofs.Words.{necklace-prenecklace}
 use Rattle.necklaces.proofs.Lyndon.{run-necklace, necklace-run, run-prenecklace}
 use Rattle.necklaces.proofs.Classes.{run-lyndon, lyndon-run, lyndon-necklace, class-single, class-repeating, class-opening}
-use Rattle.necklaces.proofs.Next.{low-le, low-at, length-next, next-is-run, next-lyn-low}
+use Rattle.necklaces.proofs.Next.{low-le, low-at, low-none, length-next, next-is-run, next-lyn-low}
 use Rattle.necklaces.proofs.Walk.{Kind, Walked, walk-start, walk-found, walk-on, walk-done}
 use Rattle.necklaces.proofs.Bound.{lyn-rises}
 use Rattle.moves.specs.declared.Kind as K
@@ -91,108 +91,102 @@ kind-full Prenecklace n = refl
 kind-full Necklace n = eq-eqb (n % n) 0 (mod-self n)
 kind-full Lyndon n = eq-eqb n n refl
 
+-- where every sector is k - 1 the ring is a necklace
+full-necklace : (k : ℕ) (v : List ℕ) → Reading (length v) k v → 0 < length v → lastLow k v ≡ 0 → necklace v ≡ true
+full-necklace k v r z e =
+    run-necklace v 1 (record { pos = omega arith; fits = z; again = λ i j q b. top i b ∙ sym (top j (omega arith)); lyn = λ i a b. absurd (omega arith) }) (omega arith)
+  where
+    top : (i : ℕ) → i < length v → getD v i 0 ≡ k - 1
+    top i b = omega (arith, low-none k v i (omega arith) b, r .shades i b)
+
 -- lyn is 0 where the step stands at its start, and the ring's own once it has moved; the moves are at most as many
-pub record Stands (kind : K.Kind) (n k : ℕ) (start ring : List ℕ) (p m : ℕ) : Type 0 where
-  pub size : length ring ≡ 64
-  pub tail : drop n ring ≡ drop n start
-  pub walked : Walked (kindOf kind) k (take n start) (take n ring) m
+pub record Stands (kind : K.Kind) (k : ℕ) (start ring : List ℕ) (p m : ℕ) : Type 0 where
+  pub walked : Walked (kindOf kind) k start ring m
   pub few : m ≤ p
-  pub short : p < n
-  pub lyn-is : (p ≡ 0) ⊎ (p ≡ lyn (take n ring))
+  pub short : p < length start
+  pub lyn-is : (p ≡ 0) ⊎ (p ≡ lyn ring)
 
-module _ (kind : K.Kind) (n k : ℕ) (start : List ℕ) (ready : Ready n k start) where
-  pub stands-start : length start ≡ 64 → Stands kind n k start start 0 0
-  stands-start h =
-      record {
-        size = h;
-        tail = refl;
-        walked = walk-start (kindOf kind) k (take n start) (rw (ready .reading .long) (ready .reading)) (ready .pre);
-        few = omega arith;
-        short = ready .pos;
-        lyn-is = inl refl;
-      }
+module _ (kind : K.Kind) (k : ℕ) (start : List ℕ) (ready : Ready k start) where
+  pub stands-start : Stands kind k start start 0 0
+  stands-start =
+      record { walked = walk-start (kindOf kind) k start (ready .reading) (ready .pre); few = omega arith; short = ready .pos; lyn-is = inl refl }
 
-  module _ (ring : List ℕ) (p m i : ℕ) (at : Stands kind n k start ring p m) (low : i ≡ lastLow k (take n ring)) where
-    long : length (take n ring) ≡ n
-    long = length-take-le n ring (omega (arith, at .size, ready .fits))
-
-    start-long : length (take n start) ≡ n
-    start-long = sym (at .walked .long) ∙ long
-
-    own : Reading (length (take n ring)) k (take n ring)
+  module _ (ring : List ℕ) (p m i : ℕ) (at : Stands kind k start ring p m) (low : i ≡ lastLow k ring) where
+    own : Reading (length ring) k ring
     own = rw (at .walked .long) (at .walked .reading)
 
     -- the place to raise is in the ring, and the sector there is no byte's greatest
-    pub stands-low : 0 < i → (i ≤ length (take n ring)) × (getD (take n ring) (i - 1) 0 < 255)
-    stands-low z =
-        rw low (low-le k (take n ring), omega (arith, low-at k (take n ring) (rw (← low) z), ready .few))
+    pub stands-low : 0 < i → (i ≤ length ring) × (getD ring (i - 1) 0 < 255)
+    stands-low z = rw low (low-le k ring, omega (arith, low-at k ring (rw (← low) z), ready .few))
 
-    -- no place can be raised: there is none of the kind
-    pub stands-none : i ≡ 0 → Found kind n k start (record { ring = ring; lyn = 0; moves = m })
+    -- no place can be raised: there is none of the kind, and a step by necklaces has not moved, since the last ring is a necklace
+    pub stands-none : i ≡ 0 → Found kind k start ring (record { lyn = 0; moves = m })
+    unfolding kindOf
     stands-none e =
         record {
-          done = λ q. walk-done (kindOf kind) k (take n start) (take n ring) m (at .walked) (sym low ∙ e);
+          done = λ q. walk-done (kindOf kind) k start ring m (at .walked) (sym low ∙ e);
+          kept = λ q n. still (ap (λ (x : K.Kind). kindOf x ring) n ∙ full-necklace k ring own (omega (arith, at .walked .long, ready .pos)) (sym low ∙ e));
           next = λ q. absurd (omega arith);
           moved = λ q. absurd (omega arith);
-          tail = at .tail;
           lyn-of = λ q. absurd (omega arith);
         }
+      where
+        still : kindOf kind ring ≡ true → ring ≡ start
+        still q =
+            elim (lex start ring) [
+              | ahead l ↦ clash (before ring ring) (at .walked .met ring (at .walked .reading) q l) (before-irrefl ring)
+              | equal d ↦ sym d
+              | behind l ↦ clash (upTo start ring) (at .walked .past) (before-not-upTo start ring l)
+            ]
 
     -- each move raises lyn
     pub stands-rises : 0 < i → p < i
     stands-rises z =
         ⊎-elim (λ e. omega arith)
-        (λ e. let r = lyn-rises k (take n ring) own (omega (arith, long, ready .pos)) (at .walked .pre) (omega arith) (omega (arith, at .short, long)) in omega arith)
+        (λ e. let r = lyn-rises k ring own (omega (arith, at .walked .long, ready .pos)) (at .walked .pre) (omega arith) (omega (arith, at .short, at .walked .long)) in omega arith)
         (at .lyn-is)
 
-    module _ (z : 0 < i) (next : List ℕ) (moved : next ≡ repeated (length (take n ring)) (raised i (take n ring)) ++ drop n ring) where
-      lifted : 0 < lastLow k (take n ring)
+    module _ (z : 0 < i) (next : List ℕ) (moved : next ≡ repeated (length ring) (raised i ring)) where
+      lifted : 0 < lastLow k ring
       lifted = rw (← low) z
 
-      next-long : length (nextPrenecklace k (take n ring)) ≡ n
-      next-long = length-next k (take n ring) ∙ long
-
-      moved-next : next ≡ nextPrenecklace k (take n ring) ++ drop n ring
+      moved-next : next ≡ nextPrenecklace k ring
       unfolding nextPrenecklace
       moved-next = rw low at moved
 
-      moved-take : take n next ≡ nextPrenecklace k (take n ring)
-      moved-take = rw moved-next (take-at (nextPrenecklace k (take n ring)) (drop n ring) n next-long)
+      pub moved-long : length next ≡ length ring
+      moved-long = ap length moved-next ∙ length-next k ring
 
-      moved-drop : drop n next ≡ drop n start
-      moved-drop = rw moved-next (drop-at (nextPrenecklace k (take n ring)) (drop n ring) n next-long ∙ at .tail)
-
-      moved-size : length next ≡ 64
-      moved-size =
-          rw moved-next (omega (arith, length-append (nextPrenecklace k (take n ring)) (drop n ring), length-drop n ring, next-long, at .size, ready .fits))
-
-      next-run : Run (sec (nextPrenecklace k (take n ring))) (length (nextPrenecklace k (take n ring))) i
-      next-run = rw low (next-is-run k (take n ring) lifted (at .walked .pre))
+      next-run : Run (sec (nextPrenecklace k ring)) (length (nextPrenecklace k ring)) i
+      next-run = rw low (next-is-run k ring lifted (at .walked .pre))
 
       -- whether the next prenecklace is of the kind
-      next-kind : kindOf kind (nextPrenecklace k (take n ring)) ≡ kindAt kind n i
-      next-kind = kind-at kind (nextPrenecklace k (take n ring)) i next-run ∙ ap (λ (x : ℕ). kindAt kind x i) next-long
+      next-kind : kindOf kind (nextPrenecklace k ring) ≡ kindAt kind (length next) i
+      next-kind = rw moved-next (kind-at kind (nextPrenecklace k ring) i next-run)
 
       -- it is of the kind
-      pub stands-found : kindAt kind n i ≡ true → Found kind n k start (record { ring = next; lyn = i; moves = m + 1 })
+      pub stands-found : kindAt kind (length next) i ≡ true → Found kind k start next (record { lyn = i; moves = m + 1 })
       stands-found q =
-          let f = walk-found (kindOf kind) k (take n start) (take n ring) m (at .walked) (kind-only kind) lifted (next-kind ∙ q) in
+          let f = walk-found (kindOf kind) k start ring m (at .walked) (kind-only kind) lifted (next-kind ∙ q) in
           record {
             done = λ e. absurd (omega arith);
-            next = λ e. rw moved-take (f .0);
-            moved = λ e. rw (moved-take, add-one m) (f .1);
-            tail = moved-drop;
-            lyn-of = λ e. rw moved-take (next-lyn-low k (take n ring) lifted (at .walked .pre) ∙ sym low);
+            kept = λ e. absurd (omega arith);
+            next = λ e. rw moved-next (f .0);
+            moved = λ e. rw (moved-next, add-one m) (f .1);
+            lyn-of = λ e. rw moved-next (next-lyn-low k ring lifted (at .walked .pre) ∙ sym low);
           }
 
       -- it is not
-      pub stands-on : kindAt kind n i ≡ false → Stands kind n k start next i (m + 1)
+      pub stands-on : kindAt kind (length next) i ≡ false → Stands kind k start next i (m + 1)
       stands-on q =
           record {
-            size = moved-size;
-            tail = moved-drop;
-            walked = rw (moved-take, add-one m) (walk-on (kindOf kind) k (take n start) (take n ring) m (at .walked) (kind-only kind) lifted (next-kind ∙ q));
+            walked = rw (moved-next, add-one m) (walk-on (kindOf kind) k start ring m (at .walked) (kind-only kind) lifted (next-kind ∙ q));
             few = omega (arith, at .few, stands-rises z);
-            short = elim (tri i n) [ lt l ↦ l | eq l ↦ clash (kindAt kind n i) (rw l (kind-full kind n)) q | gt l ↦ absurd (omega (arith, low-le k (take n ring), long)) ];
-            lyn-is = inr (rw moved-take (low ∙ sym (next-lyn-low k (take n ring) lifted (at .walked .pre))));
+            short =
+                elim (tri i (length start)) [
+                  | lt l ↦ l
+                  | eq l ↦ clash (kindAt kind (length next) i) (rw (moved-long, at .walked .long, l) (kind-full kind (length start))) q
+                  | gt l ↦ absurd (omega (arith, low-le k ring, at .walked .long))
+                ];
+            lyn-is = inr (rw moved-next (low ∙ sym (next-lyn-low k ring lifted (at .walked .pre))));
           }

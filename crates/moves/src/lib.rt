@@ -17,13 +17,24 @@ fn wide(x: u8) -> usize
     x as usize
 }
 
-// The last place, counted from 1, that holds less than k - 1; 0 where every sector is k - 1.
+// The last place, counted from 1, that holds less than k - 1; 0 where every sector is k - 1. The last sector is tested apart: it is the one in most rings.
 pub fn last_low(s: &[u8], k: usize) -> usize
     ensures { λ r. ⌜ r ≡ lastLow k (now (s .entry)) ⌝ }
 {
-    let mut i = s.len();
+    let n = s.len();
+    if n < 1 {
+        return 0;
+    }
+    if k < 1 {
+        return 0;
+    }
+    let top = k - 1;
+    if wide(s[n - 1]) < top {
+        return n;
+    }
+    let mut i = n - 1;
     while 0 < i {
-        if wide(s[i - 1]) + 1 < k {
+        if wide(s[i - 1]) < top {
             return i;
         }
         i -= 1;
@@ -31,17 +42,22 @@ pub fn last_low(s: &[u8], k: usize) -> usize
     0
 }
 
-// The sector at place i, counted from 1, is raised by one, and the first i sectors are repeated behind it.
+// The sector at place i, counted from 1, is raised by one, and the first i sectors are repeated behind it: `from` goes round in them.
 pub fn raise(s: &mut [u8], i: usize)
     requires { ⌜ (0 < i) × (i ≤ length (now s)) × (getD (now s) (i - 1) 0 < 255) ⌝ }
     ensures { λ r. ⌜ now (s .exit) ≡ repeated (length (now (s .entry))) (raised i (now (s .entry))) ⌝ }
 {
     s[i - 1] += 1;
+    let mut from = 0;
     let mut m = i;
     while m < s.len() {
-        let copy = s[m - i];
+        let copy = s[from];
         s[m] = copy;
         m += 1;
+        from += 1;
+        if from == i {
+            from = 0;
+        }
     }
 }
 
@@ -80,35 +96,31 @@ pub fn class_at(n: usize, p: usize) -> Class
     Class::Opening(p)
 }
 
-// What a step came to: the ring, its lyn, or 0 where there is none of the kind, and the moves.
+// What a step came to: the lyn of its ring, or 0 where there is none of the kind, and the moves.
 pub struct Reached {
-    pub ring: [u8; 64],
     pub lyn: usize,
     pub moves: usize,
 }
 
-// The next of the kind after the first n sectors of the ring, which are a prenecklace.
-pub fn advance(start: [u8; 64], n: usize, k: usize, kind: Kind) -> Reached
-    requires { ⌜ Ready n k start ⌝ }
-    ensures { λ r. ⌜ Found kind n k start r ⌝ }
+// From the ring, which is a prenecklace, to the next of the kind, in the ring's own place.
+pub fn advance(ring: &mut [u8], k: usize, kind: Kind) -> Reached
+    requires { ⌜ Ready k (now ring) ⌝ }
+    ensures { λ r. ⌜ Found kind k (now (ring .entry)) (now (ring .exit)) r ⌝ }
 {
-    let mut ring = start;
     let mut lyn: usize = 0;
     let mut moves: usize = 0;
     loop {
-        let i = last_low(&ring[..n], k);
+        let i = last_low(ring, k);
         if i == 0 {
             return Reached {
-                ring: ring,
                 lyn: 0,
                 moves: moves,
             };
         }
-        raise(&mut ring[..n], i);
+        raise(ring, i);
         moves += 1;
-        if of_kind(kind, n, i) {
+        if of_kind(kind, ring.len(), i) {
             return Reached {
-                ring: ring,
                 lyn: i,
                 moves: moves,
             };

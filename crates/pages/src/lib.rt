@@ -1,7 +1,6 @@
 // The text of a listing, page after page into a lent buffer (01, 'The listing program'). No public calls: crate `listing` checks what `open_listing` and
 // `fill_page` ask for.
 
-use moves::Kind;
 use rings::Class;
 use walk::Outcome;
 use walk::Walk;
@@ -79,26 +78,37 @@ fn fill_rows(s: State, buf: &mut [u8], from: usize) -> Filled
     requires { ⌜ from ≤ length (now buf) ⌝ }
     ensures { λ r. ⌜ RowsSay s (now (buf .entry)) from r (now (buf .exit)) ⌝ }
 {
-    let mut w = s.walk;
+    let w = s.walk;
+    let n = w.n;
+    let k = w.k;
+    let class = w.class;
+    let mut ring = w.ring;
+    let mut period = period_at(class, n);
     let mut rings = s.rings;
     let mut moves = s.moves;
     let mut at = from;
     let mut more = true;
     while at + 107 <= buf.len() {
-        let stepped = walk::step_good(w, Kind::Necklace);
-        let outcome = stepped.outcome;
+        let went = walk::go_on(&mut ring[..n], k);
+        let outcome = went.outcome;
         let Outcome::Moved(m) = outcome else {
             more = false;
             break;
         };
-        w = stepped.walk;
-        at = put_walk(buf, at, w, m);
+        period = went.period;
+        at = text::place_ring(buf, at, &ring[..n], m, period);
         rings += 1;
         moves += m;
     }
+    let last = moves::class_at(n, period);
     Filled {
         state: State {
-            walk: w,
+            walk: Walk {
+                n: n,
+                k: k,
+                ring: ring,
+                class: last,
+            },
             rings: rings,
             moves: moves,
         },

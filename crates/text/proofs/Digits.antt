@@ -1,5 +1,6 @@
 -- Laws of decimal text.
 --     decimal-short, decimal-more    its two clauses
+--     decimal-two                    a text of two digits
 --     decimal-rec                    what holds below 10, and of x where it holds of x / 10, holds of every number
 --     Digits t                       every character of t is a digit
 --     valueFrom x t                  the number that the digits t go on to spell after x
@@ -54,6 +55,9 @@ unfolding decimal
 decimal-more x h =
     let t = tenth x h in
     in-more x x h ∙ ap (λ (t : List ℕ). t ++ (digit (x % 10) ∷ [])) (enough x (suc (x / 10)) (x / 10) t (omega arith))
+
+pub decimal-two : (x : ℕ) → 10 ≤ x → x < 100 → decimal x ≡ digit (x / 10) ∷ digit (x % 10) ∷ []
+decimal-two x l h = decimal-more x l ∙ ap (λ (t : List ℕ). t ++ (digit (x % 10) ∷ [])) (decimal-short (x / 10) (omega arith))
 
 -- what holds below 10, and of x where it holds of x / 10, holds of every number
 pub decimal-rec : (P : ℕ → Type 0) → ((x : ℕ) → x < 10 → P x) → ((x : ℕ) → 10 ≤ x → P (x / 10) → P x) → (x : ℕ) → P x

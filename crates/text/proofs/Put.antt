@@ -2,12 +2,14 @@
 --     placed-append, placed-length           two pieces after each other are one; the buffer keeps its length
 --     placed-none, placed-copy, placed-whole    a text copied character by character
 --     placed-sector, placed-sectors          sectors written as digits one by one
+--     placed-short, placed-two, room-short, room-two    a number of one or two digits
 --     length-two, length-refused, length-ring, ring-two     how long the lines are, and of which pieces
+--     room-moves, room-period, room-end, placed-ring        a ring's line piece after piece
 --     fits-not, fits-behind                  whether a text fits
 --     put-no, put-room, put-yes              what is promised of a text that does not fit, and of one that does
 --     one-put                                a text, a buffer and a place determine the answer and the buffer afterwards
 -- Assumes nothing.
-use Prim.Native.Nat.{ℕ, zero, suc, _+_, _-_, _<_, _≤_}
+use Prim.Native.Nat.{ℕ, zero, suc, _+_, _-_, _/_, _%_, _<_, _≤_}
 use mathlib.Core.Path.{_≡_, refl, sym, ap, _∙_}
 use mathlib.Core.Bool.{Bool, true, false, not}
 use mathlib.Core.List.{List, [], _∷_, _++_, map, append-assoc}
@@ -15,13 +17,14 @@ use native.Mathlib.Omega.{arith}
 use native.Mathlib.Numerals.{add-one}
 use native.Mathlib.Decide.{decLt}
 use lib.Dec.{leb}
-use lib.ListN.{length, getD, take, set, length-append, length-map}
+use lib.ListN.{length, getD, take, set, length-append, length-map, length-set}
 use lib.Seq.{sets, length-sets, sets-eq, take-suc, take-all}
 use borrow.Author.Tests.{le-leb, lt-leb, leb-true, leb-false, not-true, not-false}
 use Rattle.words.proofs.Split.{agree}
 use Rattle.text.specs.Decimal.{decimal}
 use Rattle.text.specs.Text.{twoNumbers, hexOf, ringLine, refusedLine}
 use Rattle.text.specs.Put.{PutSays, Placed}
+use Rattle.text.proofs.Digits.{decimal-short, decimal-two, decimal-some}
 
 -- ---- pieces
 
@@ -80,6 +83,24 @@ placed-sector b at i w b′ a h e p =
 pub placed-sectors : (b : List ℕ) (at i : ℕ) (w b′ : List ℕ) → length w ≤ i → Placed b at (take i (map hexOf w)) (at + i) b′ → Placed b at (map hexOf w) (at + i) b′
 placed-sectors b at i w b′ h p = placed-whole b at i (map hexOf w) b′ (simp length-map h) p
 
+-- ---- short numbers
+
+module _ (b : List ℕ) (at x : ℕ) where
+  -- one digit
+  pub placed-short : x < 10 → Placed b at (decimal x) (at + 1) (set b at (48 + x))
+  placed-short h = rw (decimal-short x h) (record { next = refl; bytes = refl })
+
+  -- two digits
+  pub placed-two : 10 ≤ x → x < 100 → Placed b at (decimal x) (at + 2) (set (set b at (48 + x / 10)) (at + 1) (48 + x % 10))
+  placed-two l h = rw (decimal-two x l h, add-one at) (record { next = refl; bytes = refl })
+
+  -- and there is room for them
+  pub room-short : at + length (decimal x) ≤ length b → at < length b
+  room-short m = omega (arith, decimal-some x)
+
+  pub room-two : 10 ≤ x → x < 100 → at + length (decimal x) ≤ length b → at + 1 < length b
+  room-two l h m = omega (arith, ap length (decimal-two x l h))
+
 -- ---- the lines
 
 -- how long two numbers and their words are
@@ -102,6 +123,46 @@ pub length-ring : (w : List ℕ) (moves p : ℕ) → length (ringLine w moves p)
 length-ring w moves p =
     sym (ap length (ring-two w moves p)) ∙ length-append (map hexOf w) (twoNumbers (32 ∷ []) moves (32 ∷ []) p)
     ∙ rw (length-map w hexOf, length-two (32 ∷ []) moves (32 ∷ []) p) (omega arith)
+
+-- A ring's line piece after piece: a, c and d are the places behind the sectors, the moves and the period.
+module _ (b : List ℕ) (at : ℕ) (w : List ℕ) (moves p : ℕ) (fits : at + length (ringLine w moves p) ≤ length b) (a : ℕ) (b₁ : List ℕ) (sectors : Placed b at (map hexOf w) a b₁) where
+  first : Placed b at (map hexOf w ++ (32 ∷ [])) (a + 1) (set b₁ a 32)
+  first = placed-on b at (map hexOf w) a b₁ 32 sectors
+
+  -- there is room for the rest
+  pub room-moves : (a < length b) × (a < length b₁) × (a + 1 + length (decimal moves) ≤ length (set b₁ a 32))
+  room-moves =
+      let l = placed-length b at (map hexOf w ++ (32 ∷ [])) (a + 1) (set b₁ a 32) first in
+      let k = length-set b₁ a 32 in
+      let m : a + 1 + length (decimal moves) < length b = omega (arith, length-ring w moves p, sectors .next, length-map w hexOf) in
+      (omega arith, omega arith, omega arith)
+
+  module _ (c : ℕ) (b₂ : List ℕ) (moved : Placed (set b₁ a 32) (a + 1) (decimal moves) c b₂) where
+    second : Placed b at (map hexOf w ++ (32 ∷ []) ++ decimal moves ++ (32 ∷ [])) (c + 1) (set b₂ c 32)
+    second =
+        placed-on b at (map hexOf w ++ (32 ∷ []) ++ decimal moves) c b₂ 32
+        (placed-append b at (map hexOf w ++ (32 ∷ [])) (a + 1) (set b₁ a 32) (decimal moves) c b₂ first moved)
+
+    pub room-period : (c < length b) × (c < length b₂) × (c + 1 + length (decimal p) ≤ length (set b₂ c 32))
+    room-period =
+        let l = placed-length b at (map hexOf w ++ (32 ∷ []) ++ decimal moves ++ (32 ∷ [])) (c + 1) (set b₂ c 32) second in
+        let k = length-set b₂ c 32 in
+        let m : c + 1 + length (decimal p) < length b = omega (arith, length-ring w moves p, sectors .next, moved .next, length-map w hexOf) in
+        (omega arith, omega arith, omega arith)
+
+    module _ (d : ℕ) (b₃ : List ℕ) (period : Placed (set b₂ c 32) (c + 1) (decimal p) d b₃) where
+      third : Placed b at (map hexOf w ++ (32 ∷ []) ++ decimal moves ++ (32 ∷ []) ++ decimal p) d b₃
+      third = placed-append b at (map hexOf w ++ (32 ∷ []) ++ decimal moves ++ (32 ∷ [])) (c + 1) (set b₂ c 32) (decimal p) d b₃ second period
+
+      pub room-end : (d < length b) × (d < length b₃)
+      room-end =
+          let l = placed-length b at (map hexOf w ++ (32 ∷ []) ++ decimal moves ++ (32 ∷ []) ++ decimal p) d b₃ third in
+          let m : d < length b = omega (arith, length-ring w moves p, sectors .next, moved .next, period .next, length-map w hexOf) in
+          (m, omega arith)
+
+      pub placed-ring : Placed b at (ringLine w moves p) (d + 1) (set b₃ d 10)
+      unfolding ringLine
+      placed-ring = placed-on b at (map hexOf w ++ (32 ∷ []) ++ decimal moves ++ (32 ∷ []) ++ decimal p) d b₃ 10 third
 
 -- ---- whether a text fits
 

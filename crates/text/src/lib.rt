@@ -156,11 +156,20 @@ fn decimal_length(x: usize) -> usize
     io::decimal(x as u64, &mut digits)
 }
 
-// The decimal text of x, where it fits.
+// The decimal text of x, where it fits. Most numbers of a listing are short, and are written straight.
 fn place_decimal(buf: &mut [u8], at: usize, x: usize) -> usize
     requires { ⌜ at + length (decimal x) ≤ length (now buf) ⌝ }
     ensures { λ r. ⌜ Placed (now (buf .entry)) at (decimal x) r (now (buf .exit)) ⌝ }
 {
+    if x < 10 {
+        buf[at] = 48 + x as u8;
+        return at + 1;
+    }
+    if x < 100 {
+        buf[at] = 48 + (x / 10) as u8;
+        buf[at + 1] = 48 + (x % 10) as u8;
+        return at + 2;
+    }
     let mut digits = [0u8; 20];
     let m = io::decimal(x as u64, &mut digits);
     place_text(buf, at, &digits[..m])
@@ -231,13 +240,18 @@ fn ring_length(ring: &[u8], moves: usize, period: usize) -> usize
     ring.len() + two_length(b" ", moves, b" ", period)
 }
 
-// A ring's line, where it fits.
-fn place_ring(buf: &mut [u8], at: usize, ring: &[u8], moves: usize, period: usize) -> usize
+// A ring's line, where it fits. No public call: it is here for a caller that knows that there is room for any line, as the listing does.
+pub fn place_ring(buf: &mut [u8], at: usize, ring: &[u8], moves: usize, period: usize) -> usize
     requires { ⌜ at + length (ringLine (now ring) moves period) ≤ length (now buf) ⌝ }
     ensures { λ r. ⌜ Placed (now (buf .entry)) at (ringLine (now (ring .entry)) moves period) r (now (buf .exit)) ⌝ }
 {
     let a = place_sectors(buf, at, ring);
-    place_two(buf, a, b" ", moves, b" ", period)
+    buf[a] = 32;
+    let b = place_decimal(buf, a + 1, moves);
+    buf[b] = 32;
+    let c = place_decimal(buf, b + 1, period);
+    buf[c] = 10;
+    c + 1
 }
 
 // How long the line of a refusal is.

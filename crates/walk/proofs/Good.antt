@@ -6,6 +6,7 @@
 --     start-off, start-on, start-is              what a start tests, and the record that it makes
 --     ring-of, walk-good                         the record of a ring passes its checks
 --     moved-is                   the record that a step makes is the record of its ring
+--     went-period                the lyn of the necklace that a step came to is its period
 -- Assumes nothing.
 use Prim.Native.Nat.{ℕ, _+_, _-_, _<_, _≤_}
 use mathlib.Core.Path.{_≡_, refl, sym, ap, _∙_}
@@ -13,7 +14,7 @@ use mathlib.Core.Bool.{Bool, true, false}
 use mathlib.Core.Option.{some}
 use mathlib.Core.List.{List, _++_}
 use native.Mathlib.Omega.{arith}
-use lib.ListN.{length, getD, take, drop, replicate, List·getD-append, take-append-drop, length-drop, length-replicate, getD-replicate}
+use lib.ListN.{length, getD, take, drop, replicate, List·getD-append, length-drop, length-replicate, getD-replicate}
 use lib.Seq.{take-append-seam, getD-append-add, ext-getD, getD-take, getD-drop, length-take-le}
 use lib.Dec.{eqb}
 use borrow.Author.Tests.{eq-eqb, ne-eqb, eqb-true, lt-ltb, le-ltb}
@@ -21,11 +22,12 @@ use Rattle.words.specs.Readings.{Sized, Shaded, Reading}
 use Rattle.words.proofs.Split.{lt, eq, gt, tri, both, both-left, both-right, not-left, not-right, clash}
 use Rattle.rings.specs.declared.Class.{Class}
 use Rattle.rings.specs.declared.Class.the-variants.{Loose, Opening, Repeating, Single}
+use Rattle.rings.specs.Necklace.{necklace, period}
 use Rattle.rings.specs.Prenecklace.{prenecklace, lyn}
 use Rattle.rings.specs.Class.{Classed, classOf}
 use Rattle.rings.specs.Steps.{nextOf}
 use Rattle.necklaces.proofs.Lyndon.{lyn-run}
-use Rattle.necklaces.proofs.Classes.{classed, lyndon-necklace}
+use Rattle.necklaces.proofs.Classes.{classed, lyndon-necklace, period-lyn}
 use Rattle.necklaces.proofs.Words.{necklace-prenecklace}
 use Rattle.necklaces.proofs.FullWalk.{next-facts, zeros, zeros-at}
 use Rattle.refusal.specs.declared.Refusal.the-variants.{OffWalk}
@@ -133,16 +135,19 @@ module _ (w : Walk) (good : Passed (walkAsked w)) (size : length (w .ring) ≡ 6
   pub good-long : length (ringOf w) ≡ w .n
   good-long = length-take-le (w .n) (w .ring) (omega (arith, fits))
 
-  pub good-ready : Ready (w .n) (w .k) (w .ring)
+  pub good-ready : Ready (w .k) (ringOf w)
   good-ready =
       record {
-        pos = good .0 .0 .0 .0 .0 .0 .0;
-        fits = fits;
+        pos = omega (arith, good-long, good .0 .0 .0 .0 .0 .0 .0);
+        fits = omega (arith, good-long, fits);
         shades = good .0 .0 .0 .0 .1 .0;
         few = good .0 .0 .0 .0 .1 .1;
-        reading = record { long = good-long; shades = λ i b. rw (getD-take (w .n) (w .ring) i 0 b) (omega (arith, good .0 .0 .0 .1 i (omega (arith, fits)), limit-low (w .n) (w .k) i b)) };
+        reading = record { long = refl; shades = λ i b. low i (omega (arith, good-long)) };
         pre = own;
       }
+    where
+      low : (i : ℕ) → i < w .n → getD (ringOf w) i 0 < w .k
+      low i b = rw (getD-take (w .n) (w .ring) i 0 b) (omega (arith, good .0 .0 .0 .1 i (omega (arith, fits)), limit-low (w .n) (w .k) i b))
 
   -- the sectors past n are 0
   pub good-tail : drop (w .n) (w .ring) ≡ replicate (64 - w .n) 0
@@ -154,31 +159,32 @@ module _ (w : Walk) (good : Passed (walkAsked w)) (size : length (w .ring) ≡ 6
       getD-drop (w .n) (w .ring) i 0 ∙ z ∙ sym (getD-replicate (64 - w .n) i 0 0 (omega (arith, length-drop (w .n) (w .ring)))))
 
 -- the record that a step makes is the record of its ring
-module _ (kind : K.Kind) (n k p : ℕ) (start ring : List ℕ) (ready : Ready n k start) (tail : drop n start ≡ replicate (64 - n) 0) (size : length ring ≡ 64)
-    (next : nextOf (kindOf kind) k (take n start) ≡ some (take n ring)) (kept : drop n ring ≡ drop n start) (is : lyn (take n ring) ≡ p) where
-  v : List ℕ
-  v = take n ring
+module _ (kind : K.Kind) (w : Walk) (v : List ℕ) (p : ℕ) (good : Passed (walkAsked w)) (size : length (w .ring) ≡ 64) (next : nextOf (kindOf kind) (w .k) (ringOf w) ≡ some v) (is : lyn v ≡ p) where
+  pub moved-long : length v ≡ w .n
+  moved-long = next-facts (kindOf kind) (w .k) (ringOf w) v next .0 .long ∙ good-long w good size
 
-  long : length (take n ring) ≡ n
-  long = length-take-le n ring (omega (arith, ready .fits))
-
-  pre : prenecklace (take n ring) ≡ true
-  pre = kind-only kind (take n ring) (next-facts (kindOf kind) k (take n start) (take n ring) next .2)
-
-  pub moved-is : record { n = n; k = k; ring = ring; class = classAt n p } ≡ walkOf k (take n ring)
+  pub moved-is : record { n = w .n; k = w .k; ring = v ++ drop (w .n) (w .ring); class = classAt (w .n) p } ≡ walkOf (w .k) v
   moved-is =
       λ i.
       record {
-        n = sym long i;
-        k = k;
-        ring = (sym (take-append-drop n ring) ∙ ap (λ (t : List ℕ). take n ring ++ t) (kept ∙ tail ∙ ap (λ (x : ℕ). replicate (64 - x) 0) (sym long))) i;
+        n = sym moved-long i;
+        k = w .k;
+        ring = ap (λ (t : List ℕ). v ++ t) (good-tail w good size ∙ ap (λ (x : ℕ). replicate (64 - x) 0) (sym moved-long)) i;
         class = class i;
       }
     where
-      class : classAt n p ≡ classOf (take n ring)
+      class : classAt (w .n) p ≡ classOf v
       class =
           sym
-          (class-at (take n ring) (lyn (take n ring)) (lyn-run (take n ring) (omega (arith, long, ready .pos)) pre) ∙ ap (λ (x : ℕ). classAt x (lyn (take n ring))) long ∙ ap (classAt n) is)
+          (class-at v (lyn v) (lyn-run v (omega (arith, moved-long, good-ready w good size .pos, good-long w good size)) (kind-only kind v (next-facts (kindOf kind) (w .k) (ringOf w) v next .2)))
+          ∙ ap (λ (x : ℕ). classAt x (lyn v)) moved-long
+          ∙ ap (classAt (w .n)) is)
+
+-- the lyn of the necklace that a step came to is its period
+pub went-period : (k : ℕ) (s v : List ℕ) (p : ℕ) → 0 < length s → nextOf necklace k s ≡ some v → lyn v ≡ p → p ≡ period v
+went-period k s v p z e is =
+    let f = next-facts necklace k s v e in
+    sym (period-lyn v (omega (arith, f .0 .long)) (f .2) ∙ is)
 
 -- ---- a start, from a reading that passed 1, 2, 3
 

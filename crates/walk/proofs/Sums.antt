@@ -31,7 +31,7 @@ pub step-bound : (w v : Walk) (m : ℕ) → length (w .ring) ≡ 64 → StepSays
 step-bound w v m size p =
     let r = good-ready w (p .good) size in
     let l = good-long w (p .good) size in
-    let b = bound-necklace (w .k) (ringOf w) (rw l (r .reading)) (omega (arith, l, r .pos)) (r .pre) in
+    let b = bound-necklace (w .k) (ringOf w) (r .reading) (r .pos) (r .pre) in
     let e : m ≡ moves (w .k) (ringOf w) (nextOf necklace (w .k) (ringOf w)) = p .counted ∙ sym (ap (moves (w .k) (ringOf w)) (p .next)) in
     omega (arith, l, b, e)
 
@@ -39,7 +39,7 @@ step-bound w v m size p =
 pub step-last : (kind : List ℕ → Bool) (w v : Walk) (m : ℕ) → length (w .ring) ≡ 64 → StepSays kind w v (Done m) → ringOf w ≡ replicate (w .n) (w .k - 1) → m ≡ 0
 step-last kind w v m size p e =
     let r = good-ready w (p .good) size in
-    p .counted ∙ sym (ap (moves (w .k) (ringOf w)) (p .next)) ∙ bound-last kind (w .k) (ringOf w) (low-or-full (w .n) (w .k) (ringOf w) (r .reading) .1 e)
+    p .counted ∙ sym (ap (moves (w .k) (ringOf w)) (p .next)) ∙ bound-last kind (w .k) (ringOf w) (low-or-full (w .n) (w .k) (ringOf w) (rw (good-long w (p .good) size) at (r .reading)) .1 e)
 
 -- ---- all steps
 

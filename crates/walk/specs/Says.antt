@@ -5,6 +5,7 @@ use mathlib.Core.Path.{_≡_}
 use mathlib.Core.Bool.{Bool}
 use mathlib.Core.Option.{none, some}
 use mathlib.Core.List.{List}
+use Rattle.rings.specs.Necklace.{necklace, period}
 use Rattle.rings.specs.Prenecklace.{prenecklace}
 use Rattle.rings.specs.Steps.{nextOf, moves}
 use Rattle.refusal.specs.declared.Checked.{Checked}
@@ -41,3 +42,9 @@ abbrev pub StepSays : (List ℕ → Bool) → Walk → Walk → Outcome → Type
 StepSays kind w v (Moved m) = Onto kind w v m
 StepSays kind w v (Done m) = Ended kind w v m
 StepSays kind w v (Refused r) = Given (walkAsked w) r × (v ≡ w)
+
+-- a step by necklaces in the ring's own place, from s to v; p is the period of v. This serves the listing alone, which steps from rings that are good
+abbrev pub WentSays : ℕ → List ℕ → List ℕ → Outcome → ℕ → Type 0
+WentSays k s v (Moved m) p = (nextOf necklace k s ≡ some v) × (m ≡ moves k s (some v)) × (p ≡ period v)
+WentSays k s v (Done m) p = (nextOf necklace k s ≡ none) × (m ≡ moves k s none) × (v ≡ s)
+WentSays k s v (Refused r) p = ⊥

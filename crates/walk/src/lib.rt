@@ -12,8 +12,9 @@ ghost use Rattle.rings.specs.Prenecklace.{prenecklace};
 ghost use Rattle.refusal.specs.Order.{Passed, CheckSays};
 ghost use Rattle.refusal.specs.Calls.{oneReading};
 ghost use Rattle.moves.specs.Kinds.{kindOf};
+ghost use Rattle.moves.specs.Going.{Ready};
 ghost use Rattle.walk.specs.Record.{tagOf, valueOf, sameClass, isLoose, onWalk, walkAsked, emptyWalk, laidOut};
-ghost use Rattle.walk.specs.Says.{StartSays, StepSays};
+ghost use Rattle.walk.specs.Says.{StartSays, StepSays, WentSays};
 
 // A walk: n, k, the ring with room for 64 sectors, those past n 0, and its class.
 pub struct Walk {
@@ -183,15 +184,15 @@ pub fn start(s: &[u8], k: usize) -> Started
 
 // ---- the steps
 
-// A step from a record that passed its checks. No public call: it is here for a caller that has the record from a start or a step, as the listing
-// has, and need not have it scanned again.
-pub fn step_good(w: Walk, kind: Kind) -> Stepped
+// A step from a record that passed its checks.
+fn step_good(w: Walk, kind: Kind) -> Stepped
     requires { ⌜ Passed (walkAsked w) ⌝ }
     ensures { λ r. ⌜ StepSays (kindOf kind) w (r .walk) (r .outcome) ⌝ }
 {
     let n = w.n;
     let ring = w.ring;
-    let r = moves::advance(ring, n, w.k, kind);
+    let mut next = ring;
+    let r = moves::advance(&mut next[..n], w.k, kind);
     if r.lyn == 0 {
         return Stepped {
             walk: w,
@@ -199,7 +200,6 @@ pub fn step_good(w: Walk, kind: Kind) -> Stepped
         };
     }
     let class = moves::class_at(n, r.lyn);
-    let next = r.ring;
     Stepped {
         walk: Walk {
             n: n,
@@ -208,6 +208,31 @@ pub fn step_good(w: Walk, kind: Kind) -> Stepped
             class: class,
         },
         outcome: Outcome::Moved(r.moves),
+    }
+}
+
+// A step by necklaces that was made in the ring's own place: its outcome, and the period of the ring that it came to.
+pub struct Went {
+    pub outcome: Outcome,
+    pub period: usize,
+}
+
+// That step, from a ring that is known to be a prenecklace. No public call: it is here for a caller that goes from ring to ring and keeps nothing but the
+// last, as the listing does.
+pub fn go_on(ring: &mut [u8], k: usize) -> Went
+    requires { ⌜ Ready k (now ring) ⌝ }
+    ensures { λ r. ⌜ WentSays k (now (ring .entry)) (now (ring .exit)) (r .outcome) (r .period) ⌝ }
+{
+    let reached = moves::advance(ring, k, Kind::Necklace);
+    if reached.lyn == 0 {
+        return Went {
+            outcome: Outcome::Done(reached.moves),
+            period: 0,
+        };
+    }
+    Went {
+        outcome: Outcome::Moved(reached.moves),
+        period: reached.lyn,
     }
 }
 

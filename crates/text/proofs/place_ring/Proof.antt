@@ -1,51 +1,88 @@
--- `text::place_ring` meets its contract: the sectors and then two numbers, with room for all.
+-- `text::place_ring` meets its contract: each piece stands behind the one before it, and there is room for all.
 -- Assumes nothing.
 use native.Mathlib.Omega.{arith}
-use borrow.Author.Needs.{needs}
-use mathlib.Core.List.{[], _∷_}
-use lib.ListN.{length-map}
-use Rattle.text.specs.Text.{hexOf}
-use Rattle.text.proofs.Put.{length-ring, length-two, ring-two, placed-length, placed-append}
+use Rattle.text.proofs.Put.{length-ring, placed-length, room-moves, room-period, room-end, placed-ring}
 use Rattle.text.proofs.place_ring.Statement.{statement}
 use Rattle.text.proofs.place_ring.Tie as tie
 
 place-sectors-requires : tie.Need-place-sectors-requires
 place-sectors-requires c κs =
-    let a = c .before .before .before .args in
-    omega (arith, c .before .before .before .pre, length-ring (a .ring .now) (a .moves) (a .period), length-map (a .ring .now) hexOf, length-two (32 ∷ []) (a .moves) (32 ∷ []) (a .period))
+    let g = c .before .before .before in
+    let a = g .args in
+    omega (arith, g .pre, length-ring (a .ring .now) (a .moves) (a .period))
 
-slice-aggregate-place-two : tie.Need-slice-aggregate-place-two
-slice-aggregate-place-two c = search needs
+slice-write-buf : tie.Need-slice-write-buf
+slice-write-buf c =
+    let g = c .before .before .before .before .before .before in
+    let a = g .args in
+    room-moves (a .buf .now) (a .at) (a .ring .now) (a .moves) (a .period) (g .pre) _ _ (c .before .before .place-sectors .ensures) .1
 
-slice-aggregate-place-two-2 : tie.Need-slice-aggregate-place-two-2
-slice-aggregate-place-two-2 c = search needs
+add-place-decimal : tie.Need-add-place-decimal
+add-place-decimal c =
+    let g = c .before .before .before .before .before .before .before in
+    let a = g .args in
+    omega (arith, room-moves (a .buf .now) (a .at) (a .ring .now) (a .moves) (a .period) (g .pre) _ _ (c .before .before .before .place-sectors .ensures) .0)
 
-place-two-requires : tie.Need-place-two-requires
-place-two-requires c κs =
-    let a = c .before .before .before .before .before .before .before .before .before .args in
-    let p1 = c .before .before .before .before .before .place-sectors .ensures in
-    omega (arith, c .before .before .before .before .before .before .before .before .before .pre, length-ring (a .ring .now) (a .moves) (a .period), length-map (a .ring .now) hexOf, length-two (32 ∷ []) (a .moves) (32 ∷ []) (a .period), placed-length _ _ _ _ _ p1)
+place-decimal-requires : tie.Need-place-decimal-requires
+place-decimal-requires c κs =
+    let g = c .before .before .before .before .before .before .before in
+    let a = g .args in
+    room-moves (a .buf .now) (a .at) (a .ring .now) (a .moves) (a .period) (g .pre) _ _ (c .before .before .before .place-sectors .ensures) .2
+
+slice-write-buf-2 : tie.Need-slice-write-buf-2
+slice-write-buf-2 c =
+    let g = c .before .before .before .before .before .before .before .before .before .before in
+    let a = g .args in
+    room-period (a .buf .now) (a .at) (a .ring .now) (a .moves) (a .period) (g .pre) _ _ (c .before .before .before .before .before .before .place-sectors .ensures) _ _ (c .before .before .place-decimal .ensures) .1
+
+add-place-decimal-2 : tie.Need-add-place-decimal-2
+add-place-decimal-2 c =
+    let g = c .before .before .before .before .before .before .before .before .before .before .before in
+    let a = g .args in
+    omega (arith, room-period (a .buf .now) (a .at) (a .ring .now) (a .moves) (a .period) (g .pre) _ _ (c .before .before .before .before .before .before .before .place-sectors .ensures) _ _ (c .before .before .before .place-decimal .ensures) .0)
+
+place-decimal-requires-2 : tie.Need-place-decimal-requires-2
+place-decimal-requires-2 c κs =
+    let g = c .before .before .before .before .before .before .before .before .before .before .before in
+    let a = g .args in
+    room-period (a .buf .now) (a .at) (a .ring .now) (a .moves) (a .period) (g .pre) _ _ (c .before .before .before .before .before .before .before .place-sectors .ensures) _ _ (c .before .before .before .place-decimal .ensures) .2
+
+slice-write-buf-3 : tie.Need-slice-write-buf-3
+slice-write-buf-3 c =
+    let g = c .before .before .before .before .before .before .before .before .before .before .before .before .before .before in
+    let a = g .args in
+    room-end (a .buf .now) (a .at) (a .ring .now) (a .moves) (a .period) (g .pre) _ _ (c .before .before .before .before .before .before .before .before .before .before .place-sectors .ensures) _ _ (c .before .before .before .before .before .before .place-decimal .ensures) _ _ (c .before .before .place-decimal2 .ensures) .1
+
+add-result : tie.Need-add-result
+add-result c =
+    let g = c .before .before .before .before .before .before .before .before .before .before .before .before .before .before in
+    let a = g .args in
+    omega (arith, room-end (a .buf .now) (a .at) (a .ring .now) (a .moves) (a .period) (g .pre) _ _ (c .before .before .before .before .before .before .before .before .before .before .place-sectors .ensures) _ _ (c .before .before .before .before .before .before .place-decimal .ensures) _ _ (c .before .before .place-decimal2 .ensures) .0)
 
 same-length : tie.Need-same-length
 same-length c =
-    let p1 = c .before .before .before .before .before .before .before .before .place-sectors .ensures in
-    let p2 = c .before .before .place-two .ensures in
-    placed-length _ _ _ _ _ (placed-append _ _ _ _ _ _ _ _ p1 p2)
+    let g = c .before .before .before .before .before .before .before .before .before .before .before .before .before .before in
+    let a = g .args in
+    placed-length _ _ _ _ _ (placed-ring (a .buf .now) (a .at) (a .ring .now) (a .moves) (a .period) (g .pre) _ _ (c .before .before .before .before .before .before .before .before .before .before .place-sectors .ensures) _ _ (c .before .before .before .before .before .before .place-decimal .ensures) _ _ (c .before .before .place-decimal2 .ensures))
 
 returns : tie.Need-returns
 returns c =
-    let a = c .before .before .before .before .before .before .before .before .before .before .before .before .args in
-    let p1 = c .before .before .before .before .before .before .before .before .place-sectors .ensures in
-    let p2 = c .before .before .place-two .ensures in
-    rw (ring-two (a .ring .now) (a .moves) (a .period)) at (placed-append _ _ _ _ _ _ _ _ p1 p2)
+    let g = c .before .before .before .before .before .before .before .before .before .before .before .before .before .before in
+    let a = g .args in
+    placed-ring (a .buf .now) (a .at) (a .ring .now) (a .moves) (a .period) (g .pre) _ _ (c .before .before .before .before .before .before .before .before .before .before .place-sectors .ensures) _ _ (c .before .before .before .before .before .before .place-decimal .ensures) _ _ (c .before .before .place-decimal2 .ensures)
 
 pub place-ring-spec : {M : Type 1} → statement M
 place-ring-spec =
     tie.close
     (tie.spec
     place-sectors-requires
-    slice-aggregate-place-two
-    slice-aggregate-place-two-2
-    place-two-requires
+    slice-write-buf
+    add-place-decimal
+    place-decimal-requires
+    slice-write-buf-2
+    add-place-decimal-2
+    place-decimal-requires-2
+    slice-write-buf-3
+    add-result
     same-length
     returns)
