@@ -18,9 +18,10 @@ use Rattle.rings.specs.Class.{Classed, classOf}
 use Rattle.necklaces.proofs.Classes.{classed, lyndon-necklace}
 use Rattle.necklaces.proofs.Words.{necklace-prenecklace}
 use Rattle.refusal.specs.declared.Refusal.{Refusal}
-use Rattle.refusal.specs.declared.Refusal.the-variants.{Length, Shades, Sector, Room, OffWalk, Counts, Cut, Mark, NotHome, Pair, Line, TooMany}
+use Rattle.refusal.specs.declared.Refusal.the-variants.{Sector, NotHome}
 use Rattle.refusal.specs.Numbers.{placeOf}
 use Rattle.refusal.specs.Order.{Given, Passed, FirstBad}
+use Rattle.refusal.specs.Order.Given.{size, pair, shades, sector as badAt, room, counts, offWalk}
 use Rattle.refusal.specs.Calls.{oneReading, withRoom}
 use Rattle.catalogue.specs.Layout.{isNecklace}
 use Rattle.catalogue.specs.Order.{Unfit}
@@ -28,18 +29,13 @@ use Rattle.catalogue.specs.Order.Unfit.{sector, notHome}
 
 -- a reading whose numbers are good can only be refused for a sector
 pub only-sector : (w : List ℕ) (k : ℕ) → Sized (length w) → Shaded k → (r : Refusal) → Given (oneReading w k) r → FirstBad w (λ j. k) (placeOf r)
-only-sector w k z h (Length p) g = absurd (g .1 z)
-only-sector w k z h Pair g = absurd (g .1 tt)
-only-sector w k z h (Shades p) g = absurd (g .2 h)
-only-sector w k z h (Sector p) g = g .1
-only-sector w k z h Room g = absurd (g .1 tt)
-only-sector w k z h Counts g = absurd (g .1 tt)
-only-sector w k z h OffWalk g = absurd (g .1 refl)
-only-sector w k z h (Cut p) g = absurd g
-only-sector w k z h (Mark p) g = absurd g
-only-sector w k z h (NotHome p) g = absurd g
-only-sector w k z h Line g = absurd g
-only-sector w k z h TooMany g = absurd g
+only-sector w k z h r (size e f) = absurd (f z)
+only-sector w k z h r (pair e l f) = absurd (f tt)
+only-sector w k z h r (shades e l f) = absurd (f h)
+only-sector w k z h r (badAt p e l f) = rw e f
+only-sector w k z h r (room e l f) = absurd (f tt)
+only-sector w k z h r (counts e l f) = absurd (f tt)
+only-sector w k z h r (offWalk e l f) = absurd (f refl)
 
 -- and then the record is, at that sector's place in the catalogue
 pub bad-sector : (w : List ℕ) (k s : ℕ) → Sized (length w) → Shaded k → (r : Refusal) (p : ℕ) → p ≡ placeOf r → Given (oneReading w k) r → Unfit w k s (Sector (s + 4 + p))

@@ -14,9 +14,9 @@ use lib.ListN.{length, getD, take, drop, length-drop}
 use lib.Seq.{length-take-le, take-all}
 use Rattle.words.specs.Readings.{Sized, Shaded}
 use Rattle.refusal.specs.declared.Refusal.{Refusal}
-use Rattle.refusal.specs.declared.Refusal.the-variants.{Length, Shades, Sector, Room, OffWalk, Counts, Cut, Mark, NotHome, Pair, Line, TooMany}
 use Rattle.refusal.specs.Numbers.{numberOf}
 use Rattle.refusal.specs.Order.{Given}
+use Rattle.refusal.specs.Order.Given.{size, pair, shades, sector, room, counts, offWalk}
 use Rattle.refusal.specs.Calls.{numbers}
 use Rattle.catalogue.specs.declared.Kind.{Kind}
 use Rattle.catalogue.specs.declared.Kind.the-variants.{Front, Back}
@@ -31,33 +31,23 @@ use Rattle.catalogue.specs.Steps.{RecordSays, BodySays}
 
 -- a refusal by number 1 is of n
 pub bad-length : (n k : ℕ) (r : Refusal) → Given (numbers n n k) r → numberOf r ≡ 1 → Sized n → ⊥
-bad-length n k (Length p) g e = g .1
-bad-length n k Pair g e = absurd (omega arith)
-bad-length n k (Shades p) g e = absurd (omega arith)
-bad-length n k (Sector p) g e = absurd (omega arith)
-bad-length n k Room g e = absurd (omega arith)
-bad-length n k Counts g e = absurd (omega arith)
-bad-length n k OffWalk g e = absurd (omega arith)
-bad-length n k (Cut p) g e = absurd g
-bad-length n k (Mark p) g e = absurd g
-bad-length n k (NotHome p) g e = absurd g
-bad-length n k Line g e = absurd g
-bad-length n k TooMany g e = absurd g
+bad-length n k r (size e f) q = f
+bad-length n k r (pair e l f) q = absurd (f refl)
+bad-length n k r (shades e l f) q = absurd (let z = rw e at q in omega arith)
+bad-length n k r (sector p e l f) q = absurd (let w = f .within in omega arith)
+bad-length n k r (room e l f) q = absurd (f tt)
+bad-length n k r (counts e l f) q = absurd (f tt)
+bad-length n k r (offWalk e l f) q = absurd (f refl)
 
 -- any other is of k
 pub bad-shades : (n k : ℕ) (r : Refusal) → Given (numbers n n k) r → (numberOf r ≡ 1 → ⊥) → Sized n × (Shaded k → ⊥)
-bad-shades n k (Length p) g e = absurd (e refl)
-bad-shades n k Pair g e = absurd (g .1 refl)
-bad-shades n k (Shades p) g e = (g .1 .0, g .2)
-bad-shades n k (Sector p) g e = absurd (let l = g .1 .within in omega arith)
-bad-shades n k Room g e = absurd (g .1 tt)
-bad-shades n k Counts g e = absurd (g .1 tt)
-bad-shades n k OffWalk g e = absurd (g .1 refl)
-bad-shades n k (Cut p) g e = absurd g
-bad-shades n k (Mark p) g e = absurd g
-bad-shades n k (NotHome p) g e = absurd g
-bad-shades n k Line g e = absurd g
-bad-shades n k TooMany g e = absurd g
+bad-shades n k r (size e f) q = absurd (q (rw e))
+bad-shades n k r (pair e l f) q = absurd (f refl)
+bad-shades n k r (shades e l f) q = (l .0, f)
+bad-shades n k r (sector p e l f) q = absurd (let w = f .within in omega arith)
+bad-shades n k r (room e l f) q = absurd (f tt)
+bad-shades n k r (counts e l f) q = absurd (f tt)
+bad-shades n k r (offWalk e l f) q = absurd (f refl)
 
 -- a second byte of neither mark is of no known mark
 pub unknown-mark : (t : List ℕ) → (getD t 1 0 ≡ 0x46 → ⊥) → (getD t 1 0 ≡ 0x42 → ⊥) → Known t → ⊥

@@ -3,14 +3,14 @@
 --     answered                   the chain's answer is given
 --     decided, passed-decided    so the chain's answer is the call's
 -- Assumes nothing.
-use Prim.Native.Nat.{ℕ}
-use mathlib.Core.Path.{_≡_, refl, sym, ap, _∙_}
+use mathlib.Core.Path.{_≡_, refl, _∙_}
 use mathlib.Core.Bool.{Bool, true, false}
 use mathlib.Core.Option.{Option, none, some}
 use Rattle.words.proofs.Split.{passes, fails, test}
 use Rattle.refusal.specs.declared.Refusal.{Refusal}
-use Rattle.refusal.specs.declared.Refusal.the-variants.{Length, Shades, Sector, Room, OffWalk, Counts, Cut, Mark, NotHome, Pair, Line, TooMany}
+use Rattle.refusal.specs.declared.Refusal.the-variants.{Length, Shades, Sector, Room, OffWalk, Counts, Pair}
 use Rattle.refusal.specs.Order.{Asked, After1, After10, After2, After3, After4, After6, Given, Passed}
+use Rattle.refusal.specs.Order.Given.{size, pair, shades, sector, room, counts, offWalk}
 use Rattle.refusal.proofs.Facts.{failed, lacking, firstBad, first-bad-is, not-below-bad, bad-not-below, sized, paired, shaded, below, roomy, counted, walking, sized-tells, paired-tells, shaded-tells, below-tells, roomy-tells, counted-tells, walking-tells}
 
 -- r where the test fails, otherwise what the rest of the chain answers
@@ -85,20 +85,14 @@ module _ (a : Asked) where
 -- a refusal that is given is the chain's answer
 pub fixed : (a : Asked) (r : Refusal) → Given a r → refusalOf a ≡ some r
 unfolding refusalOf from10 from2 from3 from4 from6 from5
-fixed a (Length p) g = stops (sized a) (Length 0) (from10 a) (failed (sized-tells a) (g .1)) ∙ ap (λ (x : ℕ). some (Length x)) (sym (g .0))
-fixed a Pair g = past1 a (g .0) ∙ stops (paired a) Pair (from2 a) (failed (paired-tells a) (g .1))
-fixed a (Shades p) g =
-    past10 a (g .1) ∙ stops (shaded a) (Shades 0) (from3 a) (failed (shaded-tells a) (g .2)) ∙ ap (λ (x : ℕ). some (Shades x)) (sym (g .0))
-fixed a (Sector p) g =
-    past2 a (g .0) ∙ stops (below a) (Sector (firstBad (a .sectors) (a .limit))) (from4 a) (failed (below-tells a) (bad-not-below (a .sectors) (a .limit) p (g .1))) ∙ ap (λ (x : ℕ). some (Sector x)) (first-bad-is (a .sectors) (a .limit) p (g .1))
-fixed a Room g = past3 a (g .0) ∙ stops (roomy a) Room (from6 a) (failed (roomy-tells a) (g .1))
-fixed a Counts g = past4 a (g .0) ∙ stops (counted a) Counts (from5 a) (failed (counted-tells a) (g .1))
-fixed a OffWalk g = past6 a (g .0) ∙ stops (walking a) OffWalk none (failed (walking-tells a) (g .1))
-fixed a (Cut p) g = absurd g
-fixed a (Mark p) g = absurd g
-fixed a (NotHome p) g = absurd g
-fixed a Line g = absurd g
-fixed a TooMany g = absurd g
+fixed a r (size e f) = stops (sized a) (Length 0) (from10 a) (failed (sized-tells a) f) ∙ rw e
+fixed a r (pair e l f) = past1 a l ∙ stops (paired a) Pair (from2 a) (failed (paired-tells a) f) ∙ rw e
+fixed a r (shades e l f) = past10 a l ∙ stops (shaded a) (Shades 0) (from3 a) (failed (shaded-tells a) f) ∙ rw e
+fixed a r (sector p e l f) =
+    past2 a l ∙ stops (below a) (Sector (firstBad (a .sectors) (a .limit))) (from4 a) (failed (below-tells a) (bad-not-below (a .sectors) (a .limit) p f)) ∙ rw (first-bad-is (a .sectors) (a .limit) p f, e)
+fixed a r (room e l f) = past3 a l ∙ stops (roomy a) Room (from6 a) (failed (roomy-tells a) f) ∙ rw e
+fixed a r (counts e l f) = past4 a l ∙ stops (counted a) Counts (from5 a) (failed (counted-tells a) f) ∙ rw e
+fixed a r (offWalk e l f) = past6 a l ∙ stops (walking a) OffWalk none (failed (walking-tells a) f) ∙ rw e
 
 -- ---- the chain's answer is given
 
@@ -112,36 +106,36 @@ module _ (a : Asked) where
   answer5 : After6 a → Answers a (from5 a)
   unfolding from5 unless
   answer5 l =
-      elim (test (walking a)) [ passes e ↦ rw e (l, walking-tells a .holds e) | fails e ↦ rw e (l, lacking (walking-tells a) e) ]
+      elim (test (walking a)) [ passes e ↦ rw e (l, walking-tells a .holds e) | fails e ↦ rw e (offWalk refl l (lacking (walking-tells a) e)) ]
 
   answer6 : After4 a → Answers a (from6 a)
   unfolding from6 unless
   answer6 l =
-      elim (test (counted a)) [ passes e ↦ rw e (answer5 (l, counted-tells a .holds e)) | fails e ↦ rw e (l, lacking (counted-tells a) e) ]
+      elim (test (counted a)) [ passes e ↦ rw e (answer5 (l, counted-tells a .holds e)) | fails e ↦ rw e (counts refl l (lacking (counted-tells a) e)) ]
 
   answer4 : After3 a → Answers a (from4 a)
   unfolding from4 unless
   answer4 l =
-      elim (test (roomy a)) [ passes e ↦ rw e (answer6 (l, roomy-tells a .holds e)) | fails e ↦ rw e (l, lacking (roomy-tells a) e) ]
+      elim (test (roomy a)) [ passes e ↦ rw e (answer6 (l, roomy-tells a .holds e)) | fails e ↦ rw e (room refl l (lacking (roomy-tells a) e)) ]
 
   answer3 : After2 a → Answers a (from3 a)
   unfolding from3 unless
   answer3 l =
-      elim (test (below a)) [ passes e ↦ rw e (answer4 (l, below-tells a .holds e)) | fails e ↦ rw e (l, not-below-bad a e) ]
+      elim (test (below a)) [ passes e ↦ rw e (answer4 (l, below-tells a .holds e)) | fails e ↦ rw e (sector (firstBad (a .sectors) (a .limit)) refl l (not-below-bad a e)) ]
 
   answer2 : After10 a → Answers a (from2 a)
   unfolding from2 unless
   answer2 l =
-      elim (test (shaded a)) [ passes e ↦ rw e (answer3 (l, shaded-tells a .holds e)) | fails e ↦ rw e (refl, l, lacking (shaded-tells a) e) ]
+      elim (test (shaded a)) [ passes e ↦ rw e (answer3 (l, shaded-tells a .holds e)) | fails e ↦ rw e (shades refl l (lacking (shaded-tells a) e)) ]
 
   answer10 : After1 a → Answers a (from10 a)
   unfolding from10 unless
   answer10 l =
-      elim (test (paired a)) [ passes e ↦ rw e (answer2 (l, paired-tells a .holds e)) | fails e ↦ rw e (l, lacking (paired-tells a) e) ]
+      elim (test (paired a)) [ passes e ↦ rw e (answer2 (l, paired-tells a .holds e)) | fails e ↦ rw e (pair refl l (lacking (paired-tells a) e)) ]
 
   pub answered : Answers a (refusalOf a)
   unfolding refusalOf unless
-  answered = elim (test (sized a)) [ passes e ↦ rw e (answer10 (sized-tells a .holds e)) | fails e ↦ rw e (refl, lacking (sized-tells a) e) ]
+  answered = elim (test (sized a)) [ passes e ↦ rw e (answer10 (sized-tells a .holds e)) | fails e ↦ rw e (size refl (lacking (sized-tells a) e)) ]
 
 pub decided : (a : Asked) (r : Refusal) → refusalOf a ≡ some r → Given a r
 decided a r e = rw e at (answered a)

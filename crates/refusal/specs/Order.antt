@@ -6,7 +6,7 @@
 --     Passed a                  no check fails
 --     CheckSays a v             what a check's answer v promises
 -- That no call is given two refusals, nor both a refusal and none: proofs/Unique. The record reader and the listing program have
--- orders of their own, so the refusals that only they give are never given here.
+-- orders of their own, so the refusals that only they give have no reason here.
 -- Assumes nothing.
 use Prim.Native.Nat.{ℕ, _<_, _≤_}
 use mathlib.Core.Path.{_≡_}
@@ -17,7 +17,7 @@ use lib.ListN.{length, getD}
 use Rattle.words.specs.Sum.{sumOf}
 use Rattle.words.specs.Readings.{Sized, Shaded}
 use Rattle.refusal.specs.declared.Refusal.{Refusal}
-use Rattle.refusal.specs.declared.Refusal.the-variants.{Length, Shades, Sector, Room, OffWalk, Counts, Cut, Mark, NotHome, Pair, Line, TooMany}
+use Rattle.refusal.specs.declared.Refusal.the-variants.{Length, Shades, Sector, Room, OffWalk, Counts, Pair}
 use Rattle.refusal.specs.declared.Checked.{Checked}
 use Rattle.refusal.specs.declared.Checked.the-variants.{Good, Refused}
 
@@ -102,20 +102,15 @@ pub record FirstBad (w : List ℕ) (limit : ℕ → ℕ) (p : ℕ) : Type 0 wher
   pub first : (i : ℕ) → i < p → getD w i 0 < limit i
   pub here : limit p ≤ getD w p 0
 
--- the check of r fails, and every earlier check has passed
-abbrev pub Given : Asked → Refusal → Type 0
-Given a (Length p) = (p ≡ 0) × (Sized (a .n) → ⊥)
-Given a Pair = After1 a × (Paired a → ⊥)
-Given a (Shades p) = (p ≡ 0) × After10 a × (Shaded (a .k) → ⊥)
-Given a (Sector p) = After2 a × FirstBad (a .sectors) (a .limit) p
-Given a Room = After3 a × (Roomy a → ⊥)
-Given a Counts = After4 a × (Counted a → ⊥)
-Given a OffWalk = After6 a × (Walking a → ⊥)
-Given a (Cut p) = ⊥
-Given a (Mark p) = ⊥
-Given a (NotHome p) = ⊥
-Given a Line = ⊥
-Given a TooMany = ⊥
+-- the check of r fails, and every earlier check has passed: a reason for each check, with its refusal and place
+pub data Given (a : Asked) (r : Refusal) : Type 0 where
+  size : r ≡ Length 0 → (Sized (a .n) → ⊥) → Given a r
+  pair : r ≡ Pair → After1 a → (Paired a → ⊥) → Given a r
+  shades : r ≡ Shades 0 → After10 a → (Shaded (a .k) → ⊥) → Given a r
+  sector : (p : ℕ) → r ≡ Sector p → After2 a → FirstBad (a .sectors) (a .limit) p → Given a r
+  room : r ≡ Room → After3 a → (Roomy a → ⊥) → Given a r
+  counts : r ≡ Counts → After4 a → (Counted a → ⊥) → Given a r
+  offWalk : r ≡ OffWalk → After6 a → (Walking a → ⊥) → Given a r
 
 -- every check has passed
 abbrev pub Passed : Asked → Type 0

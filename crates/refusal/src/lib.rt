@@ -80,10 +80,10 @@ pub fn check_numbers(n: usize, second: usize, k: usize) -> Checked
         return Checked::Refused(Refusal::Pair);
     }
     if k < 2 {
-        return Checked::Refused(Refusal::Shades(0));
+        return Checked::Refused(Refusal::Shades(0)); // too few
     }
     if 16 < k {
-        return Checked::Refused(Refusal::Shades(0));
+        return Checked::Refused(Refusal::Shades(0)); // too many
     }
     Checked::Good
 }

@@ -32,6 +32,7 @@ use Rattle.necklaces.proofs.Words.{necklace-prenecklace}
 use Rattle.necklaces.proofs.FullWalk.{next-facts, zeros, zeros-at}
 use Rattle.refusal.specs.declared.Refusal.the-variants.{OffWalk}
 use Rattle.refusal.specs.Order.{Passed, Given}
+use Rattle.refusal.specs.Order.Given.{offWalk}
 use Rattle.refusal.specs.Calls.{ringLimit, walkRecord, walkStart, oneReading}
 use Rattle.walk.specs.declared.Walk.{Walk}
 use Rattle.moves.specs.declared.Kind as K
@@ -115,7 +116,7 @@ pub pass-walk : (n k : ℕ) (ring : List ℕ) (b : Bool) → Passed (walkRecord 
 pass-walk n k ring b h e = (h .0, e)
 
 pub off-walk : (n k : ℕ) (ring : List ℕ) (b : Bool) → Passed (walkRecord n k ring true) → b ≡ false → Given (walkRecord n k ring b) OffWalk
-off-walk n k ring b h e = (h .0, λ t. clash b t e)
+off-walk n k ring b h e = offWalk refl (h .0) (λ t. clash b t e)
 
 -- its sectors are below k up to n, and below 1 past it
 limit-low : (n k i : ℕ) → i < n → ringLimit n k i ≡ k
@@ -190,7 +191,7 @@ went-period k s v p z e is =
 
 module _ (s : List ℕ) (k : ℕ) (found : Class) (passed : Passed (oneReading s k)) (is : found ≡ classOf s) where
   pub start-off : isLoose found ≡ true → Given (walkStart s k (prenecklace s)) OffWalk
-  start-off h = (passed .0, λ t. clash (prenecklace s) t (loose-class s (rw is at h)))
+  start-off h = offWalk refl (passed .0) (λ t. clash (prenecklace s) t (loose-class s (rw is at h)))
 
   pub start-on : isLoose found ≡ false → Passed (walkStart s k (prenecklace s))
   start-on h = (passed .0, tight-class s (rw is at h))

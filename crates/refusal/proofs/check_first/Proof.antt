@@ -5,6 +5,7 @@ use native.Mathlib.Omega.{arith}
 use borrow.Author.Needs.{needs}
 use borrow.Author.Tests.{not-true, not-false}
 use Rattle.refusal.proofs.More.{more-sectors, more-room, more-counts, numbers-good}
+use Rattle.refusal.specs.Order.Given.{counts}
 use Rattle.refusal.specs.Calls.{countedFirst}
 use Rattle.refusal.proofs.check_first.Statement.{statement}
 use Rattle.refusal.proofs.check_first.Tie as tie
@@ -25,7 +26,7 @@ returns : tie.Need-returns
 returns c =
     let a = c .before .before .before .before .before .before .args in
     let g = numbers-good (countedFirst (a .n) (a .k) (a .counts .now)) (a .n) (λ q. tt) (rw (c .before .before .enum-told .given .1) at (c .before .before .before .before .check-numbers .ensures)) in
-    (((g, λ i h. absurd (omega arith)), tt), rw (not-true (c .before .counts-fit .result) (c .if1 .taken)) at (c .before .counts-fit .ensures))
+    counts refl ((g, λ i h. absurd (omega arith)), tt) (rw (not-true (c .before .counts-fit .result) (c .if1 .taken)) at (c .before .counts-fit .ensures))
 
 returns-2 : tie.Need-returns-2
 returns-2 c =

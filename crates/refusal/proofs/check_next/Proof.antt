@@ -4,6 +4,7 @@ use mathlib.Core.Path.{refl}
 use borrow.Author.Needs.{needs}
 use borrow.Author.Tests.{not-true, not-false}
 use Rattle.refusal.proofs.More.{more-counts}
+use Rattle.refusal.specs.Order.Given.{counts}
 use Rattle.refusal.specs.Calls.{countedNext}
 use Rattle.refusal.proofs.check_next.Statement.{statement}
 use Rattle.refusal.proofs.check_next.Tie as tie
@@ -23,7 +24,7 @@ counts-fit-requires c κs = search needs
 returns : tie.Need-returns
 returns c =
     let g = (rw (c .before .before .enum-told .given .1) at (c .before .before .before .before .check-room .ensures)) in
-    (g .0 .0, rw (not-true (c .before .counts-fit .result) (c .if1 .taken)) at (c .before .counts-fit .ensures))
+    counts refl (g .0 .0) (rw (not-true (c .before .counts-fit .result) (c .if1 .taken)) at (c .before .counts-fit .ensures))
 
 returns-2 : tie.Need-returns-2
 returns-2 c =

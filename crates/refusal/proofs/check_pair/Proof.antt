@@ -6,6 +6,7 @@ use lib.ListN.{length}
 use borrow.Author.Needs.{needs}
 use Rattle.refusal.proofs.Sectors.{former-bad, former-good, latter-bad, latter-good}
 use Rattle.refusal.proofs.More.{more-sectors, numbers-good}
+use Rattle.refusal.specs.Order.Given.{sector}
 use Rattle.refusal.specs.Calls.{twoReadings}
 use Rattle.refusal.proofs.check_pair.Statement.{statement}
 use Rattle.refusal.proofs.check_pair.Tie as tie
@@ -26,7 +27,7 @@ returns : tie.Need-returns
 returns c =
     let a = c .before .before .before .before .before .before .before .args in
     let g = numbers-good (twoReadings (a .a .now) (a .b .now) (a .k)) (length (a .b .now)) (λ q. q) (rw (c .before .before .enum-told .given .1) at (c .before .before .before .before .check-numbers .ensures)) in
-    (g, former-bad (a .a .now) (a .b .now) (a .k) _ (c .before .first-bad .ensures) (c .if1 .taken))
+    sector _ refl g (former-bad (a .a .now) (a .b .now) (a .k) _ (c .before .first-bad .ensures) (c .if1 .taken))
 
 first-bad-requires-2 : tie.Need-first-bad-requires-2
 first-bad-requires-2 c κs = search needs
@@ -39,7 +40,7 @@ returns-2 c =
     let a = c .before .before .before .before .before .before .before .before .before .args in
     let g = numbers-good (twoReadings (a .a .now) (a .b .now) (a .k)) (length (a .b .now)) (λ q. q) (rw (c .before .before .before .before .enum-told .given .1) at (c .before .before .before .before .before .before .check-numbers .ensures)) in
     let low = former-good (a .a .now) (a .b .now) (a .k) _ (c .before .before .before .first-bad .ensures) (c .before .before .if1 .left) in
-    (g, latter-bad (a .a .now) (a .b .now) (a .k) low _ (c .before .first-bad2 .ensures) (let e = g .0 .1 in omega arith))
+    sector _ refl g (latter-bad (a .a .now) (a .b .now) (a .k) low _ (c .before .first-bad2 .ensures) (let e = g .0 .1 in omega arith))
 
 returns-3 : tie.Need-returns-3
 returns-3 c =

@@ -5,6 +5,7 @@ use lib.ListN.{length}
 use borrow.Author.Needs.{needs}
 use Rattle.refusal.proofs.Sectors.{reading-bad, reading-good}
 use Rattle.refusal.proofs.More.{more-sectors, numbers-good}
+use Rattle.refusal.specs.Order.Given.{sector}
 use Rattle.refusal.specs.Calls.{oneReading}
 use Rattle.refusal.proofs.check_reading.Statement.{statement}
 use Rattle.refusal.proofs.check_reading.Tie as tie
@@ -25,7 +26,7 @@ returns : tie.Need-returns
 returns c =
     let a = c .before .before .before .before .before .before .args in
     let g = numbers-good (oneReading (a .s .now) (a .k)) (length (a .s .now)) (λ q. tt) (rw (c .before .before .enum-told .given .1) at (c .before .before .before .before .check-numbers .ensures)) in
-    (g, reading-bad _ _ _ (c .before .first-bad .ensures) (c .if1 .taken))
+    sector _ refl g (reading-bad _ _ _ (c .before .first-bad .ensures) (c .if1 .taken))
 
 returns-2 : tie.Need-returns-2
 returns-2 c =

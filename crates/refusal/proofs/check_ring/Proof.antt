@@ -9,6 +9,7 @@ use mathlib.Core.Bool.{true}
 use lib.Seq.{take-all}
 use Rattle.refusal.proofs.Sectors.{head-bad, head-good, tail-bad, tail-good}
 use Rattle.refusal.proofs.More.{more-sectors, numbers-good}
+use Rattle.refusal.specs.Order.Given.{sector}
 use Rattle.refusal.specs.Calls.{walkRecord}
 use Rattle.refusal.proofs.check_ring.Statement.{statement}
 use Rattle.refusal.proofs.check_ring.Tie as tie
@@ -47,7 +48,7 @@ returns c =
     let l : length (a .t3) ≡ 64 = search needs in
     let g = numbers-good (walkRecord (a .n) (a .k) (a .t3) true) (a .n) (λ q. tt) (rw (c .before .before .before .enum-told .given .1) at (c .before .before .before .before .before .check-numbers .ensures)) in
     let h = g .0 .0 .1 in
-    (g, head-bad (a .n) (a .k) (a .t3) true (omega arith) _ (c .before .first-bad .ensures) (c .if1 .taken))
+    sector _ refl g (head-bad (a .n) (a .k) (a .t3) true (omega arith) _ (c .before .first-bad .ensures) (c .if1 .taken))
 
 sub-first-bad : tie.Need-sub-first-bad
 sub-first-bad c =
@@ -95,7 +96,7 @@ returns-2 c =
     let h = g .0 .0 .1 in
     let low = head-good (a .n) (a .k) (a .t3) true (omega arith) _ (c .before .before .before .before .before .first-bad .ensures) (c .before .before .before .before .if1 .left) in
     let q = take-all (64 - a .n) (drop (a .n) (a .t3)) (simp length-drop (omega arith)) in
-    (g, tail-bad (a .n) (a .k) (a .t3) true (omega arith) low _ (rw q at (c .before .first-bad2 .ensures)) (omega arith))
+    sector _ refl g (tail-bad (a .n) (a .k) (a .t3) true (omega arith) low _ (rw q at (c .before .first-bad2 .ensures)) (omega arith))
 
 returns-3 : tie.Need-returns-3
 returns-3 c =

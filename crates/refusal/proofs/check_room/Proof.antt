@@ -2,6 +2,7 @@
 -- Assumes nothing.
 use mathlib.Core.Path.{refl}
 use borrow.Author.Needs.{needs}
+use Rattle.refusal.specs.Order.Given.{room}
 use Rattle.refusal.specs.Calls.{withRoom}
 use Rattle.refusal.proofs.More.{more-room}
 use Rattle.refusal.proofs.check_room.Statement.{statement}
@@ -17,7 +18,7 @@ enum-told : tie.Need-enum-told
 enum-told c = search needs
 
 returns : tie.Need-returns
-returns c = let g = rw (c .before .enum-told .given .1) at (c .before .before .before .check-reading .ensures) in (g .0 .0 .0, c .if1 .taken)
+returns c = let g = rw (c .before .enum-told .given .1) at (c .before .before .before .check-reading .ensures) in room refl (g .0 .0 .0) (c .if1 .taken)
 
 returns-2 : tie.Need-returns-2
 returns-2 c =
