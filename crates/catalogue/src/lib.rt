@@ -1,28 +1,9 @@
-// Reading the records of a catalogue (01, 'Catalogue records').
+// Reading the records of a catalogue (01, 'Catalogue records'). A record and what is promised of reading it stand in `catalogue_record`.
 
-mod front;
-mod record;
-
+pub use catalogue_record::Entry;
+pub use catalogue_record::Kind;
 use refusal::Refusal;
-ghost use Rattle.catalogue.specs.Says.{ReadSays};
-
-// The mark's kind: from which side the stored ring is seen.
-pub enum Kind {
-    Front,
-    Back,
-}
-
-// What reading a record answers; the front ring itself is written to the output.
-pub enum Entry {
-    Record {
-        n: usize,
-        k: usize,
-        kind: Kind,
-        next: usize,
-    },
-    End,
-    Refused(Refusal),
-}
+ghost use Rattle.catalogue_record.specs.Says.{ReadSays};
 
 // Reads the record at `start` and writes its front ring, or answers End, or refusal 4, 7, 8, 1, 2, 7, 3 or 9, in this order.
 pub fn read_record(catalogue: &[u8], start: usize, out: &mut [u8]) -> Entry
@@ -38,5 +19,5 @@ pub fn read_record(catalogue: &[u8], start: usize, out: &mut [u8]) -> Entry
     if start == end {
         return Entry::End;
     }
-    record::read_head(&catalogue[start..], start, out)
+    record_inner::read_head(&catalogue[start..], start, out)
 }

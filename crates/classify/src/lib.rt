@@ -20,7 +20,7 @@ pub enum Classified {
 pub fn classify(s: &[u8], k: usize) -> Classified
     ensures { λ r. ⌜ ClassifySays (now (s .entry)) k r ⌝ }
 {
-    match refusal::check_reading(s, k) {
+    match checks::check_reading(s, k) {
         Checked::Refused(r) => Classified::Refused(r),
         Checked::Good => Classified::Is(class_of(s)),
     }

@@ -33,7 +33,7 @@ pub enum Distance {
 pub fn bring_home(s: &[u8], k: usize, out: &mut [u8]) -> Homed
     ensures { λ r. ⌜ HomeSays (now (s .entry)) k (now (out .entry)) r (now (out .exit)) ⌝ }
 {
-    match refusal::check_room(s, k, out.len()) {
+    match checks::check_room(s, k, out.len()) {
         Checked::Refused(r) => Homed::Refused(r),
         Checked::Good => {
             let i = shift::least_shift(s);
@@ -51,7 +51,7 @@ pub fn bring_home(s: &[u8], k: usize, out: &mut [u8]) -> Homed
 pub fn same_ring(a: &[u8], b: &[u8], k: usize) -> Told
     ensures { λ r. ⌜ ToldSays (twoReadings (now (a .entry)) (now (b .entry)) k) (sameRing (now (a .entry)) (now (b .entry))) r ⌝ }
 {
-    match refusal::check_pair(a, b, k) {
+    match checks::check_pair(a, b, k) {
         Checked::Refused(r) => Told::Refused(r),
         Checked::Good => {
             let i = shift::least_shift(a);
@@ -68,7 +68,7 @@ pub fn same_ring(a: &[u8], b: &[u8], k: usize) -> Told
 pub fn even_handed(s: &[u8], k: usize) -> Told
     ensures { λ r. ⌜ ToldSays (oneReading (now (s .entry)) k) (evenHanded (now (s .entry))) r ⌝ }
 {
-    match refusal::check_reading(s, k) {
+    match checks::check_reading(s, k) {
         Checked::Refused(r) => Told::Refused(r),
         Checked::Good => {
             if handed::is_even_handed(s) {
@@ -83,7 +83,7 @@ pub fn even_handed(s: &[u8], k: usize) -> Told
 pub fn apart(a: &[u8], b: &[u8], k: usize) -> Distance
     ensures { λ r. ⌜ DistanceSays (now (a .entry)) (now (b .entry)) k r ⌝ }
 {
-    match refusal::check_pair(a, b, k) {
+    match checks::check_pair(a, b, k) {
         Checked::Refused(r) => Distance::Refused(r),
         Checked::Good => {
             let i = shift::least_shift(a);

@@ -20,9 +20,9 @@ use Rattle.refusal.specs.declared.Checked.the-variants as C
 use Rattle.refusal.specs.Calls.{walkStart}
 use Rattle.refusal.proofs.Unique.{never-both}
 use Rattle.rings.specs.Prenecklace.{prenecklace}
-use Rattle.walk.specs.declared.Walk.{Walk}
-use Rattle.walk.specs.Record.{ringOf, walkOf}
-use Rattle.walk.specs.Says.{StartSays}
+use Rattle.walk_record.specs.declared.Walk.{Walk}
+use Rattle.walk_record.specs.Record.{ringOf, walkOf}
+use Rattle.walk_record.specs.Says.{StartSays}
 use Rattle.text.specs.Decimal.{decimal}
 use Rattle.text.specs.Text.{firstLine, ringLine, lastLine}
 use Rattle.text.specs.Put.{PutSays, Placed}

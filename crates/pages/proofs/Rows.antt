@@ -35,11 +35,11 @@ use Rattle.moves.specs.Going.{Ready}
 use Rattle.moves.proofs.Standing.{class-at}
 use types.Run.{OneOf}
 use denote.Enum.Declared.{tagOf}
-use Rattle.walk.proofs.Outcome.{the-type}
-use Rattle.walk.specs.declared.Outcome.{Outcome}
-use Rattle.walk.specs.declared.Outcome.the-variants.{Moved, Done, Refused}
-use Rattle.walk.specs.Record.{ringOf, laidOut}
-use Rattle.walk.specs.Says.{WentSays}
+use Rattle.walk_record.proofs.Outcome.{the-type}
+use Rattle.walk_record.specs.declared.Outcome.{Outcome}
+use Rattle.walk_record.specs.declared.Outcome.the-variants.{Moved, Done, Refused}
+use Rattle.walk_record.specs.Record.{ringOf, laidOut}
+use Rattle.walk_record.specs.Says.{WentSays}
 use Rattle.text.specs.Text.{ringLine}
 use Rattle.text.specs.Put.{PutSays, Placed}
 use Rattle.text.proofs.Digits.{length-decimal}

@@ -24,8 +24,8 @@ use Rattle.necklaces.proofs.Classes.{classed}
 use Rattle.necklaces.proofs.FullWalk.{length-zeros, zeros-at, zeros-prenecklace}
 use Rattle.refusal.specs.Order.{Passed}
 use Rattle.refusal.specs.Calls.{walkStart}
-use Rattle.walk.specs.Record.{ringOf, walkOf}
-use Rattle.walk.proofs.Good.{ring-of}
+use Rattle.walk_record.specs.Record.{ringOf, walkOf}
+use Rattle.walk_record.proofs.Good.{ring-of}
 use Rattle.text.specs.Text.{ringLine}
 use Rattle.pages.specs.Listing.{zeroRing}
 use Rattle.pages.specs.State.{Listable, most, stateAt, Stands}

@@ -16,8 +16,8 @@ use Rattle.rings.specs.Necklace.{necklace}
 use Rattle.rings.specs.Prenecklace.{prenecklace}
 use Rattle.rings.specs.Steps.{nextOf, moves, howMany, FullWalk, done, step}
 use Rattle.necklaces.proofs.FullWalk.{next-facts, length-zeros, zeros-reading, walk-sum, walk-moves, walk-exists}
-use Rattle.walk.specs.Record.{ringOf}
-use Rattle.walk.proofs.Good.{ring-of}
+use Rattle.walk_record.specs.Record.{ringOf}
+use Rattle.walk_record.proofs.Good.{ring-of}
 use Rattle.text.specs.Text.{lastLine}
 use Rattle.text.specs.Put.{Placed}
 use Rattle.pages.specs.declared.State.{State}

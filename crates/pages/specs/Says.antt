@@ -15,7 +15,7 @@ use Rattle.rings.specs.declared.Class.{Class}
 use Rattle.rings.specs.declared.Class.the-variants.{Loose, Opening, Repeating, Single}
 use Rattle.rings.specs.Necklace.{necklace}
 use Rattle.rings.specs.Steps.{nextOf}
-use Rattle.walk.specs.Record.{ringOf}
+use Rattle.walk_record.specs.Record.{ringOf}
 use Rattle.text.specs.Text.{lastLine}
 use Rattle.text.specs.Put.{Placed}
 use Rattle.pages.specs.declared.State.{State}

@@ -14,7 +14,7 @@ use Rattle.words.specs.Order.{upTo}
 use Rattle.words.specs.Readings.{Sized, Shaded, Reading, readings, count}
 use Rattle.rings.specs.Necklace.{necklace}
 use Rattle.rings.specs.Steps.{moves}
-use Rattle.walk.specs.Record.{ringOf, walkOf}
+use Rattle.walk_record.specs.Record.{ringOf, walkOf}
 use Rattle.pages.specs.declared.State.{State}
 use Rattle.pages.specs.Listing.{zeroRing}
 

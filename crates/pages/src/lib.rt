@@ -7,7 +7,7 @@ use walk::Walk;
 ghost use mathlib.Core.Path.{_≡_};
 ghost use Prim.Native.Nat.{_≤_};
 ghost use lib.ListN.{length};
-ghost use Rattle.walk.specs.Record.{ringOf};
+ghost use Rattle.walk_record.specs.Record.{ringOf};
 ghost use Rattle.text.specs.Text.{ringLine};
 ghost use Rattle.text.specs.Put.{PutSays};
 ghost use Rattle.pages.specs.State.{Listable, most, Stands};

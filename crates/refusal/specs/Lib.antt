@@ -2,8 +2,6 @@
 --     Numbers    each refusal's number and place
 --     Order      what a call is asked, the one order of the checks, and when each refusal is given
 --     Calls      what each kind of call is asked
---     Scan       what the two scans over lent lists promise
 pub mod Numbers
 pub mod Order
 pub mod Calls
-pub mod Scan

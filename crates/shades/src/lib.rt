@@ -35,7 +35,7 @@ fn copy(out: &mut [u8], s: &[u8])
 pub fn first_ring(k: usize, counts: &[usize], out: &mut [u8]) -> FirstAnswer
     ensures { λ r. ⌜ FirstSays k (now (counts .entry)) (now (out .entry)) r (now (out .exit)) ⌝ }
 {
-    match refusal::check_first(out.len(), k, counts) {
+    match count_checks::check_first(out.len(), k, counts) {
         Checked::Refused(r) => FirstAnswer::Refused(r),
         Checked::Good => {
             completable::fill(out, counts);
@@ -48,7 +48,7 @@ pub fn first_ring(k: usize, counts: &[usize], out: &mut [u8]) -> FirstAnswer
 pub fn next_ring(s: &[u8], k: usize, counts: &[usize], out: &mut [u8]) -> NextAnswer
     ensures { λ r. ⌜ NextSays (now (s .entry)) k (now (counts .entry)) (now (out .entry)) r (now (out .exit)) ⌝ }
 {
-    match refusal::check_next(s, k, out.len(), counts) {
+    match count_checks::check_next(s, k, out.len(), counts) {
         Checked::Refused(r) => NextAnswer::Refused(r),
         Checked::Good => {
             let n = s.len();

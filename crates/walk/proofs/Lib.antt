@@ -1,5 +1,1 @@
--- The laws that the code rests on (Laying, Good), what the contracts determine (Unique), and demand 3 through them (Sums).
-pub mod Laying
-pub mod Good
-pub mod Unique
-pub mod Sums
+-- The laws stand in `walk_record`.

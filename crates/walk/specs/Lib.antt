@@ -1,3 +1,1 @@
--- Walks (01, 'Walks'): the record (Record), and what a start and a step promise (Says).
-pub mod Record
-pub mod Says
+-- The calls promise what `walk_record` says; nothing is defined here.

@@ -2,8 +2,8 @@
 -- Assumes nothing.
 use mathlib.Core.Path.{refl}
 use borrow.Author.Needs.{needs}
-use Rattle.catalogue.specs.Order.RefusedAt.{room, past}
-use Rattle.catalogue.proofs.Heads.{record-read}
+use Rattle.catalogue_record.specs.Order.RefusedAt.{room, past}
+use Rattle.catalogue.proofs.Starts.{record-read}
 use Rattle.catalogue.proofs.read_record.Statement.{statement}
 use Rattle.catalogue.proofs.read_record.Tie as tie
 

@@ -1,0 +1,60 @@
+-- The sectors of a record, whose numbers are good: what the contracts of classifying and of the checks give the reader.
+--     only-sector, bad-sector       a refusal can only be a bad sector
+--     necklace-class, not-home      by its class a reading is a necklace or not
+--     passed-room                   with an output as long as the reading, the checks of bringing home pass
+-- Assumes nothing.
+use Prim.Native.Nat.{ℕ, _+_}
+use mathlib.Core.Path.{_≡_, refl, sym}
+use mathlib.Core.Bool.{false}
+use mathlib.Core.List.{List}
+use lib.ListN.{length}
+use Rattle.words.specs.Readings.{Sized, Shaded}
+use Rattle.words.proofs.Split.{refuted, clash}
+use Rattle.rings.specs.declared.Class.{Class}
+use Rattle.rings.specs.declared.Class.the-variants.{Loose, Opening, Repeating, Single}
+use Rattle.rings.specs.Necklace.{necklace}
+use Rattle.rings.specs.Prenecklace.{prenecklace}
+use Rattle.rings.specs.Class.{Classed, classOf}
+use Rattle.necklaces.proofs.Classes.{classed, lyndon-necklace}
+use Rattle.necklaces.proofs.Words.{necklace-prenecklace}
+use Rattle.refusal.specs.declared.Refusal.{Refusal}
+use Rattle.refusal.specs.declared.Refusal.the-variants.{Sector, NotHome}
+use Rattle.refusal.specs.Numbers.{placeOf}
+use Rattle.refusal.specs.Order.{Given, Passed, FirstBad}
+use Rattle.refusal.specs.Order.Given.{size, pair, shades, sector as badAt, room, counts, offWalk}
+use Rattle.refusal.specs.Calls.{oneReading, withRoom}
+use Rattle.catalogue_record.specs.Layout.{isNecklace}
+use Rattle.catalogue_record.specs.Order.{Unfit}
+use Rattle.catalogue_record.specs.Order.Unfit.{sector, notHome}
+
+-- a reading whose numbers are good can only be refused for a sector
+pub only-sector : (w : List ℕ) (k : ℕ) → Sized (length w) → Shaded k → (r : Refusal) → Given (oneReading w k) r → FirstBad w (λ j. k) (placeOf r)
+only-sector w k z h r (size e f) = absurd (f z)
+only-sector w k z h r (pair e l f) = absurd (f tt)
+only-sector w k z h r (shades e l f) = absurd (f h)
+only-sector w k z h r (badAt p e l f) = rw e f
+only-sector w k z h r (room e l f) = absurd (f tt)
+only-sector w k z h r (counts e l f) = absurd (f tt)
+only-sector w k z h r (offWalk e l f) = absurd (f refl)
+
+-- and then the record is, at that sector's place in the catalogue
+pub bad-sector : (w : List ℕ) (k s : ℕ) → Sized (length w) → Shaded k → (r : Refusal) (p : ℕ) → p ≡ placeOf r → Given (oneReading w k) r → Unfit w k s (Sector (s + 4 + p))
+bad-sector w k s z h r p e g = sector p refl (rw e (only-sector w k z h r g))
+
+-- a reading is a necklace exactly where its class is a necklace's
+pub necklace-class : (w : List ℕ) (c : Class) → c ≡ classOf w → isNecklace c ≡ necklace w
+necklace-class w c e = rw e (by-class (classOf w) (classed w))
+  where
+    by-class : (x : Class) → Classed w x → isNecklace x ≡ necklace w
+    by-class Loose d = sym (refuted (necklace w) (λ h. clash (prenecklace w) (necklace-prenecklace w h) d))
+    by-class (Opening p) d = sym (d .1)
+    by-class (Repeating p) d = sym (d .0)
+    by-class Single d = sym (lyndon-necklace w d)
+
+-- sectors that are no necklace
+pub not-home : (w : List ℕ) (k s : ℕ) → Passed (oneReading w k) → necklace w ≡ false → Unfit w k s (NotHome (s + 4))
+not-home w k s g h = notHome refl (g .0 .0 .0 .1) h
+
+-- with an output as long as the reading, the checks of bringing home pass
+pub passed-room : (w : List ℕ) (k m : ℕ) → Passed (oneReading w k) → m ≡ length w → Passed (withRoom w k m)
+passed-room w k m g e = (((g .0 .0 .0, e), tt), refl)

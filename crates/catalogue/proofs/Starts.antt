@@ -1,0 +1,23 @@
+-- A start in the catalogue: what reading the record answers is what reading at the start does.
+--     record-read
+-- Assumes nothing.
+use Prim.Native.Nat.{ℕ, _-_, _<_}
+use mathlib.Core.Path.{_≡_}
+use mathlib.Core.List.{List}
+use native.Mathlib.Omega.{arith}
+use lib.ListN.{length, take, drop, length-drop}
+use lib.Seq.{take-all}
+use Rattle.catalogue_record.specs.declared.Entry.{Entry}
+use Rattle.catalogue_record.specs.declared.Entry.the-variants.{Record, End, Refused}
+use Rattle.catalogue_record.specs.Order.RefusedAt.{broken}
+use Rattle.catalogue_record.specs.Says.{ReadSays}
+use Rattle.catalogue_record.specs.Steps.{RecordSays}
+
+-- reading the record is reading at s; the part is handed on by its length
+pub record-read : (c : List ℕ) (s : ℕ) (b : List ℕ) (r : Entry) (d : List ℕ) → length b ≡ 64 → s < length c → RecordSays (take (length c - s) (drop s c)) s b r d → ReadSays c s b r d
+record-read c s b r d z l h = go r (let q = take-all (length c - s) (drop s c) (simp length-drop (omega arith)) in rw q at h)
+  where
+    go : (r : Entry) → RecordSays (drop s c) s b r d → ReadSays c s b r d
+    go (Record n k x next) g = (z, l, g)
+    go End g = absurd g
+    go (Refused o) g = (broken z l (g .0), g .1)

@@ -1,0 +1,73 @@
+-- Records to check by hand, of the definitions themselves: one table, one claim.
+--     answers c s m r    the catalogue c, read at s with an output of m bytes, answers r
+--     shows c s v        the record at s of c has the front ring v
+-- The rows are document 01's records, the ends of a catalogue, and one row for each pair of faults whose order a reader may mistake.
+-- Assumes nothing.
+use Prim.Native.Nat.{ℕ}
+use mathlib.Core.Path.{_≡_, refl}
+use mathlib.Core.List.{List, [], _∷_, _++_}
+use lib.ListN.{replicate, getD, drop}
+use Rattle.words.specs.Search.{least}
+use Rattle.rings.specs.Open.{open-all}
+use Rattle.refusal.specs.declared.Refusal.the-variants.{Length, Shades, Sector, Room, Cut, Mark, NotHome}
+use Rattle.refusal.proofs.Facts.{within, bad, firstBad, sized, shaded, below}
+use Rattle.refusal.proofs.Chain.{unless}
+use Rattle.catalogue_record.specs.declared.Kind.the-variants.{Front, Back}
+use Rattle.catalogue_record.specs.declared.Entry.{Entry}
+use Rattle.catalogue_record.specs.declared.Entry.the-variants.{Record, End, Refused}
+use Rattle.catalogue_record.specs.Layout.{sectorsOf, frontRing}
+use Rattle.catalogue_record.proofs.Chain.{known, kindOf, from9, from3, from7, from2, from1, from8, recordOf, orElse, refusedOr, recordEntry, startEntry, entryOf}
+
+pub data Case : Type 0 where
+  answers : List ℕ → ℕ → ℕ → Entry → Case
+  shows : List ℕ → ℕ → List ℕ → Case
+
+-- document 01's two records: 52 42 06 02 00 00 01 00 01 01, and the same with 52 46
+abbrev pub backRecord : List ℕ
+backRecord = 0x52 ∷ 0x42 ∷ 6 ∷ 2 ∷ 0 ∷ 0 ∷ 1 ∷ 0 ∷ 1 ∷ 1 ∷ []
+
+abbrev pub frontRecord : List ℕ
+frontRecord = 0x52 ∷ 0x46 ∷ 6 ∷ 2 ∷ 0 ∷ 0 ∷ 1 ∷ 0 ∷ 1 ∷ 1 ∷ []
+
+-- a front record of these numbers and sectors
+abbrev pub front : ℕ → ℕ → List ℕ → List ℕ
+front n k w = 0x52 ∷ 0x46 ∷ n ∷ k ∷ w
+
+unfoldable pub table : List Case
+table =
+    -- the two records, and the second after the first
+    answers backRecord 0 64 (Record 6 2 Back 10) ∷
+    shows backRecord 0 (0 ∷ 0 ∷ 1 ∷ 1 ∷ 0 ∷ 1 ∷ []) ∷
+    answers (backRecord ++ frontRecord) 10 64 (Record 6 2 Front 20) ∷
+    shows (backRecord ++ frontRecord) 10 (0 ∷ 0 ∷ 1 ∷ 0 ∷ 1 ∷ 1 ∷ []) ∷
+    -- a catalogue of no bytes answers End at 0 and Cut at 1; the greatest start does not wrap
+    answers [] 0 64 End ∷
+    answers [] 1 64 (Refused (Cut 1)) ∷
+    answers frontRecord 10 64 End ∷
+    answers frontRecord 18446744073709551615 64 (Refused (Cut 18446744073709551615)) ∷
+    -- n = 64 and k = 16 are accepted, 65 and 17 refused
+    answers (front 64 16 (replicate 64 15)) 0 64 (Record 64 16 Front 68) ∷
+    answers (front 65 16 (replicate 65 15)) 0 64 (Refused (Length 2)) ∷
+    answers (front 64 17 (replicate 64 15)) 0 64 (Refused (Shades 3)) ∷
+    -- Room is first, also before End and Cut
+    answers [] 0 63 (Refused Room) ∷
+    answers [] 1 65 (Refused Room) ∷
+    -- the head is cut, whatever its bytes; then the mark, whatever follows it; then n, k, the body
+    answers (0 ∷ 0 ∷ 0 ∷ []) 0 64 (Refused (Cut 0)) ∷
+    answers (0x46 ∷ 0x52 ∷ 0 ∷ 0 ∷ []) 0 64 (Refused (Mark 0)) ∷
+    answers (frontRecord ++ front 0 0 []) 10 64 (Refused (Length 12)) ∷
+    answers (frontRecord ++ front 4 1 (9 ∷ [])) 10 64 (Refused (Shades 13)) ∷
+    answers (frontRecord ++ front 4 2 (0 ∷ 9 ∷ 1 ∷ [])) 10 64 (Refused (Cut 10)) ∷
+    -- then the first bad sector, and last that the sectors are no necklace
+    answers (frontRecord ++ front 4 2 (1 ∷ 0 ∷ 2 ∷ 3 ∷ [])) 10 64 (Refused (Sector 16)) ∷
+    answers (frontRecord ++ front 4 2 (0 ∷ 1 ∷ 1 ∷ 0 ∷ [])) 10 64 (Refused (NotHome 14)) ∷ []
+
+-- every row holds
+unfoldable pub Hold : List Case → Type 0
+Hold [] = Unit
+Hold (answers c s m r ∷ rows) = (entryOf c s m ≡ r) × Hold rows
+Hold (shows c s v ∷ rows) = (frontRing (kindOf (getD (drop s c) 1 0)) (sectorsOf (drop s c)) ≡ v) × Hold rows
+
+pub records-read : Hold table
+unfolding table Hold open-all entryOf startEntry recordEntry orElse refusedOr recordOf from8 from1 from2 from7 from3 from9 known kindOf unless sized shaded below within firstBad bad least
+records-read = (refl, (refl, (refl, (refl, (refl, (refl, (refl, (refl, (refl, (refl, (refl, (refl, (refl, (refl, (refl, (refl, (refl, (refl, (refl, (refl, tt))))))))))))))))))))

@@ -1,0 +1,9 @@
+-- Catalogue records (01, 'Catalogue records'), read from top to bottom.
+--     Layout    how a record lies in a catalogue, its marks, and its front ring
+--     Order     the record reader's own order of checks, and when each refusal is given
+--     Says      what the reader promises
+--     Steps     what the parts of the reader promise each other; it serves the code alone
+pub mod Layout
+pub mod Order
+pub mod Says
+pub mod Steps

@@ -1,0 +1,2 @@
+-- The sectors of one reading and of two (Sectors).
+pub mod Sectors

@@ -1,0 +1,65 @@
+-- The sectors of one reading, and of two, settled by scans.
+--     reading-bad, reading-good        one reading
+--     former-bad, former-good          the first of two readings
+--     latter-bad, latter-good          the second of two readings
+-- Assumes nothing.
+use Prim.Native.Nat.{ℕ, _+_, _<_, _≤_}
+use mathlib.Core.Path.{_≡_, refl, sym, _∙_}
+use mathlib.Core.List.{List, _++_}
+use native.Mathlib.Omega.{arith}
+use lib.ListN.{length, getD, length-append, List·getD-append}
+use lib.Seq.{getD-append-add}
+use Rattle.words.proofs.Sequence.{sec, place}
+use Rattle.refusal.specs.Order.{Below}
+use Rattle.refusal.specs.Calls.{oneReading, twoReadings}
+use Rattle.checks_inner.specs.Scan.{Scanned}
+use Rattle.checks_inner.proofs.Parts.{BelowTo, Bad, Part, part-bad, part-good, nothing}
+
+-- ---- one reading
+
+module _ (w : List ℕ) (k r : ℕ) (s : Scanned w k r) where
+  whole : Part (oneReading w k) 0 k w
+  whole = record { fits = omega arith; same = λ i j e h. place (sec w) i j (omega arith); limits = λ i j e h. refl }
+
+  pub reading-bad : r < length w → Bad (oneReading w k) r
+  reading-bad h = part-bad (oneReading w k) 0 k w whole (nothing (oneReading w k)) r s r (omega arith) h
+
+  pub reading-good : length w ≤ r → Below (oneReading w k)
+  reading-good h = part-good (oneReading w k) 0 k w whole (nothing (oneReading w k)) r s h (length w) (omega arith)
+
+-- ---- two readings
+
+module _ (v w : List ℕ) (k : ℕ) where
+  former : Part (twoReadings v w k) 0 k v
+  former =
+      record {
+        fits = simp length-append (omega arith);
+        same = λ i j e h. place (sec (v ++ w)) i j (omega arith) ∙ List·getD-append v w 0 j h;
+        limits = λ i j e h. refl;
+      }
+
+  latter : Part (twoReadings v w k) (length v) k w
+  latter =
+      record {
+        fits = simp length-append (omega arith);
+        same = λ i j e h. place (sec (v ++ w)) i (length v + j) (sym e) ∙ getD-append-add v w j 0;
+        limits = λ i j e h. refl;
+      }
+
+  -- the first reading
+  module _ (r : ℕ) (s : Scanned v k r) where
+    pub former-bad : r < length v → Bad (twoReadings v w k) r
+    former-bad h = part-bad (twoReadings v w k) 0 k v former (nothing (twoReadings v w k)) r s r (omega arith) h
+
+    pub former-good : length v ≤ r → BelowTo (twoReadings v w k) (length v)
+    former-good h =
+        part-good (twoReadings v w k) 0 k v former (nothing (twoReadings v w k)) r s h (length v) (omega arith)
+
+  -- the second, after it
+  module _ (low : BelowTo (twoReadings v w k) (length v)) (r : ℕ) (s : Scanned w k r) where
+    pub latter-bad : r < length w → Bad (twoReadings v w k) (length v + r)
+    latter-bad h = part-bad (twoReadings v w k) (length v) k w latter low r s (length v + r) refl h
+
+    pub latter-good : length w ≤ r → Below (twoReadings v w k)
+    latter-good h =
+        part-good (twoReadings v w k) (length v) k w latter low r s h (length (v ++ w)) (simp length-append (omega arith))

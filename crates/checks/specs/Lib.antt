@@ -1,0 +1,1 @@
+-- The checks promise what `refusal` says of the calls (Order, Calls); nothing is defined here.

@@ -1,0 +1,2 @@
+-- Sectors looked at part after part (Parts).
+pub mod Parts

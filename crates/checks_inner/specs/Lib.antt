@@ -1,0 +1,2 @@
+-- What the scans promise (Scan).
+pub mod Scan

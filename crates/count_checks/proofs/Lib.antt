@@ -1,0 +1,2 @@
+-- An exact sum counted down (Sum).
+pub mod Sum

@@ -1,0 +1,2 @@
+-- What the test of the counts promises (Told).
+pub mod Told

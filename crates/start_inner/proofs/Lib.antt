@@ -1,0 +1,2 @@
+-- A reading laid out with 0 behind it (Laying).
+pub mod Laying

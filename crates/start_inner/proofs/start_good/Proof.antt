@@ -1,0 +1,35 @@
+-- `start_inner::start_good` meets its contract. Assumes nothing.
+use mathlib.Core.Path.{_∙_, sym}
+use borrow.Author.Needs.{needs}
+use Rattle.walk_record.proofs.Good.{start-off, start-on, start-is}
+use Rattle.start_inner.proofs.start_good.Statement.{statement}
+use Rattle.start_inner.proofs.start_good.Tie as tie
+
+class-of-requires : tie.Need-class-of-requires
+class-of-requires c κs = search needs
+
+is-loose-requires : tie.Need-is-loose-requires
+is-loose-requires c κs = search needs
+
+empty-requires : tie.Need-empty-requires
+empty-requires c κs = search needs
+
+returns : tie.Need-returns
+returns c = (start-off (c .before .before .before .before .before .args .s .now) (c .before .before .before .before .before .args .k) (c .before .before .before .class-of .result) (c .before .before .before .before .before .pre) (c .before .before .before .class-of .ensures) (sym (c .before .before .is-loose .ensures) ∙ c .before .if1 .taken), c .empty .ensures)
+
+lay-out-requires : tie.Need-lay-out-requires
+lay-out-requires c κs = c .before .before .before .before .pre .0 .0 .0 .0 .0 .0 .1
+
+returns-2 : tie.Need-returns-2
+returns-2 c = (start-on (c .before .before .before .before .before .args .s .now) (c .before .before .before .before .before .args .k) (c .before .before .before .class-of .result) (c .before .before .before .before .before .pre) (c .before .before .before .class-of .ensures) (sym (c .before .before .is-loose .ensures) ∙ c .before .if1 .left), start-is (c .before .before .before .before .before .args .s .now) (c .before .before .before .before .before .args .k) (c .before .before .before .class-of .result) (c .before .before .before .before .before .pre) (c .before .before .before .class-of .ensures) (c .lay-out .result) (c .lay-out .ensures))
+
+pub start-good-spec : {M : Type 1} → statement M
+start-good-spec =
+    tie.close
+    (tie.spec
+    class-of-requires
+    is-loose-requires
+    empty-requires
+    returns
+    lay-out-requires
+    returns-2)

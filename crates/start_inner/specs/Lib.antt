@@ -1,0 +1,1 @@
+-- A start promises what `walk_record` says; nothing is defined here.

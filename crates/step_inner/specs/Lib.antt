@@ -1,0 +1,1 @@
+-- A step promises what `walk_record` says; nothing is defined here.

@@ -1,0 +1,58 @@
+// A step from a ring that is known to be good, into a new record or in the ring's own place. No public calls.
+
+use moves::Kind;
+use walk_record::Outcome;
+use walk_record::Stepped;
+use walk_record::Walk;
+use walk_record::Went;
+ghost use Rattle.refusal.specs.Order.{Passed};
+ghost use Rattle.moves.specs.Kinds.{kindOf};
+ghost use Rattle.moves.specs.Going.{Ready};
+ghost use Rattle.walk_record.specs.Record.{walkAsked};
+ghost use Rattle.walk_record.specs.Says.{StepSays, WentSays};
+
+// A step from a record that passed its checks.
+pub fn step_good(w: Walk, kind: Kind) -> Stepped
+    requires { ⌜ Passed (walkAsked w) ⌝ }
+    ensures { λ r. ⌜ StepSays (kindOf kind) w (r .walk) (r .outcome) ⌝ }
+{
+    let n = w.n;
+    let ring = w.ring;
+    let mut next = ring;
+    let r = moves::advance(&mut next[..n], w.k, kind);
+    if r.lyn == 0 {
+        return Stepped {
+            walk: w,
+            outcome: Outcome::Done(r.moves),
+        };
+    }
+    let class = moves::class_at(n, r.lyn);
+    Stepped {
+        walk: Walk {
+            n: n,
+            k: w.k,
+            ring: next,
+            class: class,
+        },
+        outcome: Outcome::Moved(r.moves),
+    }
+}
+
+// That step, from a ring that is known to be a prenecklace. No public call: it is here for a caller that goes from ring to ring and keeps nothing but the
+// last, as the listing does.
+pub fn go_on(ring: &mut [u8], k: usize) -> Went
+    requires { ⌜ Ready k (now ring) ⌝ }
+    ensures { λ r. ⌜ WentSays k (now (ring .entry)) (now (ring .exit)) (r .outcome) (r .period) ⌝ }
+{
+    let reached = moves::advance(ring, k, Kind::Necklace);
+    if reached.lyn == 0 {
+        return Went {
+            outcome: Outcome::Done(reached.moves),
+            period: 0,
+        };
+    }
+    Went {
+        outcome: Outcome::Moved(reached.moves),
+        period: reached.lyn,
+    }
+}

@@ -1,0 +1,2 @@
+-- The sectors of a walk's ring (Sectors).
+pub mod Sectors

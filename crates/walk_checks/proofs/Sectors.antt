@@ -1,0 +1,57 @@
+-- The sectors of a walk's ring, settled by two scans.
+--     head-bad, head-good      the first n sectors
+--     tail-bad, tail-good      those past n
+-- Assumes nothing.
+use Prim.Native.Nat.{ℕ, _+_, _-_, _<_, _≤_}
+use mathlib.Core.Path.{_≡_, refl, sym, _∙_}
+use mathlib.Core.Bool.{Bool}
+use mathlib.Core.List.{List}
+use native.Mathlib.Omega.{arith}
+use lib.ListN.{length, getD, take, drop, length-take, length-drop}
+use lib.Seq.{getD-take, getD-drop}
+use borrow.Author.Tests.{lt-ltb, le-ltb}
+use Rattle.words.proofs.Sequence.{sec, place}
+use Rattle.refusal.specs.Order.{Below}
+use Rattle.refusal.specs.Calls.{walkRecord, ringLimit}
+use Rattle.checks_inner.specs.Scan.{Scanned}
+use Rattle.checks_inner.proofs.Parts.{BelowTo, Bad, Part, part-bad, part-good, nothing}
+
+module _ (n k : ℕ) (ring : List ℕ) (b : Bool) (fits : n ≤ length ring) where
+  head : Part (walkRecord n k ring b) 0 k (take n ring)
+  head =
+      record {
+        fits = simp length-take (omega arith);
+        same = λ i j e h. place (sec ring) i j (omega arith) ∙ sym (getD-take n ring j 0 (omega (arith, simp length-take at h)));
+        limits = λ i j e h. rw (lt-ltb i n (omega (arith, simp length-take at h)), ringLimit);
+      }
+
+  tail : Part (walkRecord n k ring b) n 1 (drop n ring)
+  tail =
+      record {
+        fits = simp length-drop (omega arith);
+        same = λ i j e h. place (sec ring) i (n + j) (sym e) ∙ sym (getD-drop n ring j 0);
+        limits = λ i j e h. rw (le-ltb i n (omega arith), ringLimit);
+      }
+
+  -- the sectors up to n
+  module _ (r : ℕ) (s : Scanned (take n ring) k r) where
+    pub head-bad : r < n → Bad (walkRecord n k ring b) r
+    head-bad h =
+        part-bad (walkRecord n k ring b) 0 k (take n ring) head (nothing (walkRecord n k ring b)) r s r (omega arith)
+        (simp length-take (omega arith))
+
+    pub head-good : n ≤ r → BelowTo (walkRecord n k ring b) n
+    head-good h =
+        part-good (walkRecord n k ring b) 0 k (take n ring) head (nothing (walkRecord n k ring b)) r s
+        (simp length-take (omega arith)) n (simp length-take (omega arith))
+
+  -- those past n
+  module _ (low : BelowTo (walkRecord n k ring b) n) (r : ℕ) (s : Scanned (drop n ring) 1 r) where
+    pub tail-bad : r < length ring - n → Bad (walkRecord n k ring b) (n + r)
+    tail-bad h =
+        part-bad (walkRecord n k ring b) n 1 (drop n ring) tail low r s (n + r) refl (simp length-drop (omega arith))
+
+    pub tail-good : length ring - n ≤ r → Below (walkRecord n k ring b)
+    tail-good h =
+        part-good (walkRecord n k ring b) n 1 (drop n ring) tail low r s (simp length-drop (omega arith)) (length ring)
+        (simp length-drop (omega arith))

@@ -1,0 +1,1 @@
+-- The checks promise what `refusal` and `walk_record` say; nothing is defined here.

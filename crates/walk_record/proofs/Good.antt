@@ -1,0 +1,233 @@
+-- A record that passed its checks is the record of its ring; and what the code's tests of a class say.
+--     one-class, same-class      two classes with equal case and number are one
+--     loose-class                a reading is Loose exactly where it is no prenecklace
+--     off-loose, off-tag, off-value, on-class    the answers of `on_walk`
+--     good-ready, good-tail, good-is             what the checks of a record show
+--     start-off, start-on, start-is              what a start tests, and the record that it makes
+--     ring-of, walk-good                         the record of a ring passes its checks
+--     moved-is                   the record that a step makes is the record of its ring
+--     went-period                the lyn of the necklace that a step came to is its period
+-- Assumes nothing.
+use Prim.Native.Nat.{ℕ, _+_, _-_, _<_, _≤_}
+use mathlib.Core.Path.{_≡_, refl, sym, ap, _∙_}
+use mathlib.Core.Bool.{Bool, true, false}
+use mathlib.Core.Option.{some}
+use mathlib.Core.List.{List, _++_}
+use native.Mathlib.Omega.{arith}
+use lib.ListN.{length, getD, take, drop, replicate, List·getD-append, length-drop, length-replicate, getD-replicate}
+use lib.Seq.{take-append-seam, getD-append-add, ext-getD, getD-take, getD-drop, length-take-le}
+use lib.Dec.{eqb}
+use borrow.Author.Tests.{eq-eqb, ne-eqb, eqb-true, lt-ltb, le-ltb}
+use Rattle.words.specs.Readings.{Sized, Shaded, Reading}
+use Rattle.words.proofs.Split.{lt, eq, gt, tri, both, both-left, both-right, not-left, not-right, clash}
+use Rattle.rings.specs.declared.Class.{Class}
+use Rattle.rings.specs.declared.Class.the-variants.{Loose, Opening, Repeating, Single}
+use Rattle.rings.specs.Necklace.{necklace, period}
+use Rattle.rings.specs.Prenecklace.{prenecklace, lyn}
+use Rattle.rings.specs.Class.{Classed, classOf}
+use Rattle.rings.specs.Steps.{nextOf}
+use Rattle.necklaces.proofs.Lyndon.{lyn-run}
+use Rattle.necklaces.proofs.Classes.{classed, lyndon-necklace, period-lyn}
+use Rattle.necklaces.proofs.Words.{necklace-prenecklace}
+use Rattle.necklaces.proofs.FullWalk.{next-facts, zeros, zeros-at}
+use Rattle.refusal.specs.declared.Refusal.the-variants.{OffWalk}
+use Rattle.refusal.specs.Order.{Passed, Given}
+use Rattle.refusal.specs.Order.Given.{offWalk}
+use Rattle.refusal.specs.Calls.{ringLimit, walkRecord, walkStart, oneReading}
+use Rattle.walk_record.specs.declared.Walk.{Walk}
+use Rattle.moves.specs.declared.Kind as K
+use Rattle.moves.specs.Kinds.{kindOf, classAt}
+use Rattle.walk_record.specs.Record.{ringOf, laidOut, walkOf, tagOf, valueOf, sameClass, isLoose, onWalk, walkAsked}
+use Rattle.moves.specs.Going.{Ready}
+use Rattle.moves.proofs.Standing.{kind-only, class-at}
+
+-- ---- classes
+
+-- two classes with equal case and number are one
+pub one-class : (a b : Class) → tagOf a ≡ tagOf b → valueOf a ≡ valueOf b → a ≡ b
+one-class Loose Loose e f = refl
+one-class Loose (Opening q) e f = absurd (omega arith)
+one-class Loose (Repeating q) e f = absurd (omega arith)
+one-class Loose Single e f = absurd (omega arith)
+one-class (Opening p) Loose e f = absurd (omega arith)
+one-class (Opening p) (Opening q) e f = ap Opening f
+one-class (Opening p) (Repeating q) e f = absurd (omega arith)
+one-class (Opening p) Single e f = absurd (omega arith)
+one-class (Repeating p) Loose e f = absurd (omega arith)
+one-class (Repeating p) (Opening q) e f = absurd (omega arith)
+one-class (Repeating p) (Repeating q) e f = ap Repeating f
+one-class (Repeating p) Single e f = absurd (omega arith)
+one-class Single Loose e f = absurd (omega arith)
+one-class Single (Opening q) e f = absurd (omega arith)
+one-class Single (Repeating q) e f = absurd (omega arith)
+one-class Single Single e f = refl
+
+pub same-class : (a b : Class) → sameClass a b ≡ true → a ≡ b
+same-class a b h =
+    one-class a b (eqb-true (tagOf a) (tagOf b) (both-left (eqb (tagOf a) (tagOf b)) (eqb (valueOf a) (valueOf b)) h)) (eqb-true (valueOf a) (valueOf b) (both-right (eqb (tagOf a) (tagOf b)) (eqb (valueOf a) (valueOf b)) h))
+
+-- a reading is Loose exactly where it is no prenecklace
+pub loose-class : (v : List ℕ) → isLoose (classOf v) ≡ true → prenecklace v ≡ false
+loose-class v h = go (classOf v) (classed v) h
+  where
+    go : (c : Class) → Classed v c → isLoose c ≡ true → prenecklace v ≡ false
+    go Loose d e = d
+    go (Opening p) d e = clash false e refl
+    go (Repeating p) d e = clash false e refl
+    go Single d e = clash false e refl
+
+pub tight-class : (v : List ℕ) → isLoose (classOf v) ≡ false → prenecklace v ≡ true
+tight-class v h = go (classOf v) (classed v) h
+  where
+    go : (c : Class) → Classed v c → isLoose c ≡ false → prenecklace v ≡ true
+    go Loose d e = clash true refl e
+    go (Opening p) d e = d .0
+    go (Repeating p) d e = necklace-prenecklace v (d .0)
+    go Single d e = necklace-prenecklace v (lyndon-necklace v d)
+
+-- ---- the answers of `on_walk`
+
+module _ (v : List ℕ) (c found : Class) (is : found ≡ classOf v) where
+  pub off-loose : isLoose found ≡ true → false ≡ onWalk v c
+  unfolding onWalk
+  off-loose h = sym (not-left (prenecklace v) (sameClass c (classOf v)) (loose-class v (rw is at h)))
+
+  pub off-tag : (tagOf c ≡ tagOf found → ⊥) → false ≡ onWalk v c
+  unfolding onWalk
+  off-tag h =
+      sym (not-right (prenecklace v) (sameClass c (classOf v)) (not-left (eqb (tagOf c) (tagOf (classOf v))) (eqb (valueOf c) (valueOf (classOf v))) (ne-eqb (tagOf c) (tagOf (classOf v)) (rw is at h))))
+
+  pub off-value : (valueOf c ≡ valueOf found → ⊥) → false ≡ onWalk v c
+  unfolding onWalk
+  off-value h =
+      sym (not-right (prenecklace v) (sameClass c (classOf v)) (not-right (eqb (tagOf c) (tagOf (classOf v))) (eqb (valueOf c) (valueOf (classOf v))) (ne-eqb (valueOf c) (valueOf (classOf v)) (rw is at h))))
+
+  pub on-class : isLoose found ≡ false → tagOf c ≡ tagOf found → valueOf c ≡ valueOf found → true ≡ onWalk v c
+  unfolding onWalk
+  on-class h t u =
+      sym
+      (both (prenecklace v) (sameClass c (classOf v)) (tight-class v (rw is at h))
+      (both (eqb (tagOf c) (tagOf (classOf v))) (eqb (valueOf c) (valueOf (classOf v))) (eq-eqb (tagOf c) (tagOf (classOf v)) (rw is at t)) (eq-eqb (valueOf c) (valueOf (classOf v)) (rw is at u))))
+
+-- ---- a record that passed its checks
+
+-- the checks but the last passed; the last passes, or fails
+pub pass-walk : (n k : ℕ) (ring : List ℕ) (b : Bool) → Passed (walkRecord n k ring true) → b ≡ true → Passed (walkRecord n k ring b)
+pass-walk n k ring b h e = (h .0, e)
+
+pub off-walk : (n k : ℕ) (ring : List ℕ) (b : Bool) → Passed (walkRecord n k ring true) → b ≡ false → Given (walkRecord n k ring b) OffWalk
+off-walk n k ring b h e = offWalk refl (h .0) (λ t. clash b t e)
+
+-- its sectors are below k up to n, and below 1 past it
+limit-low : (n k i : ℕ) → i < n → ringLimit n k i ≡ k
+limit-low n k i h = rw (lt-ltb i n h, ringLimit)
+
+limit-past : (n k i : ℕ) → n ≤ i → ringLimit n k i ≡ 1
+limit-past n k i h = rw (le-ltb i n h, ringLimit)
+
+module _ (w : Walk) (good : Passed (walkAsked w)) (size : length (w .ring) ≡ 64) where
+  fits : w .n ≤ 64
+  fits = good .0 .0 .0 .0 .0 .0 .1
+
+  own : prenecklace (ringOf w) ≡ true
+  unfolding onWalk
+  own = both-left (prenecklace (ringOf w)) (sameClass (w .class) (classOf (ringOf w))) (good .1)
+
+  pub good-long : length (ringOf w) ≡ w .n
+  good-long = length-take-le (w .n) (w .ring) (omega (arith, fits))
+
+  pub good-ready : Ready (w .k) (ringOf w)
+  good-ready =
+      record {
+        pos = omega (arith, good-long, good .0 .0 .0 .0 .0 .0 .0);
+        fits = omega (arith, good-long, fits);
+        shades = good .0 .0 .0 .0 .1 .0;
+        few = good .0 .0 .0 .0 .1 .1;
+        reading = record { long = refl; shades = λ i b. low i (omega (arith, good-long)) };
+        pre = own;
+      }
+    where
+      low : (i : ℕ) → i < w .n → getD (ringOf w) i 0 < w .k
+      low i b = rw (getD-take (w .n) (w .ring) i 0 b) (omega (arith, good .0 .0 .0 .1 i (omega (arith, fits)), limit-low (w .n) (w .k) i b))
+
+  -- the sectors past n are 0
+  pub good-tail : drop (w .n) (w .ring) ≡ replicate (64 - w .n) 0
+  good-tail =
+      ext-getD 0 (drop (w .n) (w .ring)) (replicate (64 - w .n) 0) (length-drop (w .n) (w .ring) ∙ ap (λ (x : ℕ). x - w .n) size ∙ sym (length-replicate (64 - w .n) 0))
+      (λ i b.
+      let l : w .n + i < length (w .ring) = omega (arith, length-drop (w .n) (w .ring)) in
+      let z : getD (w .ring) (w .n + i) 0 ≡ 0 = omega (arith, good .0 .0 .0 .1 (w .n + i) l, limit-past (w .n) (w .k) (w .n + i) (omega arith)) in
+      getD-drop (w .n) (w .ring) i 0 ∙ z ∙ sym (getD-replicate (64 - w .n) i 0 0 (omega (arith, length-drop (w .n) (w .ring)))))
+
+-- the record that a step makes is the record of its ring
+module _ (kind : K.Kind) (w : Walk) (v : List ℕ) (p : ℕ) (good : Passed (walkAsked w)) (size : length (w .ring) ≡ 64) (next : nextOf (kindOf kind) (w .k) (ringOf w) ≡ some v) (is : lyn v ≡ p) where
+  pub moved-long : length v ≡ w .n
+  moved-long = next-facts (kindOf kind) (w .k) (ringOf w) v next .0 .long ∙ good-long w good size
+
+  pub moved-is : record { n = w .n; k = w .k; ring = v ++ drop (w .n) (w .ring); class = classAt (w .n) p } ≡ walkOf (w .k) v
+  moved-is =
+      λ i.
+      record {
+        n = sym moved-long i;
+        k = w .k;
+        ring = ap (λ (t : List ℕ). v ++ t) (good-tail w good size ∙ ap (λ (x : ℕ). replicate (64 - x) 0) (sym moved-long)) i;
+        class = class i;
+      }
+    where
+      class : classAt (w .n) p ≡ classOf v
+      class =
+          sym
+          (class-at v (lyn v) (lyn-run v (omega (arith, moved-long, good-ready w good size .pos, good-long w good size)) (kind-only kind v (next-facts (kindOf kind) (w .k) (ringOf w) v next .2)))
+          ∙ ap (λ (x : ℕ). classAt x (lyn v)) moved-long
+          ∙ ap (classAt (w .n)) is)
+
+-- the lyn of the necklace that a step came to is its period
+pub went-period : (k : ℕ) (s v : List ℕ) (p : ℕ) → 0 < length s → nextOf necklace k s ≡ some v → lyn v ≡ p → p ≡ period v
+went-period k s v p z e is =
+    let f = next-facts necklace k s v e in
+    sym (period-lyn v (omega (arith, f .0 .long)) (f .2) ∙ is)
+
+-- ---- a start, from a reading that passed 1, 2, 3
+
+module _ (s : List ℕ) (k : ℕ) (found : Class) (passed : Passed (oneReading s k)) (is : found ≡ classOf s) where
+  pub start-off : isLoose found ≡ true → Given (walkStart s k (prenecklace s)) OffWalk
+  start-off h = offWalk refl (passed .0) (λ t. clash (prenecklace s) t (loose-class s (rw is at h)))
+
+  pub start-on : isLoose found ≡ false → Passed (walkStart s k (prenecklace s))
+  start-on h = (passed .0, tight-class s (rw is at h))
+
+  pub start-is : (ring : List ℕ) → ring ≡ laidOut s → record { n = length s; k = k; ring = ring; class = found } ≡ walkOf k s
+  start-is ring e = λ i. record { n = length s; k = k; ring = e i; class = is i }
+
+-- ---- the record of a ring passes its checks
+
+-- its ring
+pub ring-of : (k : ℕ) (v : List ℕ) → ringOf (walkOf k v) ≡ v
+ring-of k v = take-append-seam v (zeros (64 - length v))
+
+-- each class is its own
+same-class-refl : (c : Class) → sameClass c c ≡ true
+same-class-refl c =
+    both (eqb (tagOf c) (tagOf c)) (eqb (valueOf c) (valueOf c)) (eq-eqb (tagOf c) (tagOf c) refl) (eq-eqb (valueOf c) (valueOf c) refl)
+
+pub walk-good : (n k : ℕ) (v : List ℕ) → Sized n → Shaded k → Reading n k v → prenecklace v ≡ true → Passed (walkAsked (walkOf k v))
+unfolding onWalk
+walk-good n k v sized shaded reading pre =
+    let e = reading .long in (
+      ((((((omega arith, omega arith), tt), shaded), below), tt), tt),
+      rw (ring-of k v) (both (prenecklace v) (sameClass (classOf v) (classOf v)) pre (same-class-refl (classOf v))),
+    )
+  where
+    below : (i : ℕ) → i < length (laidOut v) → getD (laidOut v) i 0 < ringLimit (length v) k i
+    below i h =
+        elim (tri i (length v)) [
+          | lt l ↦ rw (limit-low (length v) k i l, List·getD-append v (zeros (64 - length v)) 0 i l) (reading .shades i (omega (arith, reading .long)))
+          | eq l ↦ past i (omega arith)
+          | gt l ↦ past i (omega arith)
+        ]
+      where
+        past : (i : ℕ) → length v ≤ i → getD (laidOut v) i 0 < ringLimit (length v) k i
+        past i l =
+            let q : length v + (i - length v) ≡ i = omega arith in
+            let z : getD (laidOut v) i 0 ≡ 0 = ap (λ (x : ℕ). getD (laidOut v) x 0) (sym q) ∙ getD-append-add v (zeros (64 - length v)) (i - length v) 0 ∙ zeros-at (64 - length v) (i - length v) in
+            omega (arith, z, limit-past (length v) k i l)

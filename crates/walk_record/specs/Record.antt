@@ -1,0 +1,65 @@
+-- The walk's record (01, 'Walks').
+--     ringOf w          the ring of a record: its first n sectors
+--     walkOf k v        the record of a ring v: n, k, v with 0 behind it to 64 sectors, its class
+--     emptyWalk         the record that a refused start hands out
+--     onWalk v c        v is a prenecklace and its class is c
+--     walkAsked w       what the checks of a record look at
+-- Assumes nothing.
+use Prim.Native.Nat.{ℕ, _-_}
+use mathlib.Core.Bool.{Bool, true, false, _&&_}
+use mathlib.Core.List.{List, _++_}
+use lib.ListN.{length, take, replicate}
+use lib.Dec.{eqb}
+use Rattle.rings.specs.declared.Class.{Class}
+use Rattle.rings.specs.declared.Class.the-variants.{Loose, Opening, Repeating, Single}
+use Rattle.rings.specs.Prenecklace.{prenecklace}
+use Rattle.rings.specs.Class.{classOf}
+use Rattle.refusal.specs.Order.{Asked}
+use Rattle.refusal.specs.Calls.{walkRecord}
+use Rattle.walk_record.specs.declared.Walk.{Walk}
+
+-- the ring of a record
+abbrev pub ringOf : Walk → List ℕ
+ringOf w = take (w .n) (w .ring)
+
+-- a ring with 0 behind it, 64 sectors in all
+abbrev pub laidOut : List ℕ → List ℕ
+laidOut v = v ++ replicate (64 - length v) 0
+
+-- the record of a ring
+abbrev pub walkOf : ℕ → List ℕ → Walk
+walkOf k v = record { n = length v; k = k; ring = laidOut v; class = classOf v }
+
+-- 0 for n, k and every sector, classed Loose
+abbrev pub emptyWalk : Walk
+emptyWalk = record { n = 0; k = 0; ring = replicate 64 0; class = Loose }
+
+-- two classes are the same: their cases are, and their numbers are
+abbrev pub tagOf : Class → ℕ
+tagOf Loose = 0
+tagOf (Opening p) = 1
+tagOf (Repeating p) = 2
+tagOf Single = 3
+
+abbrev pub valueOf : Class → ℕ
+valueOf Loose = 0
+valueOf (Opening p) = p
+valueOf (Repeating p) = p
+valueOf Single = 0
+
+abbrev pub sameClass : Class → Class → Bool
+sameClass a b = eqb (tagOf a) (tagOf b) && eqb (valueOf a) (valueOf b)
+
+abbrev pub isLoose : Class → Bool
+isLoose Loose = true
+isLoose (Opening p) = false
+isLoose (Repeating p) = false
+isLoose Single = false
+
+-- the ring is a prenecklace, and the class is its own
+unfoldable pub onWalk : List ℕ → Class → Bool
+onWalk v c = prenecklace v && sameClass c (classOf v)
+
+-- what the checks of a record look at
+abbrev pub walkAsked : Walk → Asked
+walkAsked w = walkRecord (w .n) (w .k) (w .ring) (onWalk (ringOf w) (w .class))
