@@ -1,6 +1,2 @@
--- The laws over plain lists on which the loops of this crate rest, function by function.
-pub mod Comparing
-pub mod Filling
-pub mod Heads
-pub mod Moving
+-- What the loop of `completable` rests on, over plain lists (Testing).
 pub mod Testing

@@ -15,7 +15,7 @@ use Rattle.words.specs.Sum.{sumOf}
 use Rattle.pool.proofs.Held.{Held, leads-one, held-start, held-some, held-room, held-glue, held-stuck, held-yes}
 use Rattle.pool.proofs.Made.{Completed, made-none}
 use Rattle.pool.proofs.Letters.{letters, sorted-letters, occurs-letters}
-use Rattle.completable.specs.Pool.{Laid, Leading}
+use Rattle.pool_inner.specs.Pool.{Laid, Leading}
 use Rattle.completable.specs.Completion.{Completing, Decides}
 
 -- the arrays hold a pool of t words for al and the letters that rem counts, l in all

@@ -1,5 +1,4 @@
 -- What it is to complete a beginning to a necklace by letters of given counts.
---     Fillable w cs        the letters that cs counts have room in w
 --     Completing al rem    al is a Lyndon word, and the letters that rem counts have room
 --     Hopeless al rem      no word with exactly these letters completes al to a necklace
 --     Hopeful al rem       a word with exactly these letters completes al to a necklace
@@ -13,12 +12,6 @@ use lib.ListN.{length, getD}
 use Rattle.rings.specs.Necklace.{necklace, lyndon}
 use Rattle.rings.specs.Counts.{occurs}
 use Rattle.words.specs.Sum.{sumOf}
-
--- the letters that cs counts have room in w
-pub record Fillable (w cs : List ℕ) : Type 0 where
-  pub room : sumOf cs ≤ length w
-  pub size : length w ≤ 64
-  pub shades : length cs ≤ 16
 
 -- al is a Lyndon word, and the letters that rem counts have room
 pub record Completing (al rem : List ℕ) : Type 0 where

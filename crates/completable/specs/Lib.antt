@@ -1,3 +1,2 @@
--- What the functions of this crate ask and promise, where that is more than a line.
-pub mod Pool
+-- What it is to complete a beginning (Completion).
 pub mod Completion

@@ -29,8 +29,9 @@ use Rattle.necklaces.proofs.Lyndon.{run-prenecklace, run-lyn}
 use Rattle.counted.specs.declared.Sought.{Sought}
 use Rattle.classify.specs.Beginning.{Opened}
 use Rattle.counted.specs.Runs.{Repeatable, Repeats}
-use Rattle.counted.specs.Places.{Ring, Blocked, Begun, Placed}
-use Rattle.counted.specs.Above.{Ready, Opening, Answers}
+use Rattle.raising_inner.specs.Places.{Ring, Blocked, Begun, Placed}
+use Rattle.counted.specs.Above.{Answers}
+use Rattle.raising_inner.specs.Ready.{Ready, Opening}
 use Rattle.counted.proofs.Stepping.{Step, step-none, step-found, step-on, Further, further-right, Lifts, raise-step, Settles, settle-step}
 
 -- ---- a new ring in the first n sectors

@@ -29,8 +29,8 @@ use Rattle.necklaces.proofs.Repeat.{run-rep}
 use Rattle.necklaces.proofs.Raise.{run-floor}
 use Rattle.necklaces.proofs.Words.{pre-of, necklace-prenecklace}
 use Rattle.necklaces.proofs.Lyndon.{run-prenecklace}
-use Rattle.counted.specs.Places.{Ring, Blocked}
-use Rattle.counted.proofs.Blocking.{ring-necklace}
+use Rattle.raising_inner.specs.Places.{Ring, Blocked}
+use Rattle.raising_inner.proofs.Blocking.{ring-necklace}
 
 -- v is a prenecklace above w, and no ring of the counts lies between
 pub record Step (cs : List ℕ) (n k : ℕ) (w v : List ℕ) : Type 0 where

@@ -19,9 +19,10 @@ use Rattle.words.specs.Sum.{sumOf}
 use Rattle.refusal.specs.Calls.{countedFirst, countedNext}
 use Rattle.words.specs.Sum.{sumOf}
 use Rattle.pool.proofs.Letters.{letters}
-use Rattle.completable.specs.Completion.{Fillable}
+use Rattle.fill_inner.specs.Fillable.{Fillable}
 use Rattle.counted.specs.declared.Sought.{Sought}
-use Rattle.counted.specs.Above.{Ready, Answers}
+use Rattle.raising_inner.specs.Ready.{Ready}
+use Rattle.counted.specs.Above.{Answers}
 use Rattle.shades.proofs.Least.{first-letters}
 
 module _ (n k : ℕ) (cs : List ℕ) (passed : Passed (countedFirst n k cs)) where

@@ -25,9 +25,9 @@ use Rattle.words.specs.Sum.{sumOf}
 use Rattle.pool.proofs.Pool.{Sorted}
 use Rattle.pool.proofs.Copies.{occurs-append}
 use Rattle.pool.proofs.Letters.{letters, occurs-letters, sorted-letters, length-letters}
-use Rattle.counted.proofs.Tallying.{occurs-none, occurs-here, occurs-other, occurs-at, counts-end}
-use Rattle.counted.specs.Places.{Ring}
-use Rattle.counted.proofs.Blocking.{ring-known, ring-past}
+use Rattle.tally_inner.proofs.Tallying.{occurs-none, occurs-here, occurs-other, occurs-at, counts-end}
+use Rattle.raising_inner.specs.Places.{Ring}
+use Rattle.raising_inner.proofs.Blocking.{ring-known, ring-past}
 
 -- no letter of a sorted word is below its first
 sorted-first : (a : ℕ) (w : List ℕ) (c : ℕ) → Sorted (a ∷ w) → 0 < occurs c (a ∷ w) → a ≤ c

@@ -38,7 +38,7 @@ pub fn first_ring(k: usize, counts: &[usize], out: &mut [u8]) -> FirstAnswer
     match count_checks::check_first(out.len(), k, counts) {
         Checked::Refused(r) => FirstAnswer::Refused(r),
         Checked::Good => {
-            completable::fill(out, counts);
+            fill_inner::fill(out, counts);
             FirstAnswer::Ring
         }
     }

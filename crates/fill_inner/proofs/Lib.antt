@@ -1,0 +1,2 @@
+-- The letters put one behind the other (Filling).
+pub mod Filling

@@ -1,0 +1,2 @@
+-- What filling asks for (Fillable).
+pub mod Fillable

@@ -1,0 +1,2 @@
+-- A pool of words laid out in two arrays (Pool).
+pub mod Pool

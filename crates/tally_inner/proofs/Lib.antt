@@ -1,0 +1,3 @@
+-- Counting shades (Tallying), and what counts leave beside some sectors (Leaving), over plain lists.
+pub mod Tallying
+pub mod Leaving

@@ -1,0 +1,2 @@
+-- What counts leave beside some sectors (Remaining).
+pub mod Remaining
