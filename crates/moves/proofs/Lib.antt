@@ -1,3 +1,2 @@
--- What the loops of a move (Raising) and of a step (Standing) rest on, over plain lists.
-pub mod Raising
+-- What the loop of a step rests on, over plain lists (Standing).
 pub mod Standing

@@ -1,4 +1,4 @@
--- `moves::raise` meets its contract. The loop's invariant: the first m sectors repeat the first i, the last of which is raised, and the next is copied from
+-- `raise_inner::raise` meets its contract. The loop's invariant: the first m sectors repeat the first i, the last of which is raised, and the next is copied from
 -- place m % i. Assumes nothing.
 use Prim.Native.Nat.{_-_, _%_}
 use mathlib.Core.Path.{_≡_, sym}
@@ -6,9 +6,9 @@ use native.Mathlib.Omega.{arith}
 use native.Mathlib.Nat.{mod-self}
 use lib.ListN.{length, length-set}
 use borrow.Author.Needs.{needs}
-use Rattle.moves.proofs.Raising.{Copied, copied-start, copied-more, copied-end, round-in, round-on, round-back}
-use Rattle.moves.proofs.raise.Statement.{statement}
-use Rattle.moves.proofs.raise.Tie as tie
+use Rattle.raise_inner.proofs.Raising.{Copied, copied-start, copied-more, copied-end, round-in, round-on, round-back}
+use Rattle.raise_inner.proofs.raise.Statement.{statement}
+use Rattle.raise_inner.proofs.raise.Tie as tie
 
 abbrev Inv-loop : tie.InvT-loop
 Inv-loop s₀ i from₀ m₀ s from m = Copied s₀ s i m × (from ≡ m % i)

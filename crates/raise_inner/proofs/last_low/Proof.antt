@@ -1,12 +1,12 @@
--- `moves::last_low` meets its contract. The loop's invariant: no place past i can be raised. Assumes nothing.
+-- `raise_inner::last_low` meets its contract. The loop's invariant: no place past i can be raised. Assumes nothing.
 use Prim.Native.Nat.{_≤_}
 use mathlib.Core.Path.{_≡_}
 use native.Mathlib.Omega.{arith}
 use lib.ListN.{length}
 use borrow.Author.Needs.{needs}
-use Rattle.moves.proofs.Raising.{Over, over-start, over-more, over-found, over-none, over-empty, over-shadeless}
-use Rattle.moves.proofs.last_low.Statement.{statement}
-use Rattle.moves.proofs.last_low.Tie as tie
+use Rattle.raise_inner.proofs.Raising.{Over, over-start, over-more, over-found, over-none, over-empty, over-shadeless}
+use Rattle.raise_inner.proofs.last_low.Statement.{statement}
+use Rattle.raise_inner.proofs.last_low.Tie as tie
 
 abbrev Inv-loop : tie.InvT-loop
 Inv-loop s k n top i₀ i = (i ≤ length s) × Over k s i

@@ -1,0 +1,1 @@
+-- A move promises what `rings` says of the next prenecklace; nothing is defined here.
