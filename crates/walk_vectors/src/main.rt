@@ -1,7 +1,11 @@
 // Walks run and compared: the lists of 001, Figure 1, and 004, Figure 1, the gap of 001, Figure 2, counts of rings, the hand cases of document 01,
 // the first steps at n = 64 and k = 16, every step's Done, and each refusal. The expected text, stdout, is written from those documents.
+// The cases are the lines of stdin: `list`, n, k and marks; `count`, n, k and a kind of step; `from`, a reading, k and how many steps; `step`, a reading, k and a
+// kind; `made`, n, k, a place and its sector, a class and its number. Marks: 1 has bullets behind what is no necklace, as 001 has them; 2 has N for a
+// necklace and L for a Lyndon word, as 004 has them. Kinds: 0 by prenecklaces, 1 by necklaces, 2 by Lyndon words. Classes: 0 Loose, 1 Opening, 2 Repeating, 3 Single.
 
 use refusal::Checked;
+use refusal::Refusal;
 use rings::Class;
 use walk::Outcome;
 use walk::Stepped;
@@ -15,29 +19,36 @@ fn print_ring(w: Walk) {
     }
 }
 
-// 1: bullets behind what is no necklace, as 001 has them. 2: N for a necklace and L for a Lyndon word, as 004 has them.
 fn print_mark(c: Class, marks: usize) {
     match c {
         Class::Loose => show::text(b" loose"),
-        Class::Opening(_) => {
-            if marks == 1 {
-                show::text(b" *");
-            }
-        }
-        Class::Repeating(_) => {
-            if marks == 2 {
-                show::text(b" N");
-            }
-        }
-        Class::Single => {
-            if marks == 2 {
-                show::text(b" N L");
-            }
-        }
+        Class::Opening(_) => bullet(marks),
+        Class::Repeating(_) => letters(marks, b" N"),
+        Class::Single => letters(marks, b" N L"),
     }
 }
 
-// One of the three steps: 0 by prenecklaces, 1 by necklaces, 2 by Lyndon words.
+fn bullet(marks: usize) {
+    if marks == 1 {
+        show::text(b" *");
+    }
+}
+
+fn letters(marks: usize, s: &[u8]) {
+    if marks == 2 {
+        show::text(s);
+    }
+}
+
+// A ring's line, with its mark.
+fn print_line(w: Walk, marks: usize) {
+    print_ring(w);
+    let c = w.class;
+    print_mark(c, marks);
+    show::text(b"\n");
+}
+
+// One of the three steps.
 fn step(w: Walk, kind: usize) -> Stepped {
     if kind == 0 {
         return walk::next_prenecklace(w);
@@ -76,10 +87,7 @@ fn list(n: usize, k: usize, marks: usize) {
     let mut w = from_zeros(n, k);
     let mut count: usize = 0;
     while count < 100 {
-        print_ring(w);
-        let c = w.class;
-        print_mark(c, marks);
-        show::text(b"\n");
+        print_line(w, marks);
         let s = walk::next_prenecklace(w);
         let o = s.outcome;
         let Outcome::Moved(_) = o else {
@@ -98,11 +106,17 @@ fn after(s: &[u8], k: usize, times: usize) {
     while count < times {
         let t = walk::next_prenecklace(w);
         w = t.walk;
-        print_ring(w);
-        let c = w.class;
-        print_mark(c, 1);
-        show::text(b"\n");
+        print_line(w, 1);
         count += 1;
+    }
+}
+
+// The moves of a step, Done's included.
+fn moves_of(o: Outcome) -> usize {
+    match o {
+        Outcome::Moved(m) => m,
+        Outcome::Done(m) => m,
+        Outcome::Refused(_) => 0,
     }
 }
 
@@ -114,45 +128,71 @@ fn count_rings(n: usize, k: usize, kind: usize) {
     while count < 10000 {
         let s = step(w, kind);
         let o = s.outcome;
-        match o {
-            Outcome::Moved(m) => sum = std::num::wrapping_add_usize(sum, m),
-            Outcome::Done(m) => sum = std::num::wrapping_add_usize(sum, m),
-            Outcome::Refused(_) => sum = 0,
-        }
+        sum = std::num::wrapping_add_usize(sum, moves_of(o));
         let Outcome::Moved(_) = o else {
             break;
         };
         w = s.walk;
         count += 1;
     }
+    print_count(n, k, kind);
+    print_moves(count, sum);
+}
+
+fn print_count(n: usize, k: usize, kind: usize) {
     show::number(k);
     show::text(b" ");
     show::number(n);
     print_kind(kind);
+}
+
+fn print_moves(count: usize, sum: usize) {
     show::number(count);
     show::text(b" moves ");
     show::number(sum);
     show::text(b"\n");
 }
 
+fn print_class(w: Walk) {
+    let c = w.class;
+    show::text(b" ");
+    show::class(c);
+}
+
+fn print_done(m: usize) {
+    show::text(b"done moves ");
+    show::number(m);
+}
+
+fn print_moved(w: Walk, m: usize) {
+    print_ring(w);
+    print_class(w);
+    show::text(b" moves ");
+    show::number(m);
+}
+
 fn print_outcome(s: Stepped) {
     let o = s.outcome;
-    let w = s.walk;
     match o {
-        Outcome::Moved(m) => {
-            print_ring(w);
-            show::text(b" ");
-            let c = w.class;
-            show::class(c);
-            show::text(b" moves ");
-            show::number(m);
-        }
-        Outcome::Done(m) => {
-            show::text(b"done moves ");
-            show::number(m);
-        }
+        Outcome::Moved(m) => print_moved(s.walk, m),
+        Outcome::Done(m) => print_done(m),
         Outcome::Refused(r) => show::refused(r),
     }
+    show::text(b"\n");
+}
+
+fn print_record(w: Walk) {
+    show::text(b" record ");
+    show::number(w.n);
+    show::text(b" ");
+    show::number(w.k);
+}
+
+fn print_refused_start(r: Refusal, w: Walk) {
+    show::text(b"start ");
+    show::refused(r);
+    print_record(w);
+    print_class(w);
     show::text(b"\n");
 }
 
@@ -166,55 +206,41 @@ fn one(s: &[u8], k: usize, kind: usize) {
             print_kind(kind);
             print_outcome(step(started.walk, kind));
         }
-        Checked::Refused(r) => {
-            show::text(b"start ");
-            show::refused(r);
-            let w = started.walk;
-            show::text(b" record ");
-            show::number(w.n);
-            show::text(b" ");
-            show::number(w.k);
-            show::text(b" ");
-            let c = w.class;
-            show::class(c);
-            show::text(b"\n");
-        }
+        Checked::Refused(r) => print_refused_start(r, started.walk),
     }
 }
 
-fn all(s: &[u8], k: usize) {
-    one(s, k, 0);
-    one(s, k, 1);
-    one(s, k, 2);
-}
-
-// The ring of n sectors that is all zero but for its last two, and the steps from it.
-fn long(k: usize, before: u8, last: u8) {
-    let mut s = [0u8; 64];
-    s[62] = before;
-    s[63] = last;
-    one(&s, k, 0);
-    one(&s, k, 1);
-    one(&s, k, 2);
+fn print_answer(o: Outcome) {
+    match o {
+        Outcome::Moved(_) => show::text(b"moved"),
+        Outcome::Done(_) => show::text(b"done"),
+        Outcome::Refused(r) => show::refused(r),
+    }
 }
 
 // A record that no walk has made: the answer, and the record's n and k as they come back.
 fn bad(w: Walk) {
     let s = walk::next_necklace(w);
     let o = s.outcome;
-    let v = s.walk;
-    match o {
-        Outcome::Moved(_) => show::text(b"moved"),
-        Outcome::Done(_) => show::text(b"done"),
-        Outcome::Refused(r) => show::refused(r),
-    }
-    show::text(b" record ");
-    show::number(v.n);
-    show::text(b" ");
-    show::number(v.k);
+    print_answer(o);
+    print_record(s.walk);
     show::text(b"\n");
 }
 
+fn class_of(case: usize, p: usize) -> Class {
+    if case == 0 {
+        return Class::Loose;
+    }
+    if case == 1 {
+        return Class::Opening(p);
+    }
+    if case == 2 {
+        return Class::Repeating(p);
+    }
+    Class::Single
+}
+
+// The ring 0011 with a sector changed, in a record of these numbers and this class.
 fn made(n: usize, k: usize, at: usize, sector: u8, class: Class) {
     let mut ring = [0u8; 64];
     ring[2] = 1;
@@ -230,44 +256,68 @@ fn made(n: usize, k: usize, at: usize, sector: u8, class: Class) {
     });
 }
 
+// ---- the lines
+
+fn line_of_reading(what: u8, line: &[u8]) {
+    let mut s = [0u8; 65];
+    let n = cases::sectors(line, 1, &mut s);
+    let k = cases::number(line, 2);
+    let x = cases::number(line, 3);
+    if what == b'f' {
+        after(&s[..n], k, x);
+        return;
+    }
+    one(&s[..n], k, x);
+}
+
+fn line_of_made(line: &[u8]) {
+    let n = cases::number(line, 1);
+    let k = cases::number(line, 2);
+    let at = cases::number(line, 3);
+    let sector = (cases::number(line, 4) % 256) as u8;
+    let class = class_of(cases::number(line, 5), cases::number(line, 6));
+    made(n, k, at, sector, class);
+}
+
+fn line_of_numbers(what: u8, line: &[u8]) {
+    let n = cases::number(line, 1);
+    let k = cases::number(line, 2);
+    let x = cases::number(line, 3);
+    if what == b'l' {
+        list(n, k, x);
+        return;
+    }
+    count_rings(n, k, x);
+}
+
+// One line; the first letter tells what to do.
+fn run(line: &[u8]) {
+    if line.len() < 1 {
+        return;
+    }
+    let what = line[0];
+    if what == b'm' {
+        line_of_made(line);
+    } else if what == b'f' {
+        line_of_reading(what, line);
+    } else if what == b's' {
+        line_of_reading(what, line);
+    } else {
+        line_of_numbers(what, line);
+    }
+}
+
+fn lines(s: &[u8]) {
+    let mut at = 0;
+    while at < s.len() {
+        let end = cases::line_end(s, at);
+        run(&s[at..end]);
+        at = end + 1;
+    }
+}
+
 fn main() {
-    list(6, 2, 1);
-    list(4, 3, 1);
-    list(4, 3, 2);
-    count_rings(4, 3, 0);
-    count_rings(4, 3, 1);
-    count_rings(4, 3, 2);
-    after(b"\0\x01\x01\x01\0\x01\x01\x01\x01", 2, 5);
-    all(b"\0\x01\x01\x01\0\x01\x01\x01\x01", 2);
-    all(b"\0\0\0\x01", 2);
-    all(b"\0\0\x01\x01", 2);
-    all(b"\0\x01\x01\x01", 2);
-    all(b"\x01\x01\x01\x01", 2);
-    all(b"\0\x02\x02\x02", 3);
-    all(b"\0", 2);
-    all(b"\x01", 2);
-    long(16, 0, 0);
-    long(16, 0, 15);
-    long(16, 15, 15);
-    one(b"\0\x01\0\0", 2, 1);
-    one(b"", 2, 1);
-    one(&[0u8; 65], 2, 1);
-    one(b"\0\0", 1, 1);
-    one(b"\0\0", 17, 1);
-    one(b"\0\0", 258, 1);
-    one(b"\0\x02\x03", 2, 1);
-    made(4, 2, 64, 0, Class::Single);
-    made(0, 2, 64, 0, Class::Single);
-    made(70, 2, 64, 0, Class::Single);
-    made(4, 99, 64, 0, Class::Single);
-    made(4, 1, 64, 0, Class::Single);
-    made(4, 2, 1, 5, Class::Single);
-    made(4, 2, 10, 1, Class::Single);
-    made(4, 2, 63, 7, Class::Single);
-    made(4, 2, 64, 0, Class::Repeating(4));
-    made(4, 2, 64, 0, Class::Loose);
-    made(4, 2, 64, 0, Class::Opening(4));
-    made(5, 2, 64, 0, Class::Opening(3));
-    made(5, 2, 64, 0, Class::Opening(4));
-    made(4, 2, 0, 1, Class::Loose);
+    let mut input = io::buffer();
+    let got = io::read_full(libc::STDIN_FILENO, &mut input);
+    lines(&input[..got]);
 }

@@ -1,5 +1,4 @@
--- `catalogue_vectors::each` ends: it reads at most 100 records.
--- Assumes nothing.
+-- `catalogue_vectors::each` is safe and ends: it counts up to 100. Assumes nothing.
 use Prim.Native.Nat.{_≤_, _-_}
 use borrow.Author.Needs.{needs}
 use Rattle.catalogue_vectors.proofs.each.Statement.{statement}
@@ -16,9 +15,6 @@ loop-holds c = search needs
 
 full-requires : tie.Need-full-requires Inv-loop μ-loop
 full-requires c κs = search needs
-
-enum-known-r : tie.Need-enum-known-r Inv-loop μ-loop
-enum-known-r c = search needs
 
 add-count : tie.Need-add-count Inv-loop μ-loop
 add-count c = search needs
@@ -43,7 +39,6 @@ each-spec =
     μ-loop
     loop-holds
     full-requires
-    enum-known-r
     add-count
     loop-less
     loop-again

@@ -1,9 +1,8 @@
--- `shades_vectors::rings` does nothing that is not allowed.
--- Assumes nothing.
+-- `shades_vectors::rings` is safe: the lent parts have n places. Assumes nothing.
 use mathlib.Core.Path.{sym}
 use native.Mathlib.Omega.{arith}
-use borrow.Author.Needs.{needs}
 use lib.Seq.{length-take-le}
+use borrow.Author.Needs.{needs}
 use Rattle.shades_vectors.proofs.rings.Statement.{statement}
 use Rattle.shades_vectors.proofs.rings.Tie as tie
 
@@ -25,11 +24,20 @@ slice-aggregate-walk-2 c = sym (length-take-le _ _ (omega arith))
 walk-requires : tie.Need-walk-requires
 walk-requires c κs = search needs
 
-slice-aggregate-print-number : tie.Need-slice-aggregate-print-number
-slice-aggregate-print-number c = search needs
+slice-aggregate-text : tie.Need-slice-aggregate-text
+slice-aggregate-text c = search needs
 
-print-number-requires : tie.Need-print-number-requires
-print-number-requires c κs = search needs
+text-requires : tie.Need-text-requires
+text-requires c κs = search needs
+
+number-requires : tie.Need-number-requires
+number-requires c κs = search needs
+
+slice-aggregate-text-2 : tie.Need-slice-aggregate-text-2
+slice-aggregate-text-2 c = search needs
+
+text-requires-2 : tie.Need-text-requires-2
+text-requires-2 c κs = search needs
 
 returns-2 : tie.Need-returns-2
 returns-2 c = search needs
@@ -44,6 +52,9 @@ rings-spec =
     array-borrow-prefix-next
     slice-aggregate-walk-2
     walk-requires
-    slice-aggregate-print-number
-    print-number-requires
+    slice-aggregate-text
+    text-requires
+    number-requires
+    slice-aggregate-text-2
+    text-requires-2
     returns-2)

@@ -1,14 +1,14 @@
--- `walk_vectors::after` meets its contract. The loop ends by its count. Assumes nothing.
+-- `walk_vectors::after` is safe and ends: it counts up to `times`. Assumes nothing.
 use Prim.Native.Nat.{_≤_, _-_}
 use borrow.Author.Needs.{needs}
 use Rattle.walk_vectors.proofs.after.Statement.{statement}
 use Rattle.walk_vectors.proofs.after.Tie as tie
 
 abbrev Inv-loop : tie.InvT-loop
-Inv-loop s k times w₀ count₀ t9 w count = count ≤ times
+Inv-loop s k times w₀ count₀ w count = count ≤ times
 
 abbrev μ-loop : tie.MeasureT-loop
-μ-loop s k times w₀ count₀ t9 w count = times - count
+μ-loop s k times w₀ count₀ w count = times - count
 
 start-requires : tie.Need-start-requires Inv-loop μ-loop
 start-requires c κs = search needs
@@ -19,17 +19,8 @@ loop-holds c = search needs
 next-prenecklace-requires : tie.Need-next-prenecklace-requires Inv-loop μ-loop
 next-prenecklace-requires c κs = search needs
 
-print-ring-requires : tie.Need-print-ring-requires Inv-loop μ-loop
-print-ring-requires c κs = search needs
-
-print-mark-requires : tie.Need-print-mark-requires Inv-loop μ-loop
-print-mark-requires c κs = search needs
-
-slice-aggregate-text : tie.Need-slice-aggregate-text Inv-loop μ-loop
-slice-aggregate-text c = search needs
-
-text-requires : tie.Need-text-requires Inv-loop μ-loop
-text-requires c κs = search needs
+print-line-requires : tie.Need-print-line-requires Inv-loop μ-loop
+print-line-requires c κs = search needs
 
 add-count : tie.Need-add-count Inv-loop μ-loop
 add-count c = search needs
@@ -52,10 +43,7 @@ after-spec =
     start-requires
     loop-holds
     next-prenecklace-requires
-    print-ring-requires
-    print-mark-requires
-    slice-aggregate-text
-    text-requires
+    print-line-requires
     add-count
     loop-less
     loop-again

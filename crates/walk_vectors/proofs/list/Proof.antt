@@ -1,14 +1,14 @@
--- `walk_vectors::list` meets its contract. The loop ends by its count. Assumes nothing.
+-- `walk_vectors::list` is safe and ends: it counts up to 100. Assumes nothing.
 use Prim.Native.Nat.{_≤_, _-_}
 use borrow.Author.Needs.{needs}
 use Rattle.walk_vectors.proofs.list.Statement.{statement}
 use Rattle.walk_vectors.proofs.list.Tie as tie
 
 abbrev Inv-loop : tie.InvT-loop
-Inv-loop n k marks w₀ count₀ t9 w count = count ≤ 100
+Inv-loop n k marks w₀ count₀ w count = count ≤ 100
 
 abbrev μ-loop : tie.MeasureT-loop
-μ-loop n k marks w₀ count₀ t9 w count = 100 - count
+μ-loop n k marks w₀ count₀ w count = 100 - count
 
 from-zeros-requires : tie.Need-from-zeros-requires Inv-loop μ-loop
 from-zeros-requires c κs = search needs
@@ -16,17 +16,8 @@ from-zeros-requires c κs = search needs
 loop-holds : tie.Need-loop-holds Inv-loop μ-loop
 loop-holds c = search needs
 
-print-ring-requires : tie.Need-print-ring-requires Inv-loop μ-loop
-print-ring-requires c κs = search needs
-
-print-mark-requires : tie.Need-print-mark-requires Inv-loop μ-loop
-print-mark-requires c κs = search needs
-
-slice-aggregate-text : tie.Need-slice-aggregate-text Inv-loop μ-loop
-slice-aggregate-text c = search needs
-
-text-requires : tie.Need-text-requires Inv-loop μ-loop
-text-requires c κs = search needs
+print-line-requires : tie.Need-print-line-requires Inv-loop μ-loop
+print-line-requires c κs = search needs
 
 next-prenecklace-requires : tie.Need-next-prenecklace-requires Inv-loop μ-loop
 next-prenecklace-requires c κs = search needs
@@ -57,10 +48,7 @@ list-spec =
     μ-loop
     from-zeros-requires
     loop-holds
-    print-ring-requires
-    print-mark-requires
-    slice-aggregate-text
-    text-requires
+    print-line-requires
     next-prenecklace-requires
     enum-told
     add-count

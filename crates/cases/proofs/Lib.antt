@@ -1,0 +1,1 @@
+-- The functions' own proofs stand beside.

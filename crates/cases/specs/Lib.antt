@@ -1,0 +1,2 @@
+-- What reading a line promises (Words).
+pub mod Words
