@@ -1,0 +1,135 @@
+-- What the reader looks at: the start, the output, and of the catalogue no more than the 68 bytes from the start on, since a record's head has 4 and n is at most 64.
+--     opening t              those bytes of a part t
+--     opening-record, opening-broken    the record that t begins with is good, or refused, exactly as it is there
+--     trimmed                the answer is that for a catalogue of these bytes, with anything before them
+--     only-record            so two catalogues that agree there have one answer and one output, refusals and End included
+--     past-end               where the start is past the end, it is Cut whatever the bytes are
+-- Assumes nothing.
+use Prim.Native.Nat.{ℕ, zero, suc, _+_, _<_, _≤_}
+use mathlib.Core.Path.{_≡_, refl, sym, ap, _∙_}
+use mathlib.Core.List.{List, [], _∷_, _++_}
+use native.Mathlib.Omega.{arith}
+use lib.ListN.{length, getD, take, drop, replicate, length-append, length-take, length-drop, length-replicate}
+use lib.Seq.{getD-take, take-take, drop-at}
+use Rattle.refusal.specs.declared.Refusal.{Refusal}
+use Rattle.refusal.specs.declared.Refusal.the-variants.{Cut}
+use Rattle.catalogue_record.specs.declared.Kind.{Kind}
+use Rattle.catalogue_record.specs.declared.Entry.{Entry}
+use Rattle.catalogue_record.specs.declared.Entry.the-variants.{Record, End, Refused}
+use Rattle.catalogue_record.specs.Layout.{nOf, kOf, sectorsOf}
+use Rattle.catalogue_record.specs.Order.{Known, After8, After1, After2, After7, After9, Broken, RefusedAt}
+use Rattle.catalogue_record.specs.Order.Broken.{head, mark, size, shades, body, unfit}
+use Rattle.catalogue_record.specs.Order.RefusedAt.{room, past, broken}
+use Rattle.catalogue_record.specs.Says.{Read, ReadSays}
+use Rattle.catalogue_record.proofs.Unique.{one-read}
+
+-- what is left of a beginning is a beginning of what is left
+drop-take : (m n : ℕ) (l : List ℕ) → drop m (take (m + n) l) ≡ take n (drop m l)
+drop-take zero n l = let e : 0 + n ≡ n = omega arith in rw e
+drop-take (suc m) n [] = let e : suc m + n ≡ suc (m + n) = omega arith in rw e (none n)
+  where
+    none : (n : ℕ) → [] ≡ take {A = ℕ} n []
+    none zero = refl
+    none (suc n) = refl
+drop-take (suc m) n (x ∷ l) = let e : suc m + n ≡ suc (m + n) = omega arith in rw e (drop-take m n l)
+
+-- the bytes that a record can have
+abbrev pub opening : List ℕ → List ℕ
+opening t = take 68 t
+
+module _ (t : List ℕ) where
+  at : (i : ℕ) → i < 68 → getD (opening t) i 0 ≡ getD t i 0
+  at i h = getD-take 68 t i 0 h
+
+  same-n : nOf (opening t) ≡ nOf t
+  same-n = at 2 (omega arith)
+
+  same-k : kOf (opening t) ≡ kOf t
+  same-k = at 3 (omega arith)
+
+  -- the sectors, where there are at most 64
+  same-sectors : nOf t ≤ 64 → sectorsOf (opening t) ≡ sectorsOf t
+  same-sectors h = rw (same-n, drop-take 4 64 t) (take-take (nOf t) 64 (drop 4 t) h)
+
+  -- each check tells the same of both
+  known-there : Known t → Known (opening t)
+  known-there k = (k .0, rw (at 0 (omega arith), at 1 (omega arith)) (k .1))
+
+  known-here : Known (opening t) → Known t
+  known-here k = (k .0, rw (at 0 (omega arith), at 1 (omega arith)) at (k .1))
+
+  after8 : After8 t → After8 (opening t)
+  after8 h = (simp length-take (omega arith), known-there (h .1))
+
+  after1 : After1 t → After1 (opening t)
+  after1 h = (after8 (h .0), rw same-n (h .1))
+
+  after2 : After2 t → After2 (opening t)
+  after2 h = (after1 (h .0), rw same-k (h .1))
+
+  after7 : After7 t → After7 (opening t)
+  after7 h = (after2 (h .0), rw (same-n, length-take) (omega arith))
+
+  after9 : After9 t → After9 (opening t)
+  after9 h =
+      let few : nOf t ≤ 64 = omega arith in
+      ((after7 (h .0 .0), rw (same-k, same-sectors few) (h .0 .1)), rw (same-sectors few) (h .1))
+
+  -- a record that is good is good there
+  pub opening-record : (s : ℕ) (b : List ℕ) (n k : ℕ) (x : Kind) (next : ℕ) (d : List ℕ) → Read t s b n k x next d → Read (opening t) s b n k x next d
+  opening-record s b n k x next d f =
+      record {
+        good = after9 (f .good);
+        marked = rw (at 0 (omega arith), at 1 (omega arith)) (f .marked);
+        sectors = f .sectors ∙ sym same-n;
+        shades = f .shades ∙ sym same-k;
+        follows = f .follows;
+        ring = rw (same-sectors (omega (arith, f .good .0 .0 .0 .0 .1 .1))) (f .ring);
+      }
+
+  -- a record that is refused is refused so there
+  pub opening-broken : (s : ℕ) (r : Refusal) → Broken t s r → Broken (opening t) s r
+  opening-broken s r (head e h) = head e (rw length-take (omega arith))
+  opening-broken s r (mark e h k) = mark e (simp length-take (omega arith)) (λ q. k (known-here q))
+  opening-broken s r (size e h k) = size e (after8 h) (rw same-n k)
+  opening-broken s r (shades e h k) = shades e (after1 h) (rw same-k k)
+  opening-broken s r (body e h k) = body e (after2 h) (rw (same-n, length-take) (omega arith))
+  opening-broken s r (unfit h u) = unfit (after7 h) (rw (same-k, same-sectors (omega arith)) u)
+
+-- ---- any catalogue
+
+-- the answer is that for a catalogue of these bytes, with anything before them
+trimmed : (c : List ℕ) (s : ℕ) (b : List ℕ) (r : Entry) (d : List ℕ) → s ≤ length c → ReadSays c s b r d → ReadSays (replicate s 0 ++ opening (drop s c)) s b r d
+trimmed c s b r d l = go r
+  where
+    t : List ℕ
+    t = drop s c
+
+    part : drop s (replicate s 0 ++ opening t) ≡ opening t
+    part = drop-at (replicate s 0) (opening t) s (length-replicate s 0)
+
+    long : length (replicate s 0 ++ opening t) ≡ s + length (opening t)
+    long = length-append (replicate s 0) (opening t) ∙ ap (λ (x : ℕ). x + length (opening t)) (length-replicate s 0)
+
+    some : s < length c → s < length (replicate s 0 ++ opening t)
+    some h = omega (arith, long, length-take 68 t, length-drop s c)
+
+    go : (r : Entry) → ReadSays c s b r d → ReadSays (replicate s 0 ++ opening t) s b r d
+    go (Record n k x next) (e, h, f) = (e, some h, rw part (opening-record t s b n k x next d f))
+    go End (e, h, f) = (e, omega (arith, long, length-take 68 t, length-drop s c), f)
+    go (Refused r) (g, f) = (refuse g, f)
+      where
+        refuse : RefusedAt c s (length b) r → RefusedAt (replicate s 0 ++ opening t) s (length b) r
+        refuse (room e h) = room e h
+        refuse (past e h k) = absurd (omega arith)
+        refuse (broken e h k) = broken e (some h) (rw part (opening-broken t s r k))
+
+-- two catalogues that agree on the 68 bytes from the start on have one answer and one output
+pub only-record : (c c′ : List ℕ) (s : ℕ) (b : List ℕ) (q r : Entry) (u v : List ℕ) → s ≤ length c → s ≤ length c′ → opening (drop s c) ≡ opening (drop s c′) →
+    ReadSays c s b q u → ReadSays c′ s b r v → (q ≡ r) × (u ≡ v)
+only-record c c′ s b q r u v l l′ e f g =
+    one-read (replicate s 0 ++ opening (drop s c)) s b q r u v (trimmed c s b q u l f) (rw e (trimmed c′ s b r v l′ g))
+
+-- where the start is past the end, it is Cut whatever the bytes are, and the output is as it was
+pub past-end : (c : List ℕ) (s : ℕ) (b : List ℕ) (r : Entry) (d : List ℕ) → length b ≡ 64 → length c < s → ReadSays c s b r d → (r ≡ Refused (Cut s)) × (d ≡ b)
+past-end c s b r d e h f = one-read c s b r (Refused (Cut s)) d b f (past refl e h, refl)
