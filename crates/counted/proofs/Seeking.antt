@@ -3,11 +3,11 @@
 --     seek-start, seek-none, seek-asks          the loop starts; there is no place to raise; what repeating asks
 --     lastRaised n start ring                   the place that was raised last, or 0
 --     seek-right                                the place that is raised lies further right than that before: there are at most n rounds
---     seek-size, seek-run, seek-last, seek-falls, seek-found, seek-on    what is raised is a ring, or the search goes on from there
+--     seek-size, seek-run, seek-last, seek-falls, seek-few, seek-found, seek-on    what is raised is a ring, or the search goes on from there
 --     above-opening, above-asks                 the reading is a prenecklace; what repeating asks where it is none
 --     above-size, above-run, above-found, above-on, above-answers    its longest beginning that is one is repeated: that is the ring, or the search goes on from there
 -- Assumes nothing.
-use Prim.Native.Nat.{ℕ, zero, suc, _-_, _<_, _≤_}
+use Prim.Native.Nat.{ℕ, zero, suc, _+_, _-_, _<_, _≤_}
 use mathlib.Core.Path.{_≡_, refl, sym, ap, _∙_, subst}
 use mathlib.Core.Bool.{true, false, true≢false}
 use mathlib.Core.Option.{some}
@@ -74,10 +74,11 @@ pub record Standing (cs : List ℕ) (n k : ℕ) (start ring : List ℕ) (p : ℕ
   pub opening : Opening ring n k cs
   pub next : nextOf (countedNecklace cs) k (take n ring) ≡ nextOf (countedNecklace cs) k (take n start)
   pub reached : upTo (take n start) (take n ring) ≡ true
+  pub within : p ≤ n
   pub further : 0 < p → Further cs n k (take n ring) p
 
 pub seek-start : (cs : List ℕ) (n k : ℕ) (start : List ℕ) → length start ≡ 64 → Opening start n k cs → Standing cs n k start start (lastRaised n start start)
-seek-start cs n k start size p = record { size = size; opening = p; next = refl; reached = upTo-refl (take n start); further = λ h. absurd (omega (arith, last-none n start)) }
+seek-start cs n k start size p = record { size = size; opening = p; next = refl; reached = upTo-refl (take n start); within = omega (arith, last-none n start); further = λ h. absurd (omega (arith, last-none n start)) }
 
 module _ (cs : List ℕ) (n k : ℕ) (start ring : List ℕ) (p : ℕ) (at : Standing cs n k start ring p) (i b : ℕ) (found : Placed ring n k cs (record { end = i; shade = b })) where
   long : length (take n ring) ≡ n
@@ -98,9 +99,9 @@ module _ (cs : List ℕ) (n k : ℕ) (start ring : List ℕ) (p : ℕ) (at : Sta
       found .blocked (d .at) (sec u (d .at)) (omega arith) (d .bound) (omega (arith, d .less, same-sector (d .at) (d .bound))) (r .reading .shades (d .at) (d .bound)) u r
       (λ m q. sym (d .agree m q) ∙ same-sector m (omega (arith, d .bound))) refl
 
-  -- no place can be raised
-  pub seek-none : i ≡ 0 → Answers start n k cs (record { some = false; ring = ring })
-  seek-none z = record { ring = λ e. absurd (true≢false (sym e)); done = λ e. sym (at .next) ∙ step-none cs n k (take n ring) long (no-ring z) }
+  -- no place can be raised; q were, one for each round
+  pub seek-none : i ≡ 0 → (q : ℕ) → q ≤ p → Answers start n k cs (record { some = false; ring = ring; raised = q })
+  seek-none z q few = record { ring = λ e. absurd (true≢false (sym e)); done = λ e. sym (at .next) ∙ step-none cs n k (take n ring) long (no-ring z); soon = omega (arith, at .within) }
 
   module _ (z : i ≡ 0 → ⊥) where
     -- the place lies further right than that before
@@ -187,11 +188,16 @@ module _ (cs : List ℕ) (n k : ℕ) (start ring : List ℕ) (p : ℕ) (at : Sta
       pub seek-falls : n - lastRaised n start (t ++ drop n (set ring (i - 1) b)) < n - p
       seek-falls = omega (arith, seek-last, seek-right, found .within)
 
+      -- one place more was raised, and there are no more than lie up to it
+      pub seek-few : (q : ℕ) → q ≤ p → q + 1 ≤ lastRaised n start (t ++ drop n (set ring (i - 1) b))
+      seek-few q few = omega (arith, seek-last, seek-right)
+
       -- it is a ring of the counts
-      pub seek-found : true ≡ countedNecklace cs (take n (t ++ drop n (set ring (i - 1) b))) → Answers start n k cs (record { some = true; ring = t ++ drop n (set ring (i - 1) b) })
-      seek-found h = record {
+      pub seek-found : true ≡ countedNecklace cs (take n (t ++ drop n (set ring (i - 1) b))) → (q : ℕ) → q ≤ p → Answers start n k cs (record { some = true; ring = t ++ drop n (set ring (i - 1) b); raised = q + 1 })
+      seek-found h q few = record {
         ring = λ e. rw (next-holds .front) (sym (at .next) ∙ step-found cs n k (take n ring) long t step (sym (rw (next-holds .front) at h)));
         done = λ e. absurd (true≢false e);
+        soon = omega (arith, seek-right, found .within);
       }
 
       -- it is none
@@ -202,6 +208,7 @@ module _ (cs : List ℕ) (n k : ℕ) (start ring : List ℕ) (p : ℕ) (at : Sta
         next = rw (next-holds .front) (sym (step-on cs n k (take n ring) long t step (sym (rw (next-holds .front) at h))) ∙ at .next);
         further = λ y. rw (next-holds .front) (record { run = rw whole at (rep .run); other = sym (rw (next-holds .front) at h); ring = begun .ring; known = begun .known; agree = as-begun });
         reached = before-upTo (take n start) (take n (t ++ drop n (set ring (i - 1) b))) risen;
+        within = found .within;
       })
         where
           begun : Begun cs n k ring (i - 1) b
@@ -258,10 +265,11 @@ module _ (cs : List ℕ) (n k : ℕ) (start : List ℕ) (size : length start ≡
     above-run = rw (settled-holds .front) (rep .run)
 
     -- it is a ring of the counts
-    pub above-found : true ≡ countedNecklace cs (take n (t ++ drop n start)) → Answers start n k cs (record { some = true; ring = t ++ drop n start })
+    pub above-found : true ≡ countedNecklace cs (take n (t ++ drop n start)) → Answers start n k cs (record { some = true; ring = t ++ drop n start; raised = 0 })
     above-found h = record {
       ring = λ e. rw (settled-holds .front) (step-found cs n k (take n start) start-long t settled (sym (rw (settled-holds .front) at h)));
       done = λ e. absurd (true≢false e);
+      soon = omega arith;
     }
 
     -- it is none
@@ -270,7 +278,7 @@ module _ (cs : List ℕ) (n k : ℕ) (start : List ℕ) (size : length start ≡
       above-on = step-opening cs n k start t (t ++ drop n start) ready settled (settled-holds .front)
 
       pub above-answers : (r : Sought) → Answers (t ++ drop n start) n k cs r → Answers start n k cs r
-      above-answers r a = record { ring = λ q. on ∙ a .ring q; done = λ q. on ∙ a .done q }
+      above-answers r a = record { ring = λ q. on ∙ a .ring q; done = λ q. on ∙ a .done q; soon = a .soon }
         where
           on : nextOf (countedNecklace cs) k (take n start) ≡ nextOf (countedNecklace cs) k (take n (t ++ drop n start))
           on = rw (settled-holds .front) (step-on cs n k (take n start) start-long t settled (sym (rw (settled-holds .front) at h)))

@@ -17,10 +17,11 @@ fn repeat(s: &mut [u8], p: usize)
     }
 }
 
-// A ring, where there is some.
+// A ring, where there is some, and how many places were raised to find it or to see that there is none.
 pub struct Sought {
     pub some: bool,
     pub ring: [u8; 64],
+    pub raised: usize,
 }
 
 // The least ring of these counts above the prenecklace in the first n sectors. Each round raises a place further right: there are at most n.
@@ -29,6 +30,7 @@ fn seek(start: [u8; 64], n: usize, k: usize, counts: &[usize]) -> Sought
     ensures { λ r. ⌜ Answers start n k (now (counts .entry)) r ⌝ }
 {
     let mut ring = start;
+    let mut raised: usize = 0;
     loop {
         let place = raising_inner::find(ring, n, k, counts);
         let i = place.end;
@@ -36,14 +38,17 @@ fn seek(start: [u8; 64], n: usize, k: usize, counts: &[usize]) -> Sought
             return Sought {
                 some: false,
                 ring: ring,
+                raised: raised,
             };
         }
         ring[i - 1] = place.shade as u8;
         repeat(&mut ring[..n], i);
+        raised += 1;
         if tally_inner::is_counted(&ring[..n], i, counts) {
             return Sought {
                 some: true,
                 ring: ring,
+                raised: raised,
             };
         }
     }
@@ -65,6 +70,7 @@ pub fn above(start: [u8; 64], n: usize, k: usize, counts: &[usize]) -> Sought
         return Sought {
             some: true,
             ring: ring,
+            raised: 0,
         };
     }
     seek(ring, n, k, counts)
