@@ -1,3 +1,2 @@
--- The scan over plain lists (Scanning), and that classifying has one answer (Unique).
-pub mod Scanning
+-- That classifying has one answer (Unique).
 pub mod Unique

@@ -27,7 +27,7 @@ use Rattle.necklaces.proofs.Raise.{raise-lyn}
 use Rattle.necklaces.proofs.Words.{pre-of}
 use Rattle.necklaces.proofs.Lyndon.{run-prenecklace, run-lyn}
 use Rattle.counted.specs.declared.Sought.{Sought}
-use Rattle.classify.specs.Beginning.{Opened}
+use Rattle.scan_inner.specs.Beginning.{Opened}
 use Rattle.counted.specs.Runs.{Repeatable, Repeats}
 use Rattle.raising_inner.specs.Places.{Ring, Blocked, Begun, Placed}
 use Rattle.counted.specs.Above.{Answers}

@@ -1,4 +1,4 @@
--- Repeating a beginning. How far a reading is a prenecklace, and the lyn of that beginning: `classify`, specs/Beginning.
+-- Repeating a beginning. How far a reading is a prenecklace, and the lyn of that beginning: `scan_inner`, specs/Beginning.
 --     Repeatable s p    the first p sectors are a Lyndon word
 --     Repeats p s t     t repeats the first p sectors of s
 -- Assumes nothing.

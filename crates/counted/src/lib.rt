@@ -59,7 +59,7 @@ pub fn above(start: [u8; 64], n: usize, k: usize, counts: &[usize]) -> Sought
     requires { ⌜ Ready start n k (now counts) ⌝ }
     ensures { λ r. ⌜ Answers start n k (now (counts .entry)) r ⌝ }
 {
-    let begun = classify::scan(&start[..n]);
+    let begun = scan_inner::scan(&start[..n]);
     let p = begun.lyn;
     if begun.end == n {
         return seek(start, n, k, counts);

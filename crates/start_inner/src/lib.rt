@@ -44,7 +44,7 @@ pub fn start_good(s: &[u8], k: usize) -> Started
     requires { ⌜ Passed (oneReading (now s) k) ⌝ }
     ensures { λ r. ⌜ StartSays (now (s .entry)) k (r .walk) (r .answer) ⌝ }
 {
-    let class = classify::class_of(s);
+    let class = scan_inner::class_of(s);
     if walk_checks::is_loose(class) {
         return Started {
             walk: empty(),

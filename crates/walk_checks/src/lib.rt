@@ -74,7 +74,7 @@ fn on_walk(ring: [u8; 64], n: usize, class: Class) -> bool
     requires { ⌜ n ≤ 64 ⌝ }
     ensures { λ r. ⌜ r ≡ onWalk (take n ring) class ⌝ }
 {
-    let found = classify::class_of(&ring[..n]);
+    let found = scan_inner::class_of(&ring[..n]);
     if is_loose(found) {
         return false;
     }

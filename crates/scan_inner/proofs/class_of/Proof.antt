@@ -1,16 +1,16 @@
--- `classify::class_of` meets its contract: the class by what the scan found. Assumes nothing.
+-- `scan_inner::class_of` meets its contract: the class by what the scan found. Assumes nothing.
 use Prim.Native.Nat.{ℕ, suc, _≤_, _<_, _+_, _-_}
 use mathlib.Core.Path.{_≡_, _∙_, sym, ap, refl}
 use mathlib.Core.Logic.{⊎-elim}
 use native.Mathlib.Omega.{arith}
 use lib.ListN.{length, getD, take, drop, set}
 use borrow.Author.Needs.{needs}
-use Rattle.classify.proofs.Scanning.{class-empty, class-broken, class-lyndon, class-repeats, class-opens}
-use Rattle.classify.proofs.class_of.Statement.{statement}
-use Rattle.classify.proofs.class_of.Tie as tie
-use Rattle.classify.proofs.class_of.Reads as reads
-use Rattle.classify.proofs.class_of.Lts as lts
-use Rattle.classify.proofs.scan.Reads as scan-reads
+use Rattle.scan_inner.proofs.Scanning.{class-empty, class-broken, class-lyndon, class-repeats, class-opens}
+use Rattle.scan_inner.proofs.class_of.Statement.{statement}
+use Rattle.scan_inner.proofs.class_of.Tie as tie
+use Rattle.scan_inner.proofs.class_of.Reads as reads
+use Rattle.scan_inner.proofs.class_of.Lts as lts
+use Rattle.scan_inner.proofs.scan.Reads as scan-reads
 
 returns : tie.Need-returns
 returns c = class-empty _ (c .if1 .taken)

@@ -5,7 +5,7 @@ use mathlib.Core.List.{List}
 use lib.ListN.{length}
 use Rattle.words.proofs.Sequence.{sec}
 use Rattle.necklaces.proofs.Run.{Run}
-use Rattle.classify.specs.declared.Begun.{Begun}
+use Rattle.scan_inner.specs.declared.Begun.{Begun}
 
 -- the first `end` sectors are a prenecklace with this lyn, and with the next one they are none
 pub record Opened (s : List ℕ) (r : Begun) : Type 0 where

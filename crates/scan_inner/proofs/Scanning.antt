@@ -10,8 +10,8 @@ use Rattle.words.proofs.Sequence.{sec, place}
 use Rattle.rings.specs.declared.Class.the-variants.{Loose, Opening, Repeating, Single}
 use Rattle.rings.specs.Class.{classOf}
 use Rattle.rings.specs.Open.{open-all}
-use Rattle.classify.specs.declared.Begun.{Begun}
-use Rattle.classify.specs.Beginning.{Opened}
+use Rattle.scan_inner.specs.declared.Begun.{Begun}
+use Rattle.scan_inner.specs.Beginning.{Opened}
 use Rattle.necklaces.proofs.Run.{Run, lyn-self, lyn-one, same, smaller, greater}
 use Rattle.necklaces.proofs.Classes.{class-loose, class-opening, class-repeating, class-single}
 

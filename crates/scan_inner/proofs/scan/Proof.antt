@@ -1,15 +1,15 @@
--- `classify::scan` meets its contract. The loop's invariant: the first i sectors are a run of i - j. Assumes nothing.
+-- `scan_inner::scan` meets its contract. The loop's invariant: the first i sectors are a run of i - j. Assumes nothing.
 use Prim.Native.Nat.{ℕ, suc, _≤_, _<_, _+_, _-_}
 use mathlib.Core.Path.{_≡_, _∙_, sym, ap, refl}
 use mathlib.Core.Logic.{⊎-elim}
 use native.Mathlib.Omega.{arith}
 use lib.ListN.{length, getD, take, drop, set}
 use borrow.Author.Needs.{needs}
-use Rattle.classify.proofs.Scanning.{Runs, scan-start, scan-same, scan-greater, scan-breaks, scan-whole}
-use Rattle.classify.proofs.scan.Statement.{statement}
-use Rattle.classify.proofs.scan.Tie as tie
-use Rattle.classify.proofs.scan.Reads as reads
-use Rattle.classify.proofs.scan.Lts as lts
+use Rattle.scan_inner.proofs.Scanning.{Runs, scan-start, scan-same, scan-greater, scan-breaks, scan-whole}
+use Rattle.scan_inner.proofs.scan.Statement.{statement}
+use Rattle.scan_inner.proofs.scan.Tie as tie
+use Rattle.scan_inner.proofs.scan.Reads as reads
+use Rattle.scan_inner.proofs.scan.Lts as lts
 
 abbrev Inv-loop : tie.InvT-loop
 Inv-loop s n j₀ i₀ j i = (i ≤ n) × Runs s i j

@@ -1,0 +1,2 @@
+-- The scan over plain lists (Scanning).
+pub mod Scanning

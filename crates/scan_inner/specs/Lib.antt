@@ -1,0 +1,2 @@
+-- What the scan of a reading finds (Beginning).
+pub mod Beginning
