@@ -1,3 +1,2 @@
--- What the calls promise (Says), and a word that serves the code alone (Around).
+-- What the calls promise (Says).
 pub mod Says
-pub mod Around

@@ -1,11 +1,10 @@
 // Bringing a reading home, and comparing readings by their home readings (01, 'Rules the work stands on').
 
-mod handed;
-mod shift;
-mod turns;
-
 use refusal::Checked;
 use refusal::Refusal;
+use turns_inner::handed;
+use turns_inner::shift;
+use turns_inner::turns;
 ghost use Rattle.refusal.specs.Calls.{oneReading, twoReadings};
 ghost use Rattle.rings.specs.Alike.{evenHanded, sameRing, apart};
 ghost use Rattle.home.specs.Says.{HomeSays, ToldSays, DistanceSays};

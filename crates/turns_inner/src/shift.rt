@@ -1,4 +1,4 @@
-// The shift and the period of a lent reading. No public call: the calls of this crate check what these ask for.
+// The shift and the period of a lent reading. No public call: the calls of `home` check what these ask for.
 
 ghost use mathlib.Core.Path.{_≡_};
 ghost use Prim.Native.Nat.{_<_, _≤_};

@@ -1,9 +1,9 @@
--- `home::turns::sector` meets its contract: `around` gives the place of the sector. Assumes nothing.
+-- `turns_inner::turns::sector` meets its contract: `around` gives the place of the sector. Assumes nothing.
 use native.Mathlib.Omega.{arith}
 use borrow.Author.Needs.{needs}
-use Rattle.home.proofs.Places.{sector-around}
-use Rattle.home.proofs.turns.sector.Statement.{statement}
-use Rattle.home.proofs.turns.sector.Tie as tie
+use Rattle.turns_inner.proofs.Places.{sector-around}
+use Rattle.turns_inner.proofs.turns.sector.Statement.{statement}
+use Rattle.turns_inner.proofs.turns.sector.Tie as tie
 
 around-requires : tie.Need-around-requires
 around-requires c κs = search needs

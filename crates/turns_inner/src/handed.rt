@@ -1,4 +1,4 @@
-// Even-handed readings.
+// Even-handed readings. No public call: `home::even_handed` is.
 
 ghost use mathlib.Core.Path.{_≡_};
 ghost use Rattle.rings.specs.Alike.{evenHanded};

@@ -1,4 +1,4 @@
-// Turns of lent readings, place by place and with no second copy. No public call: the calls of this crate check what these ask for.
+// Turns of lent readings, place by place and with no second copy. No public call: the calls of `home` check what these ask for.
 
 ghost use mathlib.Core.Path.{_≡_};
 ghost use Prim.Native.Nat.{_<_, _≤_};
@@ -6,7 +6,7 @@ ghost use lib.ListN.{length, getD};
 ghost use Rattle.words.specs.Order.{before, same};
 ghost use Rattle.words.specs.Turn.{turn};
 ghost use Rattle.rings.specs.Alike.{differing};
-ghost use Rattle.home.specs.Around.{Around};
+ghost use Rattle.turns_inner.specs.Around.{Around};
 
 // The place i + m on a ring of n places, that is, wrapped once where it runs past the end.
 pub fn around(n: usize, i: usize, m: usize) -> usize

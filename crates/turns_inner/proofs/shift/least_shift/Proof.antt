@@ -1,13 +1,13 @@
--- `home::shift::least_shift` meets its contract. The loop's invariant: best is the first of the least turns by less than i. Assumes nothing.
+-- `turns_inner::shift::least_shift` meets its contract. The loop's invariant: best is the first of the least turns by less than i. Assumes nothing.
 use Prim.Native.Nat.{_≤_, _-_}
 use mathlib.Core.Path.{_∙_, sym}
 use mathlib.Core.Logic.{⊎-elim}
 use native.Mathlib.Omega.{arith}
 use lib.ListN.{length}
 use borrow.Author.Needs.{needs}
-use Rattle.home.proofs.Least.{Best, best-start, best-better, best-stays, best-end}
-use Rattle.home.proofs.shift.least_shift.Statement.{statement}
-use Rattle.home.proofs.shift.least_shift.Tie as tie
+use Rattle.turns_inner.proofs.Least.{Best, best-start, best-better, best-stays, best-end}
+use Rattle.turns_inner.proofs.shift.least_shift.Statement.{statement}
+use Rattle.turns_inner.proofs.shift.least_shift.Tie as tie
 
 abbrev Inv-loop : tie.InvT-loop
 Inv-loop s best₀ i₀ best i = (i ≤ length s) × Best s i best

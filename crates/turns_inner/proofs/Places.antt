@@ -11,7 +11,7 @@ use lib.Seq.{getD-set-same, getD-set-other, ext-getD}
 use Rattle.words.specs.Turn.{turn}
 use Rattle.words.proofs.Split.{lt, eq, gt, tri}
 use Rattle.words.proofs.Turn.{turn-low, turn-high}
-use Rattle.home.specs.Around.{Around}
+use Rattle.turns_inner.specs.Around.{Around}
 
 -- the sector at place m of a turn by i stands in the reading at the place i + m, wrapped once
 pub sector-around : (w : List ℕ) (i m r : ℕ) → i ≤ length w → m < length w → Around (length w) i m r → getD w r 0 ≡ getD (turn i w) m 0

@@ -1,4 +1,4 @@
--- `home::turns::differing_turns` meets its contract. The loop's invariant: d and what is left of the two turns from place m on give the number. Assumes nothing.
+-- `turns_inner::turns::differing_turns` meets its contract. The loop's invariant: d and what is left of the two turns from place m on give the number. Assumes nothing.
 use Prim.Native.Nat.{_≤_, _+_, _-_}
 use mathlib.Core.Path.{_≡_, _∙_, sym}
 use mathlib.Core.Logic.{⊎-elim}
@@ -7,10 +7,10 @@ use lib.ListN.{length, drop}
 use borrow.Author.Needs.{needs}
 use Rattle.words.specs.Turn.{turn}
 use Rattle.words.proofs.Turn.{length-turn}
-use Rattle.home.proofs.Rests.{differing-one, differing-on, differing-end}
+use Rattle.turns_inner.proofs.Rests.{differing-one, differing-on, differing-end}
 use Rattle.rings.specs.Alike.{differing}
-use Rattle.home.proofs.turns.differing_turns.Statement.{statement}
-use Rattle.home.proofs.turns.differing_turns.Tie as tie
+use Rattle.turns_inner.proofs.turns.differing_turns.Statement.{statement}
+use Rattle.turns_inner.proofs.turns.differing_turns.Tie as tie
 
 abbrev Inv-loop : tie.InvT-loop
 Inv-loop a i b j d₀ m₀ d m = (m ≤ length a) × (d ≤ m) × (d + differing (drop m (turn i a)) (drop m (turn j b)) ≡ differing (turn i a) (turn j b))

@@ -1,4 +1,4 @@
--- `home::turns::write_turn` meets its contract. The loop's invariant: the first m sectors are written. Assumes nothing.
+-- `turns_inner::turns::write_turn` meets its contract. The loop's invariant: the first m sectors are written. Assumes nothing.
 use Prim.Native.Nat.{_≤_, _-_}
 use mathlib.Core.Path.{_∙_, sym}
 use native.Mathlib.Omega.{arith}
@@ -6,9 +6,9 @@ use lib.ListN.{length}
 use borrow.Author.Needs.{needs}
 use Rattle.words.specs.Turn.{turn}
 use Rattle.words.proofs.Turn.{length-turn}
-use Rattle.home.proofs.Places.{Written, written-start, written-more, written-end}
-use Rattle.home.proofs.turns.write_turn.Statement.{statement}
-use Rattle.home.proofs.turns.write_turn.Tie as tie
+use Rattle.turns_inner.proofs.Places.{Written, written-start, written-more, written-end}
+use Rattle.turns_inner.proofs.turns.write_turn.Statement.{statement}
+use Rattle.turns_inner.proofs.turns.write_turn.Tie as tie
 
 abbrev Inv-loop : tie.InvT-loop
 Inv-loop s i out₀ m₀ out m = (m ≤ length s) × Written (turn i s) out m

@@ -1,4 +1,4 @@
--- `home::turns::same_turns` meets its contract. The loop's invariant: what is left of the two turns from place m on decides. Assumes nothing.
+-- `turns_inner::turns::same_turns` meets its contract. The loop's invariant: what is left of the two turns from place m on decides. Assumes nothing.
 use Prim.Native.Nat.{_≤_, _-_}
 use mathlib.Core.Path.{_≡_, _∙_, sym, refl}
 use native.Mathlib.Omega.{arith}
@@ -6,10 +6,10 @@ use lib.ListN.{length, drop}
 use borrow.Author.Needs.{needs}
 use Rattle.words.specs.Turn.{turn}
 use Rattle.words.proofs.Turn.{length-turn}
-use Rattle.home.proofs.Rests.{same-no, same-on, same-end}
+use Rattle.turns_inner.proofs.Rests.{same-no, same-on, same-end}
 use Rattle.words.specs.Order.{same}
-use Rattle.home.proofs.turns.same_turns.Statement.{statement}
-use Rattle.home.proofs.turns.same_turns.Tie as tie
+use Rattle.turns_inner.proofs.turns.same_turns.Statement.{statement}
+use Rattle.turns_inner.proofs.turns.same_turns.Tie as tie
 
 abbrev Inv-loop : tie.InvT-loop
 Inv-loop a i b j m₀ m = (m ≤ length a) × (same (drop m (turn i a)) (drop m (turn j b)) ≡ same (turn i a) (turn j b))

@@ -1,9 +1,9 @@
--- `home::shift::repeats_by` meets its contract. Assumes nothing.
+-- `turns_inner::shift::repeats_by` meets its contract. Assumes nothing.
 use mathlib.Core.Path.{_∙_}
 use borrow.Author.Needs.{needs}
-use Rattle.home.proofs.Least.{repeats-not, repeats-same}
-use Rattle.home.proofs.shift.repeats_by.Statement.{statement}
-use Rattle.home.proofs.shift.repeats_by.Tie as tie
+use Rattle.turns_inner.proofs.Least.{repeats-not, repeats-same}
+use Rattle.turns_inner.proofs.shift.repeats_by.Statement.{statement}
+use Rattle.turns_inner.proofs.shift.repeats_by.Tie as tie
 
 rem-if1 : tie.Need-rem-if1
 rem-if1 c = search needs

@@ -18,8 +18,8 @@ use Rattle.words.proofs.Search.{some-of, some-at}
 use Rattle.words.proofs.Lex.{true-same, same-false}
 use Rattle.words.proofs.Turn.{length-turn, getD-reverse}
 use Rattle.rings.specs.Alike.{evenHanded}
-use Rattle.home.specs.Around.{Around}
-use Rattle.home.proofs.Places.{sector-around}
+use Rattle.turns_inner.specs.Around.{Around}
+use Rattle.turns_inner.proofs.Places.{sector-around}
 
 -- the sector at place m of the reversed reading turned by t stands in the reading before the end by the place around
 pub sector-mirrored : (w : List ℕ) (t m r : ℕ) → t ≤ length w → m < length w → Around (length w) t m r → getD w (length w - 1 - r) 0 ≡ getD (turn t (reverse w)) m 0

@@ -1,10 +1,10 @@
--- `home::shift::period_of` meets its contract. The loop's invariant: nothing below p repeats the reading. Assumes nothing.
+-- `turns_inner::shift::period_of` meets its contract. The loop's invariant: nothing below p repeats the reading. Assumes nothing.
 use Prim.Native.Nat.{_-_}
 use mathlib.Core.Path.{_∙_, sym}
 use borrow.Author.Needs.{needs}
-use Rattle.home.proofs.Least.{Unrepeated, unrepeated-start, unrepeated-more, unrepeated-found, unrepeated-end}
-use Rattle.home.proofs.shift.period_of.Statement.{statement}
-use Rattle.home.proofs.shift.period_of.Tie as tie
+use Rattle.turns_inner.proofs.Least.{Unrepeated, unrepeated-start, unrepeated-more, unrepeated-found, unrepeated-end}
+use Rattle.turns_inner.proofs.shift.period_of.Statement.{statement}
+use Rattle.turns_inner.proofs.shift.period_of.Tie as tie
 
 abbrev Inv-loop : tie.InvT-loop
 Inv-loop s n p₀ p = Unrepeated s p

@@ -1,13 +1,13 @@
--- `home::handed::is_even_handed` meets its contract. The outer loop's invariant: no turn passed is the reading; the inner one's: this turn
+-- `turns_inner::handed::is_even_handed` meets its contract. The outer loop's invariant: no turn passed is the reading; the inner one's: this turn
 -- matches in each sector passed. Assumes nothing.
 use Prim.Native.Nat.{_≤_, _-_}
 use mathlib.Core.Path.{_≡_, _∙_, refl}
 use native.Mathlib.Omega.{arith}
 use borrow.Author.Needs.{needs}
-use Rattle.home.proofs.Mirror.{Mirrors, mirrors-start, mirrors-more, mirrors-yes, mirrors-no, Unmirrored, unmirrored-start, unmirrored-more, unmirrored-end}
+use Rattle.turns_inner.proofs.Mirror.{Mirrors, mirrors-start, mirrors-more, mirrors-yes, mirrors-no, Unmirrored, unmirrored-start, unmirrored-more, unmirrored-end}
 use mathlib.Core.Bool.{false}
-use Rattle.home.proofs.handed.is_even_handed.Statement.{statement}
-use Rattle.home.proofs.handed.is_even_handed.Tie as tie
+use Rattle.turns_inner.proofs.handed.is_even_handed.Statement.{statement}
+use Rattle.turns_inner.proofs.handed.is_even_handed.Tie as tie
 
 abbrev Inv-loop : tie.InvT-loop
 Inv-loop s n found t₀ m₀ t m = (t ≡ t₀) × (m ≤ n) × Mirrors s t m

@@ -1,4 +1,4 @@
--- `home::turns::turn_before` meets its contract. The loop's invariant: what is left of the two turns from place m on decides. Assumes nothing.
+-- `turns_inner::turns::turn_before` meets its contract. The loop's invariant: what is left of the two turns from place m on decides. Assumes nothing.
 use Prim.Native.Nat.{_≤_, _-_}
 use mathlib.Core.Path.{_≡_, refl}
 use native.Mathlib.Omega.{arith}
@@ -6,10 +6,10 @@ use lib.ListN.{length, drop}
 use borrow.Author.Needs.{needs}
 use Rattle.words.specs.Turn.{turn}
 use Rattle.words.proofs.Turn.{length-turn}
-use Rattle.home.proofs.Rests.{before-yes, before-no, before-on, before-end}
+use Rattle.turns_inner.proofs.Rests.{before-yes, before-no, before-on, before-end}
 use Rattle.words.specs.Order.{before}
-use Rattle.home.proofs.turns.turn_before.Statement.{statement}
-use Rattle.home.proofs.turns.turn_before.Tie as tie
+use Rattle.turns_inner.proofs.turns.turn_before.Statement.{statement}
+use Rattle.turns_inner.proofs.turns.turn_before.Tie as tie
 
 abbrev Inv-loop : tie.InvT-loop
 Inv-loop s i j m₀ m = (m ≤ length s) × (before (drop m (turn i s)) (drop m (turn j s)) ≡ before (turn i s) (turn j s))

@@ -1,0 +1,2 @@
+-- A word that serves the code alone: where a place stands on a ring (Around).
+pub mod Around
