@@ -14,15 +14,18 @@ pub enum Kind {
     Lyndon,
 }
 
-// Whether a prenecklace of n sectors whose lyn is p is of the kind.
+// Whether a prenecklace of n sectors whose lyn is p is of the kind. Most have p = n: those are Lyndon words, which are of each kind, and nothing is divided.
 pub fn of_kind(kind: Kind, n: usize, p: usize) -> bool
     requires { ⌜ (0 < p) × (p ≤ n) ⌝ }
     ensures { λ r. ⌜ r ≡ kindAt kind n p ⌝ }
 {
+    if p == n {
+        return true;
+    }
     match kind {
         Kind::Prenecklace => true,
         Kind::Necklace => n % p == 0,
-        Kind::Lyndon => p == n,
+        Kind::Lyndon => false,
     }
 }
 
