@@ -1,6 +1,7 @@
 // The sectors of a record, whose numbers are good: 3, 9; and then the front ring. No public calls.
 
 use catalogue_record::Entry;
+use catalogue_record::HEAD;
 use catalogue_record::Kind;
 use classify::Classified;
 use refusal::Refusal;
@@ -18,7 +19,7 @@ pub fn read_body(body: &[u8], start: usize, k: usize, kind: Kind, out: &mut [u8]
     ensures { λ r. ⌜ BodySays (now (body .entry)) start k kind (now (out .entry)) r (now (out .exit)) ⌝ }
 {
     match classify::classify(body, k) {
-        Classified::Refused(r) => Entry::Refused(Refusal::Sector(start + 4 + refusal::place(r))),
+        Classified::Refused(r) => Entry::Refused(Refusal::Sector(start + HEAD + refusal::place(r))),
         Classified::Is(c) => {
             if is_necklace(c) {
                 let n = body.len();
@@ -27,10 +28,10 @@ pub fn read_body(body: &[u8], start: usize, k: usize, kind: Kind, out: &mut [u8]
                     n: n,
                     k: k,
                     kind: kind,
-                    next: start + 4 + n,
+                    next: start + HEAD + n,
                 };
             }
-            Entry::Refused(Refusal::NotHome(start + 4))
+            Entry::Refused(Refusal::NotHome(start + HEAD))
         }
     }
 }

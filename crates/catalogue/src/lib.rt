@@ -3,13 +3,14 @@
 pub use catalogue_record::Entry;
 pub use catalogue_record::Kind;
 use refusal::Refusal;
+use rings::MOST_SECTORS;
 ghost use Rattle.catalogue_record.specs.Says.{ReadSays};
 
 // Reads the record at `start` and writes its front ring, or answers End, or refusal 4, 7, 8, 1, 2, 7, 3 or 9, in this order.
 pub fn read_record(catalogue: &[u8], start: usize, out: &mut [u8]) -> Entry
     ensures { λ r. ⌜ ReadSays (now (catalogue .entry)) start (now (out .entry)) r (now (out .exit)) ⌝ }
 {
-    if out.len() != 64 {
+    if out.len() != MOST_SECTORS {
         return Entry::Refused(Refusal::Room);
     }
     let end = catalogue.len();

@@ -2,6 +2,16 @@
 
 use refusal::Refusal;
 
+// The mark: its first byte, and its second byte in a front and in a back record.
+pub const MARK: u8 = b'R';
+
+pub const FRONT_MARK: u8 = b'F';
+
+pub const BACK_MARK: u8 = b'B';
+
+// The bytes before the sectors: the mark, n and k.
+pub const HEAD: usize = 4;
+
 // The mark's kind: from which side the stored ring is seen.
 pub enum Kind {
     Front,

@@ -3,6 +3,9 @@
 
 use refusal::Checked;
 use refusal::Refusal;
+use rings::FEWEST_SHADES;
+use rings::MOST_SECTORS;
+use rings::MOST_SHADES;
 ghost use Rattle.refusal.specs.Order.{CheckSays};
 ghost use Rattle.refusal.specs.Calls.{numbers};
 ghost use Rattle.checks_inner.specs.Scan.{NoneAbove, Scanned};
@@ -14,16 +17,16 @@ pub fn check_numbers(n: usize, second: usize, k: usize) -> Checked
     if n < 1 {
         return Checked::Refused(Refusal::Length(0));
     }
-    if 64 < n {
+    if MOST_SECTORS < n {
         return Checked::Refused(Refusal::Length(0));
     }
     if second != n {
         return Checked::Refused(Refusal::Pair);
     }
-    if k < 2 {
+    if k < FEWEST_SHADES {
         return Checked::Refused(Refusal::Shades(0)); // too few
     }
-    if 16 < k {
+    if MOST_SHADES < k {
         return Checked::Refused(Refusal::Shades(0)); // too many
     }
     Checked::Good

@@ -1,3 +1,2 @@
--- Sectors written in reverse (Reversing), and the front ring through the contract of bringing home (Fronts).
-pub mod Reversing
+-- The front ring through the contract of bringing home (Fronts).
 pub mod Fronts

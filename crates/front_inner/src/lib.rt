@@ -43,10 +43,6 @@ fn write_reversed(s: &[u8], out: &mut [u8])
     requires { ⌜ length (now out) ≡ length (now s) ⌝ }
     ensures { λ r. ⌜ now (out .exit) ≡ reverse (now (s .entry)) ⌝ }
 {
-    let n = s.len();
-    let mut i = 0;
-    while i < n {
-        out[n - 1 - i] = s[i];
-        i += 1;
-    }
+    let n = bytes::copy(s, out);
+    bytes::reverse(out, 0, n);
 }

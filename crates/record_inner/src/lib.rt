@@ -1,7 +1,11 @@
 // The head of a record: its mark, its numbers, and whether its sectors are all there: 7, 8, 1, 2, 7. No public calls.
 
+use catalogue_record::BACK_MARK;
 use catalogue_record::Entry;
+use catalogue_record::FRONT_MARK;
+use catalogue_record::HEAD;
 use catalogue_record::Kind;
+use catalogue_record::MARK;
 use refusal::Checked;
 use refusal::Refusal;
 ghost use mathlib.Core.Path.{_≡_};
@@ -15,16 +19,16 @@ pub fn read_head(rest: &[u8], start: usize, out: &mut [u8]) -> Entry
     requires { ⌜ Held (start + length (now rest)) × (length (now out) ≡ 64) ⌝ }
     ensures { λ r. ⌜ RecordSays (now (rest .entry)) start (now (out .entry)) r (now (out .exit)) ⌝ }
 {
-    if rest.len() < 4 {
+    if rest.len() < HEAD {
         return Entry::Refused(Refusal::Cut(start));
     }
-    if rest[0] != b'R' {
+    if rest[0] != MARK {
         return Entry::Refused(Refusal::Mark(start));
     }
-    if rest[1] == b'F' {
+    if rest[1] == FRONT_MARK {
         return read_numbers(rest, start, Kind::Front, out);
     }
-    if rest[1] == b'B' {
+    if rest[1] == BACK_MARK {
         return read_numbers(rest, start, Kind::Back, out);
     }
     Entry::Refused(Refusal::Mark(start))
@@ -45,11 +49,11 @@ fn read_numbers(rest: &[u8], start: usize, kind: Kind, out: &mut [u8]) -> Entry
             Entry::Refused(Refusal::Shades(start + 3))
         }
         Checked::Good => {
-            let e = 4 + n;
+            let e = HEAD + n;
             if rest.len() < e {
                 return Entry::Refused(Refusal::Cut(start));
             }
-            body_inner::read_body(&rest[4..e], start, k, kind, out)
+            body_inner::read_body(&rest[HEAD..e], start, k, kind, out)
         }
     }
 }

@@ -1,21 +1,18 @@
--- What the checks leave to the functions behind them, and the copying of sectors.
+-- What the checks leave to the functions behind them.
 --     first-asks, first-found     what filling the output asks, and what it leaves there
 --     next-asks, next-found, next-done    what the search for the next ring asks, and what it answers
---     Copied, copy-more, copy-end         the copying
 -- Assumes nothing.
-use Prim.Native.Nat.{ℕ, _+_, _<_, _≤_}
+use Prim.Native.Nat.{ℕ}
 use mathlib.Core.Path.{_≡_, refl, sym, ap, _∙_}
 use mathlib.Core.Bool.{true, false}
 use mathlib.Core.Option.{none, some}
-use mathlib.Core.List.{List, [], _∷_, _++_}
+use mathlib.Core.List.{List, _++_}
 use native.Mathlib.Omega.{arith}
-use native.Mathlib.Numerals.{add-one}
-use lib.ListN.{length, getD, take, set, length-set}
-use lib.Seq.{take-all, take-suc, take-suc-set, take-append-seam}
+use lib.ListN.{length, take}
+use lib.Seq.{take-all, take-append-seam}
 use Rattle.rings.specs.Counts.{countedNecklace}
 use Rattle.rings.specs.Steps.{firstOf, nextOf}
 use Rattle.refusal.specs.Order.{Passed}
-use Rattle.words.specs.Sum.{sumOf}
 use Rattle.refusal.specs.Calls.{countedFirst, countedNext}
 use Rattle.words.specs.Sum.{sumOf}
 use Rattle.pool.proofs.Letters.{letters}
@@ -61,23 +58,3 @@ module _ (w : List ℕ) (k m : ℕ) (cs t rest : List ℕ) (passed : Passed (cou
   -- or that there is none
   pub next-done : (r : Sought) → Answers (t ++ rest) (length w) k cs r → r .some ≡ false → nextOf (countedNecklace cs) k w ≡ none
   next-done r a h = rw front at (a .done h)
-
--- ---- the copying
-
--- the first i sectors are copied
-pub record Copied (s out : List ℕ) (i : ℕ) : Type 0 where
-  pub long : length out ≡ length s
-  pub within : i ≤ length s
-  pub done : take i out ≡ take i s
-
--- one sector more
-pub copy-more : (s out : List ℕ) (i : ℕ) → Copied s out i → i < length s → Copied s (set out i (getD s i 0)) (i + 1)
-copy-more s out i c h = record {
-  long = length-set out i (getD s i 0) ∙ c .long;
-  within = omega arith;
-  done = rw (add-one i) (take-suc-set out i (getD s i 0) (omega (arith, c .long)) ∙ ap (λ u. u ++ getD s i 0 ∷ []) (c .done) ∙ sym (take-suc s i 0 h));
-}
-
--- all are copied
-pub copy-end : (s out : List ℕ) (i : ℕ) → Copied s out i → length s ≤ i → out ≡ s
-copy-end s out i c h = sym (take-all i out (omega (arith, c .long))) ∙ c .done ∙ take-all i s h

@@ -2,8 +2,6 @@
 
 use refusal::Checked;
 use refusal::Refusal;
-ghost use mathlib.Core.Path.{_≡_};
-ghost use lib.ListN.{length};
 ghost use Rattle.shades.specs.Answers.{FirstSays, NextSays};
 
 // What `first_ring` answers: the ring is in the output, or the call is refused.
@@ -17,18 +15,6 @@ pub enum NextAnswer {
     Ring,
     Done,
     Refused(Refusal),
-}
-
-// The sectors of s, written over all of out.
-fn copy(out: &mut [u8], s: &[u8])
-    requires { ⌜ length (now out) ≡ length (now s) ⌝ }
-    ensures { λ r. ⌜ now (out .exit) ≡ now (s .entry) ⌝ }
-{
-    let mut i = 0;
-    while i < s.len() {
-        out[i] = s[i];
-        i += 1;
-    }
 }
 
 // The least necklace of k shades with exactly these counts; its n is the length of the output.
@@ -53,13 +39,13 @@ pub fn next_ring(s: &[u8], k: usize, counts: &[usize], out: &mut [u8]) -> NextAn
         Checked::Good => {
             let n = s.len();
             let mut start = [0u8; 64];
-            copy(&mut start[..n], s);
+            bytes::copy(s, &mut start[..n]);
             let found = counted::above(start, n, k, counts);
             if !found.some {
                 return NextAnswer::Done;
             }
             let ring = found.ring;
-            copy(out, &ring[..n]);
+            bytes::copy(&ring[..n], out);
             NextAnswer::Ring
         }
     }

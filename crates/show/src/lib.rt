@@ -3,6 +3,7 @@
 use libc::STDOUT_FILENO;
 use refusal::Refusal;
 use rings::Class;
+use rings::MOST_SECTORS;
 
 // A piece of text.
 pub fn text(s: &[u8]) {
@@ -16,19 +17,19 @@ pub fn number(x: usize) {
 
 fn digit(x: u8) -> u8 {
     if x < 10 {
-        return 48 + x;
+        return b'0' + x;
     }
     if x < 16 {
-        return 87 + x;
+        return b'a' - 10 + x;
     }
-    63
+    b'?'
 }
 
 // The sectors of a reading of at most 64, one lower-case hexadecimal digit each; '?' for a byte that is no shade.
 pub fn sectors(s: &[u8]) {
-    let mut row = [63u8; 64];
+    let mut row = [b'?'; 64];
     let n = s.len();
-    if 64 < n {
+    if MOST_SECTORS < n {
         return;
     }
     let mut i = 0;

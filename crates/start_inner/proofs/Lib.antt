@@ -1,2 +1,1 @@
--- A reading laid out with 0 behind it (Laying).
-pub mod Laying
+-- The laws stand in `walk_record` and `copy_laws`.

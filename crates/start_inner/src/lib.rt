@@ -31,11 +31,7 @@ fn lay_out(s: &[u8]) -> [u8; 64]
     ensures { λ r. ⌜ r ≡ laidOut (now (s .entry)) ⌝ }
 {
     let mut ring = [0u8; 64];
-    let mut i = 0;
-    while i < s.len() {
-        ring[i] = s[i];
-        i += 1;
-    }
+    bytes::copy(s, &mut ring);
     ring
 }
 
@@ -45,7 +41,7 @@ pub fn start_good(s: &[u8], k: usize) -> Started
     ensures { λ r. ⌜ StartSays (now (s .entry)) k (r .walk) (r .answer) ⌝ }
 {
     let class = scan_inner::class_of(s);
-    if walk_checks::is_loose(class) {
+    if class_inner::is_loose(class) {
         return Started {
             walk: empty(),
             answer: Checked::Refused(Refusal::OffWalk),

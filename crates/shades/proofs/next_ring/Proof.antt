@@ -2,10 +2,11 @@
 -- Assumes nothing.
 use mathlib.Core.Path.{_≡_, _∙_, sym, refl}
 use native.Mathlib.Omega.{arith}
-use lib.ListN.{length}
+use lib.ListN.{length, take, length-take}
 use borrow.Author.Needs.{needs}
 use lib.Seq.{length-take-le}
 use borrow.Author.Tests.{not-true, not-false}
+use Rattle.copy_laws.proofs.Copy.{copied}
 use Rattle.shades.proofs.Asking.{next-asks, next-found, next-done}
 use Rattle.shades.proofs.next_ring.Statement.{statement}
 use Rattle.shades.proofs.next_ring.Tie as tie
@@ -26,22 +27,22 @@ slice-aggregate-copy : tie.Need-slice-aggregate-copy
 slice-aggregate-copy c = let p = (rw (c .before .enum-told .given .1) at (c .before .before .before .check-next .ensures)) in sym (length-take-le _ _ (omega (arith, p .0 .0 .0 .0 .0 .0 .1)))
 
 copy-requires : tie.Need-copy-requires
-copy-requires c κs = let p = (rw (c .before .enum-told .given .1) at (c .before .before .before .check-next .ensures)) in length-take-le _ _ (omega (arith, p .0 .0 .0 .0 .0 .0 .1))
+copy-requires c κs = let p = (rw (c .before .enum-told .given .1) at (c .before .before .before .check-next .ensures)) in let h = p .0 .0 .0 .0 .0 .0 .1 in simp length-take (omega arith)
 
 above-requires : tie.Need-above-requires
-above-requires c κs = let p = (rw (c .before .before .before .enum-told .given .1) at (c .before .before .before .before .before .check-next .ensures)) in let a = c .before .before .before .before .before .before .before .before .before .args in next-asks (a .s .now) (a .k) (length (a .out .now)) (a .counts .now) _ _ p (c .before .copy .ensures)
+above-requires c κs = let p = (rw (c .before .before .before .enum-told .given .1) at (c .before .before .before .before .before .check-next .ensures)) in let a = c .before .before .before .before .before .before .before .before .before .args in next-asks (a .s .now) (a .k) (length (a .out .now)) (a .counts .now) _ _ p (copied (a .s .now) _ _ (c .before .copy .ensures .1) (let h = p .0 .0 .0 .0 .0 .0 .1 in simp length-take (omega arith)))
 
 returns : tie.Need-returns
-returns c = let p = (rw (c .before .before .before .before .before .before .enum-told .given .1) at (c .before .before .before .before .before .before .before .before .check-next .ensures)) in let a = c .before .before .before .before .before .before .before .before .before .before .before .before .args in (p, next-done (a .s .now) (a .k) (length (a .out .now)) (a .counts .now) _ _ p (c .before .before .before .before .copy .ensures) _ (c .before .before .above .ensures) (not-true _ (c .if1 .taken)), refl)
+returns c = let p = (rw (c .before .before .before .before .before .before .enum-told .given .1) at (c .before .before .before .before .before .before .before .before .check-next .ensures)) in let a = c .before .before .before .before .before .before .before .before .before .before .before .before .args in (p, next-done (a .s .now) (a .k) (length (a .out .now)) (a .counts .now) _ _ p (copied (a .s .now) _ _ (c .before .before .before .before .copy .ensures .1) (let h = p .0 .0 .0 .0 .0 .0 .1 in simp length-take (omega arith))) _ (c .before .before .above .ensures) (not-true _ (c .if1 .taken)), refl)
 
 array-share-prefix-ring : tie.Need-array-share-prefix-ring
-array-share-prefix-ring c = let p = (rw (c .before .before .before .before .before .before .before .before .enum-told .given .1) at (c .before .before .before .before .before .before .before .before .before .before .check-next .ensures)) in let z : length (c .before .before .before .before .above .result .ring) ≡ 64 = search needs in omega (arith, p .0 .0 .0 .0 .0 .0 .1)
+array-share-prefix-ring c = let p = (rw (c .before .before .before .before .before .before .before .enum-told .given .1) at (c .before .before .before .before .before .before .before .before .before .check-next .ensures)) in let z : length (c .before .before .before .above .result .ring) ≡ 64 = search needs in omega (arith, p .0 .0 .0 .0 .0 .0 .1)
 
 slice-aggregate-copy-2 : tie.Need-slice-aggregate-copy-2
-slice-aggregate-copy-2 c = let p = (rw (c .before .before .before .before .before .before .before .before .before .enum-told .given .1) at (c .before .before .before .before .before .before .before .before .before .before .before .check-next .ensures)) in let z : length (c .before .before .before .before .before .above .result .ring) ≡ 64 = search needs in sym (length-take-le _ _ (omega (arith, p .0 .0 .0 .0 .0 .0 .1)))
+slice-aggregate-copy-2 c = let p = (rw (c .before .before .before .before .before .before .before .before .enum-told .given .1) at (c .before .before .before .before .before .before .before .before .before .before .check-next .ensures)) in let z : length (c .before .before .before .before .above .result .ring) ≡ 64 = search needs in sym (length-take-le _ _ (omega (arith, p .0 .0 .0 .0 .0 .0 .1)))
 
 copy-requires-2 : tie.Need-copy-requires-2
-copy-requires-2 c κs = let p = (rw (c .before .before .before .before .before .before .before .before .before .enum-told .given .1) at (c .before .before .before .before .before .before .before .before .before .before .before .check-next .ensures)) in let z : length (c .before .before .before .before .before .above .result .ring) ≡ 64 = search needs in p .0 .0 .1 ∙ sym (length-take-le _ _ (omega (arith, p .0 .0 .0 .0 .0 .0 .1)))
+copy-requires-2 c κs = let p = (rw (c .before .before .before .before .before .before .before .before .before .enum-told .given .1) at (c .before .before .before .before .before .before .before .before .before .before .before .check-next .ensures)) in let z : length (c .before .before .before .before .before .above .result .ring) ≡ 64 = search needs in let h = p .0 .0 .0 .0 .0 .0 .1 in let e = p .0 .0 .1 in simp length-take (omega arith)
 
 returns-2 : tie.Need-returns-2
 returns-2 c = (rw (c .before .r .given .1) at (c .before .before .before .check-next .ensures), refl)
@@ -50,7 +51,7 @@ same-length : tie.Need-same-length
 same-length c = search needs
 
 returns-3 : tie.Need-returns-3
-returns-3 c = let p = (rw (c .before .before .before .before .before .before .before .before .before .before .before .before .enum-told .given .1) at (c .before .before .before .before .before .before .before .before .before .before .before .before .before .before .check-next .ensures)) in let a = c .before .before .before .before .before .before .before .before .before .before .before .before .before .before .before .before .before .before .args in (p, next-found (a .s .now) (a .k) (length (a .out .now)) (a .counts .now) _ _ p (c .before .before .before .before .before .before .before .before .before .before .copy .ensures) _ (c .before .before .before .before .before .before .before .before .above .ensures) (not-false _ (c .before .before .before .before .before .before .if1 .left)) _ (c .before .before .copy2 .ensures))
+returns-3 c = let p = (rw (c .before .before .before .before .before .before .before .before .before .before .before .before .enum-told .given .1) at (c .before .before .before .before .before .before .before .before .before .before .before .before .before .before .check-next .ensures)) in let a = c .before .before .before .before .before .before .before .before .before .before .before .before .before .before .before .before .before .before .args in (p, next-found (a .s .now) (a .k) (length (a .out .now)) (a .counts .now) _ _ p (copied (a .s .now) _ _ (c .before .before .before .before .before .before .before .before .before .before .copy .ensures .1) (let h = p .0 .0 .0 .0 .0 .0 .1 in simp length-take (omega arith))) _ (c .before .before .before .before .before .before .before .before .above .ensures) (not-false _ (c .before .before .before .before .before .before .if1 .left)) _ (let z : length (c .before .before .before .before .before .before .before .before .above .result .ring) ≡ 64 = search needs in let h = p .0 .0 .0 .0 .0 .0 .1 in let e = p .0 .0 .1 in copied (take (length (a .s .now)) (c .before .before .before .before .before .before .before .before .above .result .ring)) (a .out .now) _ (c .before .before .copy2 .ensures .1) (simp length-take (omega arith))))
 
 pub next-ring-spec : {M : Type 1} → statement M
 next-ring-spec =

@@ -1,12 +1,12 @@
--- `walk_checks::on_walk` meets its contract. Assumes nothing.
+-- `class_inner::on_walk` meets its contract. Assumes nothing.
 use mathlib.Core.Path.{_≡_, _∙_, sym}
 use native.Mathlib.Omega.{arith}
 use lib.ListN.{length, take}
 use borrow.Author.Needs.{needs}
 use lib.ListN.{length-take}
 use Rattle.walk_record.proofs.Good.{off-loose, off-tag, off-value, on-class}
-use Rattle.walk_checks.proofs.on_walk.Statement.{statement}
-use Rattle.walk_checks.proofs.on_walk.Tie as tie
+use Rattle.class_inner.proofs.on_walk.Statement.{statement}
+use Rattle.class_inner.proofs.on_walk.Tie as tie
 
 array-share-prefix-ring : tie.Need-array-share-prefix-ring
 array-share-prefix-ring c = search needs

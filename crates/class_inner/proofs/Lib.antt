@@ -1,0 +1,1 @@
+-- The laws stand in `walk_record`.

@@ -1,0 +1,1 @@
+-- What it promises stands in `walk_record`; nothing is defined here.

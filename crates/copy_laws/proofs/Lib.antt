@@ -1,0 +1,2 @@
+-- What copying and reversing bytes leave (Copy).
+pub mod Copy
