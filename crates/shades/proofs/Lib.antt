@@ -1,7 +1,5 @@
 -- The theorems about the two calls.
 --     Least       the letters of given counts in increasing order are the least ring with them
 --     Asking      what the checks leave to the functions behind them
---     Unique      no two answers, nor two outputs, fit one call
 pub mod Least
 pub mod Asking
-pub mod Unique

@@ -1,2 +1,1 @@
--- What the two calls promise.
-pub mod Answers
+-- The calls promise what `shades_answers` says; nothing is defined here.

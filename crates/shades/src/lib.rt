@@ -1,21 +1,10 @@
 // Rings of fixed shade counts (01, 'Walks'): the first, and the next from any reading. A call that is refused, or done, writes nothing.
+// What the calls promise stands in `shades_answers`.
 
 use refusal::Checked;
-use refusal::Refusal;
-ghost use Rattle.shades.specs.Answers.{FirstSays, NextSays};
-
-// What `first_ring` answers: the ring is in the output, or the call is refused.
-pub enum FirstAnswer {
-    Ring,
-    Refused(Refusal),
-}
-
-// What `next_ring` answers: the ring is in the output, or there is none, or the call is refused.
-pub enum NextAnswer {
-    Ring,
-    Done,
-    Refused(Refusal),
-}
+pub use shades_answers::FirstAnswer;
+pub use shades_answers::NextAnswer;
+ghost use Rattle.shades_answers.specs.Answers.{FirstSays, NextSays};
 
 // The least necklace of k shades with exactly these counts; its n is the length of the output.
 pub fn first_ring(k: usize, counts: &[usize], out: &mut [u8]) -> FirstAnswer

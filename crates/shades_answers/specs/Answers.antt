@@ -12,10 +12,10 @@ use Rattle.rings.specs.Counts.{countedNecklace}
 use Rattle.rings.specs.Steps.{firstOf, nextOf}
 use Rattle.refusal.specs.Order.{Given, Passed}
 use Rattle.refusal.specs.Calls.{countedFirst, countedNext}
-use Rattle.shades.specs.declared.FirstAnswer.{FirstAnswer}
-use Rattle.shades.specs.declared.FirstAnswer.the-variants as F
-use Rattle.shades.specs.declared.NextAnswer.{NextAnswer}
-use Rattle.shades.specs.declared.NextAnswer.the-variants as N
+use Rattle.shades_answers.specs.declared.FirstAnswer.{FirstAnswer}
+use Rattle.shades_answers.specs.declared.FirstAnswer.the-variants as F
+use Rattle.shades_answers.specs.declared.NextAnswer.{NextAnswer}
+use Rattle.shades_answers.specs.declared.NextAnswer.the-variants as N
 
 -- the first ring; refusals 1, 2, 6
 abbrev pub FirstSays : ℕ → List ℕ → List ℕ → FirstAnswer → List ℕ → Type 0

@@ -7,11 +7,11 @@ use native.Mathlib.Omega.{arith}
 use lib.ListN.{length}
 use Rattle.refusal.specs.Calls.{countedFirst, countedNext}
 use Rattle.refusal.proofs.Unique.{one-refusal, never-both}
-use Rattle.shades.specs.Answers.{FirstSays, NextSays}
-use Rattle.shades.specs.declared.FirstAnswer.{FirstAnswer}
-use Rattle.shades.specs.declared.FirstAnswer.the-variants as F
-use Rattle.shades.specs.declared.NextAnswer.{NextAnswer}
-use Rattle.shades.specs.declared.NextAnswer.the-variants as N
+use Rattle.shades_answers.specs.Answers.{FirstSays, NextSays}
+use Rattle.shades_answers.specs.declared.FirstAnswer.{FirstAnswer}
+use Rattle.shades_answers.specs.declared.FirstAnswer.the-variants as F
+use Rattle.shades_answers.specs.declared.NextAnswer.{NextAnswer}
+use Rattle.shades_answers.specs.declared.NextAnswer.the-variants as N
 
 -- of the first ring
 pub one-first : (k : ℕ) (cs o : List ℕ) (a b : FirstAnswer) (p q : List ℕ) → FirstSays k cs o a p → FirstSays k cs o b q → (a ≡ b) × (p ≡ q)
