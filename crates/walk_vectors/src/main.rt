@@ -1,8 +1,9 @@
 // Walks run and compared: the lists of 001, Figure 1, and 004, Figure 1, the gap of 001, Figure 2, counts of rings, the hand cases of document 01,
 // the first steps at n = 64 and k = 16, every step's Done, and each refusal. The expected text, stdout, is written from those documents.
-// The cases are the lines of stdin: `list`, n, k and marks; `count`, n, k and a kind of step; `from`, a reading, k and how many steps; `step`, a reading, k and a
-// kind; `made`, n, k, a place and its sector, a class and its number. Marks: 1 has bullets behind what is no necklace, as 001 has them; 2 has N for a
-// necklace and L for a Lyndon word, as 004 has them. Kinds: 0 by prenecklaces, 1 by necklaces, 2 by Lyndon words. Classes: 0 Loose, 1 Opening, 2 Repeating, 3 Single.
+// The cases are the lines of stdin. `list`, a reading, k and marks: it and all prenecklaces after it. `from`, a reading, k and how many: the prenecklaces after it.
+// `count`, a reading, k, a kind of step and n. `step`, a reading, k and a kind. `made`, n, k, a place and its sector, a class and its number: a record that no walk
+// has made. Marks: 1 has bullets behind what is no necklace, as 001 has them; 2 has N for a necklace and L for a Lyndon word, as 004 has them. Classes: 0
+// Loose, 1 Opening, 2 Repeating, 3 Single.
 
 use refusal::Checked;
 use refusal::Refusal;
@@ -22,20 +23,14 @@ fn print_ring(w: Walk) {
 fn print_mark(c: Class, marks: usize) {
     match c {
         Class::Loose => show::text(b" loose"),
-        Class::Opening(_) => bullet(marks),
-        Class::Repeating(_) => letters(marks, b" N"),
-        Class::Single => letters(marks, b" N L"),
+        Class::Opening(_) => mark(marks, 1, b" *"),
+        Class::Repeating(_) => mark(marks, 2, b" N"),
+        Class::Single => mark(marks, 2, b" N L"),
     }
 }
 
-fn bullet(marks: usize) {
-    if marks == 1 {
-        show::text(b" *");
-    }
-}
-
-fn letters(marks: usize, s: &[u8]) {
-    if marks == 2 {
+fn mark(marks: usize, these: usize, s: &[u8]) {
+    if marks == these {
         show::text(s);
     }
 }
@@ -48,65 +43,29 @@ fn print_line(w: Walk, marks: usize) {
     show::text(b"\n");
 }
 
-// One of the three steps.
-fn step(w: Walk, kind: usize) -> Stepped {
-    if kind == 0 {
+// One of the three steps, by the first letter of its kind.
+fn step(w: Walk, kind: u8) -> Stepped {
+    if kind == b'p' {
         return walk::next_prenecklace(w);
     }
-    if kind == 1 {
+    if kind == b'n' {
         return walk::next_necklace(w);
     }
     walk::next_lyndon(w)
 }
 
-fn print_kind(kind: usize) {
-    if kind == 0 {
-        show::text(b" prenecklace ");
-        return;
-    }
-    if kind == 1 {
-        show::text(b" necklace ");
-        return;
-    }
-    show::text(b" lyndon ");
-}
-
-// A walk that starts from the all-zero ring.
-fn from_zeros(n: usize, k: usize) -> Walk {
-    let zeros = [0u8; 64];
-    if 64 < n {
-        let started = walk::start(&zeros, k);
-        return started.walk;
-    }
-    let started = walk::start(&zeros[..n], k);
-    started.walk
-}
-
-// Every prenecklace from the all-zero ring, with its marks.
-fn list(n: usize, k: usize, marks: usize) {
-    let mut w = from_zeros(n, k);
+// The next prenecklaces, at most so many, with their marks.
+fn follow(start: Walk, marks: usize, times: usize) {
+    let mut w = start;
     let mut count: usize = 0;
-    while count < 100 {
-        print_line(w, marks);
+    while count < times {
         let s = walk::next_prenecklace(w);
         let o = s.outcome;
         let Outcome::Moved(_) = o else {
             break;
         };
         w = s.walk;
-        count += 1;
-    }
-}
-
-// The next prenecklaces after a lent one, with bullets behind what is no necklace.
-fn after(s: &[u8], k: usize, times: usize) {
-    let started = walk::start(s, k);
-    let mut w = started.walk;
-    let mut count: usize = 0;
-    while count < times {
-        let t = walk::next_prenecklace(w);
-        w = t.walk;
-        print_line(w, 1);
+        print_line(w, marks);
         count += 1;
     }
 }
@@ -120,9 +79,9 @@ fn moves_of(o: Outcome) -> usize {
     }
 }
 
-// How many rings a walk from the all-zero ring comes to, that ring not counted, and the sum of the moves, Done's included.
-fn count_rings(n: usize, k: usize, kind: usize) {
-    let mut w = from_zeros(n, k);
+// How many rings a walk comes to, the first not counted, and the sum of the moves, Done's included.
+fn count_rings(start: Walk, kind: u8) {
+    let mut w = start;
     let mut count: usize = 0;
     let mut sum: usize = 0;
     while count < 10000 {
@@ -135,18 +94,10 @@ fn count_rings(n: usize, k: usize, kind: usize) {
         w = s.walk;
         count += 1;
     }
-    print_count(n, k, kind);
-    print_moves(count, sum);
+    print_count(count, sum);
 }
 
-fn print_count(n: usize, k: usize, kind: usize) {
-    show::number(k);
-    show::text(b" ");
-    show::number(n);
-    print_kind(kind);
-}
-
-fn print_moves(count: usize, sum: usize) {
+fn print_count(count: usize, sum: usize) {
     show::number(count);
     show::text(b" moves ");
     show::number(sum);
@@ -194,20 +145,6 @@ fn print_refused_start(r: Refusal, w: Walk) {
     print_record(w);
     print_class(w);
     show::text(b"\n");
-}
-
-// One step from a lent reading.
-fn one(s: &[u8], k: usize, kind: usize) {
-    let started = walk::start(s, k);
-    let a = started.answer;
-    match a {
-        Checked::Good => {
-            show::sectors(s);
-            print_kind(kind);
-            print_outcome(step(started.walk, kind));
-        }
-        Checked::Refused(r) => print_refused_start(r, started.walk),
-    }
 }
 
 fn print_answer(o: Outcome) {
@@ -258,16 +195,56 @@ fn made(n: usize, k: usize, at: usize, sector: u8, class: Class) {
 
 // ---- the lines
 
-fn line_of_reading(what: u8, line: &[u8]) {
+// That word of the line, and a space.
+fn echo(line: &[u8], before: usize) {
+    let w = cases::word(line, before);
+    let from = w.from;
+    let to = w.to;
+    show::text(&line[from..to]);
+    show::text(b" ");
+}
+
+// That word's first letter.
+fn letter(line: &[u8], before: usize) -> u8 {
+    let w = cases::word(line, before);
+    let from = w.from;
+    if from < line.len() {
+        return line[from];
+    }
+    0
+}
+
+// A start that went well: `list`, `from`, `count`, `step`.
+fn started(line: &[u8], w: Walk) {
+    let what = letter(line, 0);
+    let kind = letter(line, 3);
+    if what == b'l' {
+        print_line(w, cases::number(line, 3));
+        follow(w, cases::number(line, 3), 100);
+    } else if what == b'f' {
+        follow(w, 1, cases::number(line, 3));
+    } else if what == b'c' {
+        echo(line, 2);
+        echo(line, 4);
+        echo(line, 3);
+        count_rings(w, kind);
+    } else {
+        echo(line, 1);
+        echo(line, 3);
+        print_outcome(step(w, kind));
+    }
+}
+
+// A line that starts from a reading.
+fn line_of_start(line: &[u8]) {
     let mut s = [0u8; 65];
     let n = cases::sectors(line, 1, &mut s);
-    let k = cases::number(line, 2);
-    let x = cases::number(line, 3);
-    if what == b'f' {
-        after(&s[..n], k, x);
-        return;
+    let r = walk::start(&s[..n], cases::number(line, 2));
+    let a = r.answer;
+    match a {
+        Checked::Good => started(line, r.walk),
+        Checked::Refused(x) => print_refused_start(x, r.walk),
     }
-    one(&s[..n], k, x);
 }
 
 fn line_of_made(line: &[u8]) {
@@ -279,34 +256,6 @@ fn line_of_made(line: &[u8]) {
     made(n, k, at, sector, class);
 }
 
-fn line_of_numbers(what: u8, line: &[u8]) {
-    let n = cases::number(line, 1);
-    let k = cases::number(line, 2);
-    let x = cases::number(line, 3);
-    if what == b'l' {
-        list(n, k, x);
-        return;
-    }
-    count_rings(n, k, x);
-}
-
-// One line; the first letter tells what to do.
-fn run(line: &[u8]) {
-    if line.len() < 1 {
-        return;
-    }
-    let what = line[0];
-    if what == b'm' {
-        line_of_made(line);
-    } else if what == b'f' {
-        line_of_reading(what, line);
-    } else if what == b's' {
-        line_of_reading(what, line);
-    } else {
-        line_of_numbers(what, line);
-    }
-}
-
 fn lines(s: &[u8]) {
     let mut at = 0;
     while at < s.len() {
@@ -314,6 +263,14 @@ fn lines(s: &[u8]) {
         run(&s[at..end]);
         at = end + 1;
     }
+}
+
+fn run(line: &[u8]) {
+    if letter(line, 0) == b'm' {
+        line_of_made(line);
+        return;
+    }
+    line_of_start(line);
 }
 
 fn main() {

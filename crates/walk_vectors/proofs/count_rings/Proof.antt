@@ -5,13 +5,10 @@ use Rattle.walk_vectors.proofs.count_rings.Statement.{statement}
 use Rattle.walk_vectors.proofs.count_rings.Tie as tie
 
 abbrev Inv-loop : tie.InvT-loop
-Inv-loop n k kind w₀ count₀ sum₀ w count sum = count ≤ 10000
+Inv-loop kind w₀ count₀ sum₀ w count sum = count ≤ 10000
 
 abbrev μ-loop : tie.MeasureT-loop
-μ-loop n k kind w₀ count₀ sum₀ w count sum = 10000 - count
-
-from-zeros-requires : tie.Need-from-zeros-requires Inv-loop μ-loop
-from-zeros-requires c κs = search needs
+μ-loop kind w₀ count₀ sum₀ w count sum = 10000 - count
 
 loop-holds : tie.Need-loop-holds Inv-loop μ-loop
 loop-holds c = search needs
@@ -40,9 +37,6 @@ loop-again c = search needs
 print-count-requires : tie.Need-print-count-requires Inv-loop μ-loop
 print-count-requires c κs = search needs
 
-print-moves-requires : tie.Need-print-moves-requires Inv-loop μ-loop
-print-moves-requires c κs = search needs
-
 returns : tie.Need-returns Inv-loop μ-loop
 returns c = search needs
 
@@ -52,7 +46,6 @@ count-rings-spec =
     (tie.spec
     Inv-loop
     μ-loop
-    from-zeros-requires
     loop-holds
     step-requires
     moves-of-requires
@@ -62,5 +55,4 @@ count-rings-spec =
     loop-less
     loop-again
     print-count-requires
-    print-moves-requires
     returns)

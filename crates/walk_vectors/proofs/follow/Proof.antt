@@ -1,29 +1,26 @@
--- `walk_vectors::list` is safe and ends: it counts up to 100. Assumes nothing.
+-- `walk_vectors::follow` is safe and ends: it counts up to `times`. Assumes nothing.
 use Prim.Native.Nat.{_≤_, _-_}
 use borrow.Author.Needs.{needs}
-use Rattle.walk_vectors.proofs.list.Statement.{statement}
-use Rattle.walk_vectors.proofs.list.Tie as tie
+use Rattle.walk_vectors.proofs.follow.Statement.{statement}
+use Rattle.walk_vectors.proofs.follow.Tie as tie
 
 abbrev Inv-loop : tie.InvT-loop
-Inv-loop n k marks w₀ count₀ w count = count ≤ 100
+Inv-loop marks times w₀ count₀ w count = count ≤ times
 
 abbrev μ-loop : tie.MeasureT-loop
-μ-loop n k marks w₀ count₀ w count = 100 - count
-
-from-zeros-requires : tie.Need-from-zeros-requires Inv-loop μ-loop
-from-zeros-requires c κs = search needs
+μ-loop marks times w₀ count₀ w count = times - count
 
 loop-holds : tie.Need-loop-holds Inv-loop μ-loop
 loop-holds c = search needs
-
-print-line-requires : tie.Need-print-line-requires Inv-loop μ-loop
-print-line-requires c κs = search needs
 
 next-prenecklace-requires : tie.Need-next-prenecklace-requires Inv-loop μ-loop
 next-prenecklace-requires c κs = search needs
 
 enum-told : tie.Need-enum-told Inv-loop μ-loop
 enum-told c = search needs
+
+print-line-requires : tie.Need-print-line-requires Inv-loop μ-loop
+print-line-requires c κs = search needs
 
 add-count : tie.Need-add-count Inv-loop μ-loop
 add-count c = search needs
@@ -40,17 +37,16 @@ returns c = search needs
 returns-2 : tie.Need-returns-2 Inv-loop μ-loop
 returns-2 c = search needs
 
-pub list-spec : {M : Type 1} → statement M
-list-spec =
+pub follow-spec : {M : Type 1} → statement M
+follow-spec =
     tie.close
     (tie.spec
     Inv-loop
     μ-loop
-    from-zeros-requires
     loop-holds
-    print-line-requires
     next-prenecklace-requires
     enum-told
+    print-line-requires
     add-count
     loop-less
     loop-again
