@@ -1,2 +1,2 @@
--- The plan of a line (01, 'The listing program').
-pub mod Plan
+-- What the parts of the listing's calls promise.
+pub mod Says

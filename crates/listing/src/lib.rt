@@ -1,96 +1,74 @@
-// The listing program (01, 'The listing program'): what a line asks for, and the listing on standard output.
+// The listing program's calls (01, 'The listing program'): what a line asks for, and its output page after page.
 
-use libc::STDOUT_FILENO;
+use pages::Page;
+use pages::State;
+use plan::Planned;
 use refusal::Refusal;
-use text::Parsed;
 ghost use Prim.Native.Nat.{_≤_};
+ghost use mathlib.Core.Path.{_≡_};
 ghost use lib.ListN.{length};
-ghost use Rattle.pages.specs.State.{Listable, most};
-ghost use Rattle.listing.specs.Plan.{NumbersSay, PlanSays};
+ghost use Rattle.plan.specs.Plan.{PlanSays};
+ghost use Rattle.pages.specs.Prints.{most};
+ghost use Rattle.pages.specs.Paging.{lineRoom, First, Next, Paged};
+ghost use Rattle.listing.specs.Says.{emptyPage, RefusedSays};
 
-// What a line asks for: the rings of k shades and n sectors, or a refusal.
-pub enum Planned {
-    Accepted(usize, usize),
-    Refused(Refusal),
-}
+// The greatest power that is not Too many: 2 to the power 24.
+const MOST: usize = 16777216;
 
-// The numbers of a line: 1, 2, 12.
-fn plan_numbers(k: usize, n: usize, limit: usize) -> Planned
-    ensures { λ r. ⌜ NumbersSay limit k n r ⌝ }
-{
-    if n < 1 {
-        return Planned::Refused(Refusal::Length(0));
-    }
-    if 64 < n {
-        return Planned::Refused(Refusal::Length(0));
-    }
-    if k < 2 {
-        return Planned::Refused(Refusal::Shades(0));
-    }
-    if 16 < k {
-        return Planned::Refused(Refusal::Shades(0));
-    }
-    if text::power_above(k, n, limit) {
-        return Planned::Refused(Refusal::TooMany);
-    }
-    Planned::Accepted(k, n)
-}
+// No line is longer, nor are the first two together.
+const LINE_ROOM: usize = 107;
 
-// A line, where a power above `limit` is Too many: 11, 1, 2, 12.
-pub fn plan_within(line: &[u8], limit: usize) -> Planned
-    ensures { λ r. ⌜ PlanSays limit (now (line .entry)) r ⌝ }
-{
-    match text::parse_line(line) {
-        Parsed::Line => Planned::Refused(Refusal::Line),
-        Parsed::Pair(k, n) => plan_numbers(k, n, limit),
-    }
-}
-
-// The listing program's line: more than 2 to the power 24 is Too many.
+// What the listing program's line asks for.
 pub fn plan(line: &[u8]) -> Planned
-    ensures { λ r. ⌜ PlanSays 16777216 (now (line .entry)) r ⌝ }
+    ensures { λ r. ⌜ PlanSays most (now (line .entry)) r ⌝ }
 {
-    plan_within(line, 16777216)
+    plan::plan_line(line, MOST)
 }
 
-// A refusal's line.
-fn print_refused(r: Refusal, buf: &mut [u8]) {
-    let m = text::put_refused(buf, 0, refusal::number(r));
-    io::write_all(STDOUT_FILENO, &buf[..m]);
-}
+// ---- pages
 
-// The listing of numbers that passed the checks, a buffer at a time. Each page but the last has a ring's line at least, so that the rings end the loop; where a
-// write fails, nothing more is written.
-fn print_rings(k: usize, n: usize, buf: &mut [u8])
-    requires { ⌜ Listable most k n ⌝ }
-    requires { ⌜ 200 ≤ length (now buf) ⌝ }
+// A page of no bytes, behind which nothing follows.
+fn empty_page() -> Page
+    ensures { λ r. ⌜ r ≡ emptyPage ⌝ }
 {
-    let opened = pages::open_listing(k, n, buf);
-    let mut page = pages::fill_page(opened.state, buf, opened.at);
-    while page.more {
-        let m = page.at;
-        if !io::write_all(STDOUT_FILENO, &buf[..m]) {
-            return;
-        }
-        page = pages::fill_page(page.state, buf, 0);
+    Page {
+        length: 0,
+        state: pages_inner::empty_state(),
     }
-    let m = page.at;
-    io::write_all(STDOUT_FILENO, &buf[..m]);
 }
 
-// What the program writes for a line, by way of a lent buffer: the listing, or the refusal's line. No public call: no contract can say what is written,
-// and the buffer is the program's.
-pub fn print_through(line: &[u8], buf: &mut [u8])
-    requires { ⌜ 200 ≤ length (now buf) ⌝ }
+// A refusal's page: its line alone.
+fn refused_page(r: Refusal, buf: &mut [u8]) -> Page
+    requires { ⌜ lineRoom ≤ length (now buf) ⌝ }
+    ensures { λ p. ⌜ RefusedSays r (now (buf .entry)) p (now (buf .exit)) ⌝ }
 {
+    let number = refusal::number(r);
+    let end = text_inner::place_refused(buf, 0, number);
+    Page {
+        length: end,
+        state: pages_inner::empty_state(),
+    }
+}
+
+// The first page of the output for a line. Where the buffer has no room for a line it is a page of no bytes.
+pub fn first_page(line: &[u8], buf: &mut [u8]) -> Page
+    ensures { λ r. ⌜ Paged (First (now (line .entry)) (length (now (buf .entry)))) (now (buf .entry)) r (now (buf .exit)) ⌝ }
+{
+    if buf.len() < LINE_ROOM {
+        return empty_page();
+    }
     match plan(line) {
-        Planned::Accepted(k, n) => print_rings(k, n, buf),
-        Planned::Refused(r) => print_refused(r, buf),
+        Planned::Refused(r) => refused_page(r, buf),
+        Planned::Accepted(k, n) => pages_inner::open_page(k, n, buf),
     }
 }
 
-// The same, by way of a buffer of 65,536 bytes.
-pub fn print(line: &[u8]) {
-    let mut buf = io::large_buffer();
-    print_through(line, &mut buf);
+// The page that follows from the state behind another. From a state that is not good nothing follows.
+pub fn next_page(s: State, buf: &mut [u8]) -> Page
+    ensures { λ r. ⌜ Paged (Next s (length (now (buf .entry)))) (now (buf .entry)) r (now (buf .exit)) ⌝ }
+{
+    if !states_inner::is_good(s) {
+        return empty_page();
+    }
+    pages_inner::fill_page(s, buf, 0)
 }

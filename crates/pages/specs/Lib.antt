@@ -1,7 +1,9 @@
--- The text of a listing (01, 'The listing program'), read from top to bottom.
---     Listing    the rings from one ring to another, their lines, and the whole text
+-- What the listing program prints (01, 'The listing program'), read from top to bottom.
+--     Listing    the whole listing of k and n
+--     Prints     the whole output for an input
 --     State      where a listing stands
---     Says       what opening a listing and filling a page promise
+--     Paging     the output in pages, each in a lent buffer
 pub mod Listing
+pub mod Prints
 pub mod State
-pub mod Says
+pub mod Paging

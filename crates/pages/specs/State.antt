@@ -1,48 +1,44 @@
--- Where a listing stands: the walk's record, the number of rings so far and the sum of moves so far.
---     ringsTo k v, movesTo k v    the necklaces of v's length not above v, and the moves from the all-zero ring to v
---     stateAt k v                 the listing has come to the ring v
---     Listable limit k n          k and n may be listed: 1, 2 and 12 passed, for this limit of Too many
---     Stands s                    s is the state at a necklace of numbers that may be listed
+-- Where a listing stands.
+--     ringOf s                the ring of a state: its first n sectors
+--     Good s                  a listing can go on from s
+--     emptyState              nothing follows: behind the last page, behind a refusal, and where a state is not good
+--     startState k n          at the all-zero ring
+--     Rest, stateBehind s r   what is left behind a page: nothing, or the rings above v, where so many rings and moves are behind; and the state that says so
 -- Assumes nothing.
-use Prim.Native.Nat.{ℕ, _^_, _≤_}
+use Prim.Native.Nat.{ℕ, _≤_}
 use mathlib.Core.Path.{_≡_}
-use mathlib.Core.Bool.{true, _&&_}
-use mathlib.Core.Option.{some}
-use mathlib.Core.List.{List}
-use lib.ListN.{length}
-use Rattle.words.specs.Order.{upTo}
-use Rattle.words.specs.Readings.{Sized, Shaded, Reading, readings, count}
+use mathlib.Core.Bool.{true}
+use mathlib.Core.List.{List, _++_}
+use lib.ListN.{take, drop, replicate}
+use Rattle.words.specs.Readings.{Reading}
 use Rattle.rings.specs.Necklace.{necklace}
-use Rattle.rings.specs.Steps.{moves}
-use Rattle.walk_record.specs.Record.{ringOf, walkOf}
+use Rattle.plan.specs.Plan.{Listable}
 use Rattle.pages.specs.declared.State.{State}
-use Rattle.pages.specs.Listing.{zeroRing}
+use Rattle.pages.specs.Prints.{most}
 
--- the necklaces of the same n and k that are not above v
-unfoldable pub ringsTo : ℕ → List ℕ → ℕ
-ringsTo k v = count (λ u. necklace u && upTo u v) (readings (length v) k)
+abbrev pub ringOf : State → List ℕ
+ringOf s = take (s .n) (s .ring)
 
--- the moves from the all-zero ring to v
-unfoldable pub movesTo : ℕ → List ℕ → ℕ
-movesTo k v = moves k (zeroRing (length v)) (some v)
+-- the ring is a necklace of numbers that may be listed, and the counts are none that no listing has
+pub record Good (s : State) : Type 0 where
+  pub numbers : Listable most (s .k) (s .n)
+  pub reading : Reading (s .n) (s .k) (ringOf s)
+  pub member : necklace (ringOf s) ≡ true
+  pub rings : s .rings ≤ most
+  pub moves : s .moves ≤ most
 
--- the listing has come to v
-abbrev pub stateAt : ℕ → List ℕ → State
-stateAt k v = record { walk = walkOf k v; rings = ringsTo k v; moves = movesTo k v }
+abbrev pub emptyState : State
+emptyState = record { k = 0; n = 0; ring = replicate 64 0; rings = 0; moves = 0 }
 
--- n and k are a ring's numbers, and there are at most `limit` readings of them
-pub record Listable (limit k n : ℕ) : Type 0 where
-  pub sized : Sized n
-  pub shaded : Shaded k
-  pub few : k ^ n ≤ limit
+-- one ring, no moves
+abbrev pub startState : ℕ → ℕ → State
+startState k n = record { k = k; n = n; ring = replicate 64 0; rings = 1; moves = 0 }
 
--- the listing program's limit
-abbrev pub most : ℕ
-most = 16777216
+pub data Rest : Type 0 where
+  over : Rest
+  on : (v : List ℕ) (rings moves : ℕ) → Rest
 
--- the listing has come to a necklace of such numbers, and has counted right
-pub record Stands (s : State) : Type 0 where
-  pub at : s ≡ stateAt (s .walk .k) (ringOf (s .walk))
-  pub reading : Reading (s .walk .n) (s .walk .k) (ringOf (s .walk))
-  pub member : necklace (ringOf (s .walk)) ≡ true
-  pub numbers : Listable most (s .walk .k) (s .walk .n)
+-- the sectors past n stay as they were
+abbrev pub stateBehind : State → Rest → State
+stateBehind s over = emptyState
+stateBehind s (on v rings moves) = record { k = s .k; n = s .n; ring = v ++ drop (s .n) (s .ring); rings = rings; moves = moves }

@@ -3,27 +3,21 @@
 --     placed-none, placed-copy, placed-whole    a text copied character by character
 --     placed-sector, placed-sectors          sectors written as digits one by one
 --     placed-short, placed-two, room-short, room-two    a number of one or two digits
---     length-two, length-refused, length-ring, ring-two     how long the lines are, and of which pieces
+--     length-two, length-first, length-last, length-refused, length-ring, ring-two     how long the lines are, and of which pieces
+--     zero-line, zero-room, placed-zero      the line of a ring that comes with 0 moves and has period 1
 --     room-moves, room-period, room-end, placed-ring        a ring's line piece after piece
---     fits-not, fits-behind                  whether a text fits
---     put-no, put-room, put-yes              what is promised of a text that does not fit, and of one that does
---     one-put                                a text, a buffer and a place determine the answer and the buffer afterwards
 -- Assumes nothing.
-use Prim.Native.Nat.{ℕ, zero, suc, _+_, _-_, _/_, _%_, _<_, _≤_}
+use Prim.Native.Nat.{ℕ, zero, suc, _+_, _/_, _%_, _<_, _≤_}
 use mathlib.Core.Path.{_≡_, refl, sym, ap, _∙_}
-use mathlib.Core.Bool.{Bool, true, false, not}
 use mathlib.Core.List.{List, [], _∷_, _++_, map, append-assoc}
 use native.Mathlib.Omega.{arith}
 use native.Mathlib.Numerals.{add-one}
-use native.Mathlib.Decide.{decLt}
-use lib.Dec.{leb}
 use lib.ListN.{length, getD, take, set, length-append, length-map, length-set}
-use lib.Seq.{sets, length-sets, sets-eq, take-suc, take-all}
-use borrow.Author.Tests.{le-leb, lt-leb, leb-true, leb-false, not-true, not-false}
-use Rattle.words.proofs.Split.{agree}
+use lib.Seq.{sets, length-sets, take-suc, take-all}
+use Rattle.text.specs.Ascii.{ascii}
 use Rattle.text.specs.Decimal.{decimal}
-use Rattle.text.specs.Text.{twoNumbers, hexOf, ringLine, refusedLine}
-use Rattle.text.specs.Put.{PutSays, Placed}
+use Rattle.text.specs.Text.{twoNumbers, hexOf, firstLine, ringLine, lastLine, refusedLine}
+use Rattle.text.specs.Put.{Placed}
 use Rattle.text.proofs.Digits.{decimal-short, decimal-two, decimal-some}
 
 -- ---- pieces
@@ -108,6 +102,15 @@ pub length-two : (head : List ℕ) (x : ℕ) (middle : List ℕ) (y : ℕ) → l
 unfolding twoNumbers
 length-two head x middle y = simp length-append
 
+-- the first line and the last
+pub length-first : (k n : ℕ) → length (firstLine k n) ≡ length (decimal k) + length (decimal n) + 16
+unfolding firstLine
+length-first k n = simp length-append (omega arith)
+
+pub length-last : (rings moves : ℕ) → length (lastLine rings moves) ≡ length (decimal rings) + length (decimal moves) + 14
+unfolding lastLine
+length-last rings moves = simp length-append (omega arith)
+
 -- the line of a refusal
 pub length-refused : (x : ℕ) → length (refusedLine x) ≡ length (decimal x) + 9
 unfolding refusedLine
@@ -123,6 +126,19 @@ pub length-ring : (w : List ℕ) (moves p : ℕ) → length (ringLine w moves p)
 length-ring w moves p =
     sym (ap length (ring-two w moves p)) ∙ length-append (map hexOf w) (twoNumbers (32 ∷ []) moves (32 ∷ []) p)
     ∙ rw (length-map w hexOf, length-two (32 ∷ []) moves (32 ∷ []) p) (omega arith)
+
+-- the line of a ring that comes with 0 moves and has period 1
+pub zero-line : (w : List ℕ) → map hexOf w ++ ascii " 0 1\n" ≡ ringLine w 0 1
+unfolding ringLine
+zero-line w = rw (decimal-short 0 (omega arith), decimal-short 1 (omega arith)) (simp append-assoc)
+
+module _ (b : List ℕ) (at : ℕ) (w : List ℕ) (fits : at + length (ringLine w 0 1) ≤ length b) (a : ℕ) (b′ : List ℕ) (sectors : Placed b at (map hexOf w) a b′) where
+  pub zero-room : a + length (ascii " 0 1\n") ≤ length b′
+  zero-room =
+      omega (arith, sectors .next, placed-length b at (map hexOf w) a b′ sectors, simp length-append at (ap length (zero-line w)))
+
+  pub placed-zero : (r : ℕ) (b″ : List ℕ) → Placed b′ a (ascii " 0 1\n") r b″ → Placed b at (ringLine w 0 1) r b″
+  placed-zero r b″ q = rw (zero-line w) at (placed-append b at (map hexOf w) a b′ (ascii " 0 1\n") r b″ sectors q)
 
 -- A ring's line piece after piece: a, c and d are the places behind the sectors, the moves and the period.
 module _ (b : List ℕ) (at : ℕ) (w : List ℕ) (moves p : ℕ) (fits : at + length (ringLine w moves p) ≤ length b) (a : ℕ) (b₁ : List ℕ) (sectors : Placed b at (map hexOf w) a b₁) where
@@ -163,41 +179,3 @@ module _ (b : List ℕ) (at : ℕ) (w : List ℕ) (moves p : ℕ) (fits : at + l
       pub placed-ring : Placed b at (ringLine w moves p) (d + 1) (set b₃ d 10)
       unfolding ringLine
       placed-ring = placed-on b at (map hexOf w ++ (32 ∷ []) ++ decimal moves ++ (32 ∷ []) ++ decimal p) d b₃ 10 third
-
--- ---- whether a text fits
-
--- `at` lies past the end
-pub fits-not : (room at need : ℕ) → room < at → false ≡ leb (at + need) room
-fits-not room at need h = sym (lt-leb (at + need) room (omega arith))
-
--- and `at` itself lies within
-pub fits-behind : (room at need : ℕ) → at ≤ room → leb need (room - at) ≡ leb (at + need) room
-fits-behind room at need h =
-    agree (leb need (room - at)) (leb (at + need) room) (λ e. le-leb (at + need) room (omega (arith, leb-true need (room - at) e)))
-    (λ e. le-leb need (room - at) (omega (arith, leb-true (at + need) room e)))
-
--- the answer f says that a text of l characters fits
-pub put-room : (room at need l : ℕ) (f : Bool) → need ≡ l → f ≡ leb (at + need) room → not f ≡ false → at + l ≤ room
-put-room room at need l f q e h = omega (arith, leb-true (at + need) room (sym e ∙ not-false f h))
-
--- A text t of `need` characters, and the answer f whether it fits.
-module _ (b : List ℕ) (at : ℕ) (t : List ℕ) (need : ℕ) (f : Bool) (l : need ≡ length t) (e : f ≡ leb (at + need) (length b)) where
-  -- it does not fit, and nothing is written
-  pub put-no : not f ≡ true → PutSays b at t at b
-  put-no h =
-      let n : length b < at + need = leb-false (at + need) (length b) (sym e ∙ not-true f h) in
-      record { done = λ m. absurd (omega arith); full = λ m. (refl, refl) }
-
-  -- it fits, and is written
-  pub put-yes : not f ≡ false → (r : ℕ) (b′ : List ℕ) → Placed b at t r b′ → PutSays b at t r b′
-  put-yes h r b′ p =
-      let m = put-room (length b) at need (length t) f l e h in
-      record { done = λ i. (p .next, p .bytes ∙ sets-eq t b at m); full = λ i. absurd (omega arith) }
-
--- a text, a buffer and a place determine the answer and the buffer afterwards
-pub one-put : (b : List ℕ) (at : ℕ) (t : List ℕ) (r s : ℕ) (x y : List ℕ) → PutSays b at t r x → PutSays b at t s y → (r ≡ s) × (x ≡ y)
-one-put b at t r s x y p q =
-    elim (decLt (length b) (at + length t)) [
-      | yes h ↦ (p .full h .0 ∙ sym (q .full h .0), p .full h .1 ∙ sym (q .full h .1))
-      | no h ↦ let l : at + length t ≤ length b = omega arith in (p .done l .0 ∙ sym (q .done l .0), p .done l .1 ∙ sym (q .done l .1))
-    ]

@@ -4,7 +4,6 @@ use Prim.Native.Nat.{ℕ}
 use mathlib.Core.Path.{_≡_, refl}
 use mathlib.Core.List.{List, [], _∷_}
 use Rattle.text.specs.Decimal.{decimalIn, decimal}
-use Rattle.text.specs.Line.{fields}
 use Rattle.text.specs.Ascii.{ascii}
 use Rattle.text.specs.Text.{firstLine, ringLine, lastLine, refusedLine}
 
@@ -17,8 +16,6 @@ table =
     reads (decimal 0) (ascii "0") ∷
     reads (decimal 10) (ascii "10") ∷
     reads (decimal 18446744073709551615) (ascii "18446744073709551615") ∷
-    reads (fields 2 4) (ascii "2 4") ∷
-    reads (fields 0 999) (ascii "0 999") ∷
     reads (firstLine 2 4) (ascii "necklaces k=2 n=4\n") ∷
     reads (ringLine (0 ∷ 0 ∷ 1 ∷ 1 ∷ []) 2 4) (ascii "0011 2 4\n") ∷
     reads (ringLine (9 ∷ 10 ∷ 15 ∷ []) 0 3) (ascii "9af 0 3\n") ∷
@@ -31,5 +28,5 @@ Hold [] = Unit
 Hold (reads s t ∷ rows) = (s ≡ t) × Hold rows
 
 pub samples-hold : Hold table
-unfolding table Hold decimal decimalIn fields firstLine ringLine lastLine refusedLine
-samples-hold = (refl, (refl, (refl, (refl, (refl, (refl, (refl, (refl, (refl, (refl, tt))))))))))
+unfolding table Hold decimal decimalIn firstLine ringLine lastLine refusedLine
+samples-hold = (refl, (refl, (refl, (refl, (refl, (refl, (refl, (refl, tt))))))))

@@ -7,9 +7,10 @@ use Prim.Native.Nat.{ℕ, zero, suc, _+_, _/_, _%_}
 use mathlib.Core.Bool.{true, false}
 use mathlib.Core.List.{List, [], _∷_, _++_}
 use lib.Dec.{ltb}
+use Rattle.text.specs.Ascii.{nought}
 
 abbrev pub digit : ℕ → ℕ
-digit d = 48 + d
+digit d = nought + d
 
 -- the text of x, which has at most m digits
 unfoldable pub decimalIn : ℕ → ℕ → List ℕ

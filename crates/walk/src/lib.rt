@@ -2,7 +2,6 @@
 
 use moves::Kind;
 use refusal::Checked;
-pub use step_inner::go_on;
 pub use walk_record::Outcome;
 pub use walk_record::Started;
 pub use walk_record::Stepped;

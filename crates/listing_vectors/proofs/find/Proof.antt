@@ -1,14 +1,9 @@
 -- `listing_vectors::find` meets its contract. Assumes nothing.
-use Prim.Native.Nat.{ℕ, suc, _≤_, _<_, _+_, _-_}
-use mathlib.Core.Path.{_≡_, _∙_, sym, ap, refl}
-use mathlib.Core.Logic.{⊎-elim}
-use native.Mathlib.Omega.{arith}
-use lib.ListN.{length, getD, take, drop, set}
+use Prim.Native.Nat.{_≤_, _-_}
+use lib.ListN.{length}
 use borrow.Author.Needs.{needs}
 use Rattle.listing_vectors.proofs.find.Statement.{statement}
 use Rattle.listing_vectors.proofs.find.Tie as tie
-use Rattle.listing_vectors.proofs.find.Reads as reads
-use Rattle.listing_vectors.proofs.find.Lts as lts
 
 abbrev Inv-loop : tie.InvT-loop
 Inv-loop s character i₀ i = i ≤ length s

@@ -1,16 +1,9 @@
 -- `listing_vectors::run_all` meets its contract. Assumes nothing.
-use Prim.Native.Nat.{ℕ, suc, _≤_, _<_, _+_, _-_}
-use mathlib.Core.Path.{_≡_, _∙_, sym, ap, refl}
-use mathlib.Core.Logic.{⊎-elim}
-use native.Mathlib.Omega.{arith}
-use lib.ListN.{length, getD, take, drop, set}
+use Prim.Native.Nat.{_≤_, _+_, _-_}
+use lib.ListN.{length}
 use borrow.Author.Needs.{needs}
 use Rattle.listing_vectors.proofs.run_all.Statement.{statement}
 use Rattle.listing_vectors.proofs.run_all.Tie as tie
-use Rattle.listing_vectors.proofs.run_all.Reads as reads
-use Rattle.listing_vectors.proofs.run_all.Lts as lts
-use Rattle.listing_vectors.proofs.find.Reads as find-reads
-use Rattle.listing_vectors.proofs.run.Reads as run-reads
 
 abbrev Inv-loop : tie.InvT-loop
 Inv-loop cases at₀ at = at ≤ length cases + 1

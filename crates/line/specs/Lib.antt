@@ -1,0 +1,2 @@
+-- The line that the listing program reads (01, 'The listing program').
+pub mod Line

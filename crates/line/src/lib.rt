@@ -1,0 +1,95 @@
+// The line that the listing program reads (01, 'The listing program'): k and n.
+ghost use Rattle.line.specs.Line.{ParseSays, FieldsSays, NumberSays, SpaceAt};
+
+// what the line says: k, then n; or that it is malformed
+pub enum Parsed {
+    Pair(usize, usize),
+    Line,
+}
+
+// one number of the line
+pub enum Numeral {
+    Value(usize),
+    Malformed,
+}
+
+// the most digits that a number of the line may have
+const DIGITS: usize = 3;
+
+// A number of one to three digits, with no leading zero.
+fn parse_number(s: &[u8]) -> Numeral
+    ensures { λ r. ⌜ NumberSays (now (s .entry)) r ⌝ }
+{
+    let m = s.len();
+    if m < 1 {
+        return Numeral::Malformed;
+    }
+    if DIGITS < m {
+        return Numeral::Malformed;
+    }
+    if s[0] == b'0' {
+        if m != 1 {
+            return Numeral::Malformed;
+        }
+        return Numeral::Value(0);
+    }
+    let mut x: usize = 0;
+    let mut i = 0;
+    while i < m {
+        let a = s[i];
+        if a < b'0' {
+            return Numeral::Malformed;
+        }
+        if b'9' < a {
+            return Numeral::Malformed;
+        }
+        x = x * 10 + (a - b'0') as usize;
+        i += 1;
+    }
+    Numeral::Value(x)
+}
+
+// The first space, or the length.
+fn first_space(s: &[u8]) -> usize
+    ensures { λ r. ⌜ SpaceAt (now (s .entry)) r ⌝ }
+{
+    let mut i = 0;
+    while i < s.len() {
+        if s[i] == b' ' {
+            return i;
+        }
+        i += 1;
+    }
+    i
+}
+
+// The line without its newline. A second space would stand in the second number, which has only digits.
+fn parse_fields(s: &[u8]) -> Parsed
+    ensures { λ r. ⌜ FieldsSays (now (s .entry)) r ⌝ }
+{
+    let at = first_space(s);
+    if s.len() <= at {
+        return Parsed::Line;
+    }
+    match parse_number(&s[..at]) {
+        Numeral::Malformed => Parsed::Line,
+        Numeral::Value(k) => match parse_number(&s[at + 1..]) {
+            Numeral::Malformed => Parsed::Line,
+            Numeral::Value(n) => Parsed::Pair(k, n),
+        },
+    }
+}
+
+// The whole line: k and n, the newline optional.
+pub fn parse_line(s: &[u8]) -> Parsed
+    ensures { λ r. ⌜ ParseSays (now (s .entry)) r ⌝ }
+{
+    let m = s.len();
+    if m < 1 {
+        return Parsed::Line;
+    }
+    if s[m - 1] == b'\n' {
+        return parse_fields(&s[..m - 1]);
+    }
+    parse_fields(s)
+}

@@ -1,0 +1,20 @@
+-- `listing::empty_page` meets its contract. Assumes nothing.
+use borrow.Author.Needs.{needs}
+use mathlib.Core.Path.{ap}
+use Rattle.pages.specs.declared.State.{State}
+use Rattle.pages.specs.declared.Page.{Page}
+use Rattle.listing.proofs.empty_page.Statement.{statement}
+use Rattle.listing.proofs.empty_page.Tie as tie
+
+empty-state-requires : tie.Need-empty-state-requires
+empty-state-requires c κs = search needs
+
+returns : tie.Need-returns
+returns c = let e = c .empty-state .ensures in λ i. record { length = 0; state = e i }
+
+pub empty-page-spec : {M : Type 1} → statement M
+empty-page-spec =
+    tie.close
+    (tie.spec
+    empty-state-requires
+    returns)

@@ -1,0 +1,2 @@
+-- Laws for placing a listing's pages: their beginning and their end.
+pub mod Filling

@@ -1,0 +1,2 @@
+-- What placing a listing's lines promises.
+pub mod Says

@@ -1,0 +1,1 @@
+// No code: theorems about crate `pages`'s definitions.

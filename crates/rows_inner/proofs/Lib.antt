@@ -1,0 +1,2 @@
+-- The loop over the rings.
+pub mod Loop

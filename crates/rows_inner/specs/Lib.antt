@@ -1,0 +1,2 @@
+-- What placing the lines of rings promises.
+pub mod Says

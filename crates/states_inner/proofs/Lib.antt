@@ -1,0 +1,2 @@
+-- From which states a listing goes on.
+pub mod States

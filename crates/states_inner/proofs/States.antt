@@ -1,0 +1,82 @@
+-- From which states a listing goes on.
+--     closed-necklace, necklace-closed    the classes of necklaces
+--     ring-refused, ring-decided          whether sectors are a necklace of k shades, by what classifying them says
+--     good-numbers, good-decided          whether a state is good, by its numbers and its ring
+-- Assumes nothing.
+use Prim.Native.Nat.{ℕ, _<_, _≤_}
+use mathlib.Core.Path.{_≡_, refl, sym, ap, _∙_}
+use mathlib.Core.Bool.{Bool, true, false}
+use mathlib.Core.List.{List}
+use native.Mathlib.Omega.{arith}
+use lib.ListN.{length, take}
+use lib.Dec.{eqb}
+use lib.Seq.{length-take-le}
+use Rattle.words.proofs.Split.{both-left, clash}
+use Rattle.rings.specs.declared.Class.{Class}
+use Rattle.rings.specs.declared.Class.the-variants.{Loose, Opening, Repeating, Single}
+use Rattle.rings.specs.Necklace.{necklace, lyndon, period}
+use Rattle.rings.specs.Prenecklace.{prenecklace}
+use Rattle.rings.specs.Class.{Classed, classOf}
+use Rattle.necklaces.proofs.Words.{necklace-prenecklace}
+use Rattle.necklaces.proofs.Classes.{classed}
+use Rattle.refusal.specs.declared.Refusal.{Refusal}
+use Rattle.refusal.specs.Order.{Given, Passed}
+use Rattle.refusal.specs.Calls.{oneReading}
+use Rattle.refusal.proofs.Unique.{never-both}
+use Rattle.plan.specs.Plan.{Listable, GivenFor, size, shades, many}
+use Rattle.pages.specs.declared.State.{State}
+use Rattle.pages.specs.Prints.{most}
+use Rattle.pages.specs.State.{ringOf, Good}
+use Rattle.states_inner.specs.Says.{closed, Ring, Decides}
+
+-- a necklace's class, and a class that is a necklace's
+pub closed-necklace : (w : List ℕ) → closed (classOf w) ≡ true → necklace w ≡ true
+unfolding lyndon
+closed-necklace w e = go (classOf w) (classed w) e
+  where
+    go : (c : Class) → Classed w c → closed c ≡ true → necklace w ≡ true
+    go Loose d q = clash false q refl
+    go (Opening p) d q = clash false q refl
+    go (Repeating p) d q = d .0
+    go Single d q = both-left (necklace w) (eqb (period w) (length w)) d
+
+pub necklace-closed : (w : List ℕ) → necklace w ≡ true → closed (classOf w) ≡ true
+necklace-closed w e = go (classOf w) (classed w)
+  where
+    go : (c : Class) → Classed w c → closed c ≡ true
+    go Loose d = clash (prenecklace w) (necklace-prenecklace w e) d
+    go (Opening p) d = clash (necklace w) e (d .1)
+    go (Repeating p) d = refl
+    go Single d = refl
+
+module _ (w : List ℕ) (k : ℕ) where
+  -- classifying refuses no necklace of k shades
+  pub ring-refused : (r : Refusal) → Given (oneReading w k) r → Ring w k → ⊥
+  ring-refused r g q = never-both (oneReading w k) r g ((((((q .sized, tt), q .shaded), q .reading .shades), tt), tt), refl)
+
+  -- and tells it by its class
+  pub ring-decided : (c : Class) (b : Bool) → Passed (oneReading w k) → c ≡ classOf w → b ≡ closed c → Decides b (Ring w k)
+  ring-decided c true p e f =
+      record {
+        sized = p .0 .0 .0 .0 .0 .0;
+        shaded = p .0 .0 .0 .0 .1;
+        reading = record { long = refl; shades = p .0 .0 .0 .1 };
+        member = closed-necklace w (rw e at (sym f));
+      }
+  ring-decided c false p e f = λ q. clash (closed c) (rw e (necklace-closed w (q .member))) (sym f)
+
+-- numbers that are refused are no state's
+pub good-numbers : (s : State) (r : Refusal) → GivenFor most (s .k) (s .n) r → Good s → ⊥
+good-numbers s r (size e f) g = f (g .numbers .sized)
+good-numbers s r (shades e a f) g = f (g .numbers .shaded)
+good-numbers s r (many e a b f) g = omega (arith, g .numbers .few)
+
+module _ (s : State) (l : Listable most (s .k) (s .n)) (long : length (s .ring) ≡ 64) where
+  ring-long : length (ringOf s) ≡ s .n
+  ring-long = length-take-le (s .n) (s .ring) (omega (arith, l .sized))
+
+  -- otherwise the ring tells
+  pub good-decided : (b : Bool) → s .rings ≤ most → s .moves ≤ most → Decides b (Ring (ringOf s) (s .k)) → Decides b (Good s)
+  good-decided true h m q = record { numbers = l; reading = rw ring-long at (q .reading); member = q .member; rings = h; moves = m }
+  good-decided false h m q =
+      λ g. q (record { sized = rw ring-long (l .sized); shaded = l .shaded; reading = rw ring-long (g .reading); member = g .member })

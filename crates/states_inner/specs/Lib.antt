@@ -1,0 +1,2 @@
+-- What deciding whether a listing can go on promises.
+pub mod Says

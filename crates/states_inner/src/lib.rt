@@ -1,0 +1,53 @@
+// Whether a listing can go on from a state (01, 'The listing program'). No public calls: crate `listing` asks.
+
+use classify::Classified;
+use pages::State;
+use plan::Planned;
+use rings::Class;
+ghost use mathlib.Core.Path.{_≡_};
+ghost use Rattle.pages.specs.State.{Good};
+ghost use Rattle.states_inner.specs.Says.{closed, Ring, Decides};
+
+// The greatest power that is not Too many: 2 to the power 24.
+const MOST: usize = 16777216;
+
+// Whether a class is that of a necklace.
+fn is_closed(c: Class) -> bool
+    ensures { λ r. ⌜ r ≡ closed c ⌝ }
+{
+    match c {
+        Class::Loose => false,
+        Class::Opening(_) => false,
+        Class::Repeating(_) => true,
+        Class::Single => true,
+    }
+}
+
+// Whether these sectors are a necklace of k shades.
+fn is_ring(ring: &[u8], k: usize) -> bool
+    ensures { λ r. ⌜ Decides r (Ring (now (ring .entry)) k) ⌝ }
+{
+    match classify::classify(ring, k) {
+        Classified::Refused(_) => false,
+        Classified::Is(c) => is_closed(c),
+    }
+}
+
+// Whether the ring is a necklace of numbers that may be listed, and the counts are none that no listing has.
+pub fn is_good(s: State) -> bool
+    ensures { λ r. ⌜ Decides r (Good s) ⌝ }
+{
+    if MOST < s.rings {
+        return false;
+    }
+    if MOST < s.moves {
+        return false;
+    }
+    let n = s.n;
+    let k = s.k;
+    let ring = s.ring;
+    match plan::plan_numbers(k, n, MOST) {
+        Planned::Refused(_) => false,
+        Planned::Accepted(_, _) => is_ring(&ring[..n], k),
+    }
+}
