@@ -3,6 +3,7 @@ ghost use Prim.Native.Nat.{_+_, _≤_};
 ghost use mathlib.Core.Path.{_≡_};
 ghost use mathlib.Core.List.{map};
 ghost use lib.ListN.{length};
+ghost use Rattle.io.specs.Digits.{glyph};
 ghost use Rattle.text.specs.Decimal.{decimal};
 ghost use Rattle.text.specs.Text.{hexOf};
 ghost use Rattle.text.specs.Put.{Placed};
@@ -39,15 +40,22 @@ pub fn place_decimal(buf: &mut [u8], at: usize, x: usize) -> usize
     place_text(buf, at, &digits[..m])
 }
 
+// What a hexadecimal digit's value is added to: the code of 0, or that of a less 10.
+fn digit_base(d: u8) -> u8
+    ensures { λ r. ⌜ (r + d ≡ glyph d) × (r ≤ 87) ⌝ }
+{
+    if d < 10 {
+        return b'0';
+    }
+    b'a' - 10
+}
+
 // A lower-case hexadecimal digit.
 fn hex(a: u8) -> u8
     ensures { λ r. ⌜ r ≡ hexOf a ⌝ }
 {
     let d = a % 16;
-    if d < 10 {
-        return b'0' + d;
-    }
-    b'a' - 10 + d
+    digit_base(d) + d
 }
 
 // The sectors as hexadecimal digits.
