@@ -1,0 +1,160 @@
+# What the scripts of this folder share; they read it with '.', after setting `top` to the repository's folder. It finds the toolchain's parts and makes a room
+# for what is built, which is removed at the end. Then: build_c, build_list and build_calls build, run runs, count counts instructions.
+# Nothing but the toolchain is needed. Every path may have spaces.
+
+say() { printf '%s: %s\n' "$(basename "$0")" "$*" >&2; }
+die() { say "$*"; exit 2; }
+
+command -v rt >/dev/null 2>&1 || die "the command rt is missing: put the Rattle toolchain's bin folder on PATH"
+kit=$(dirname "$(dirname "$(rt doc)")")
+machine=$(uname -m)
+case $machine in arm64) machine=aarch64 ;; amd64) machine=x86_64 ;; esac
+bin=$kit/on/$machine/toolchain/bin lib=$kit/on/$machine/toolchain/lib
+[ -e "$lib/Scrt1.o" ] || lib=$kit/toolchain/lib
+loader=$lib/ld-linux-x86-64.so.2
+# programs are for x86-64; for another processor the toolchain has an emulator
+emulator=$bin/qemu-x86_64
+[ -x "$emulator" ] || emulator=''
+
+room=$(mktemp -d)
+trap 'rm -rf "$room"' EXIT
+trap 'exit 1' HUP INT TERM
+
+# ---- building
+
+# build_c NAME [FILE..]: room/NAME from NAME.c of this folder and what it links besides, by the toolchain's own compiler.
+build_c() {
+    program=$room/$1
+    "$bin/clang" --target=x86_64-unknown-linux-gnu -O3 -fPIE -c "$top/bench/$1.c" -o "$program.o"
+    shift
+    "$bin/ld.lld" -pie --dynamic-linker /lib64/ld-linux-x86-64.so.2 -o "$program" "$lib/Scrt1.o" "$lib/crti.o" "$lib/crtbeginS.o" "$program.o" "$@" \
+        "$lib/libc.so.6" "$lib/libc_nonshared.a" "$lib/libgcc.a" "$lib/crtendS.o" "$lib/crtn.o"
+}
+
+# build_list: the listing program, where it is not built yet.
+build_list() { "$top/rings" list 2 1 >/dev/null; }
+
+# The calls that are measured, under names that C can call. A refusal answers 255.
+calls_source() {
+    cat <<'RATTLE'
+use home::Homed;
+use shades::NextAnswer;
+use walk::Outcome;
+use walk::Stepped;
+use walk::Walk;
+
+#[no_mangle]
+pub extern "C" fn bring_home(s: &[u8], k: usize, out: &mut [u8]) -> usize {
+    match home::bring_home(s, k, out) {
+        Homed::Home { shift, period } => shift ^ period,
+        Homed::Refused(_) => 255,
+    }
+}
+
+#[no_mangle]
+pub extern "C" fn next_ring(s: &[u8], k: usize, counts: &[usize], out: &mut [u8]) -> usize {
+    match shades::next_ring(s, k, counts, out) {
+        NextAnswer::Ring => 1,
+        NextAnswer::Done => 0,
+        NextAnswer::Refused(_) => 255,
+    }
+}
+
+fn step(w: Walk, kind: usize) -> Stepped {
+    if kind == 1 {
+        return walk::next_prenecklace(w);
+    }
+    if kind == 2 {
+        return walk::next_necklace(w);
+    }
+    walk::next_lyndon(w)
+}
+
+fn moves(o: Outcome) -> usize {
+    match o {
+        Outcome::Moved(m) => m,
+        Outcome::Done(m) => m,
+        Outcome::Refused(_) => 255,
+    }
+}
+
+// A start, and where the kind is not 0 a step behind it.
+#[no_mangle]
+pub extern "C" fn walk_on(s: &[u8], k: usize, kind: usize, out: &mut [u8; 64]) -> usize {
+    let started = walk::start(s, k);
+    let w = started.walk;
+    if kind == 0 {
+        let ring = w.ring;
+        *out = ring;
+        return 0;
+    }
+    let stepped = step(w, kind);
+    let v = stepped.walk;
+    let ring = v.ring;
+    *out = ring;
+    let o = stepped.outcome;
+    moves(o)
+}
+RATTLE
+}
+
+# build_calls [KIT]: room/libcalls.a, the library of those calls for C. It is a crate that only stands here, in a repository of links to the proved crates, so that
+# neither the repository nor its gate has it. The crates are proved first where they are not yet. KIT is another toolchain's folder to build it by.
+build_calls() {
+    crates='home walk shades'
+    say "what is not proved yet is proved first, which may take minutes"
+    # shellcheck disable=SC2086
+    if ! said=$(cd "$top" && rt check $crates 2>&1); then
+        printf '%s\n' "$said" >&2
+        die "the crates to be measured were not proved (see above)"
+    fi
+    mkdir -p "$room/repository/crates/calls/src" "$room/repository/target/rlib"
+    ln -s "$top/crates"/* "$room/repository/crates/"
+    ln -s "$top/target/rlib"/* "$room/repository/target/rlib/"
+    cp -R "$top/target/stamp" "$room/repository/target/stamp"
+    cp "$top/crates.txt" "$room/repository/crates.txt"
+    echo "calls: $crates" >>"$room/repository/crates.txt"
+    calls_source >"$room/repository/crates/calls/src/lib.rt"
+    if ! said=$(cd "$room/repository" && RATTLE_HOME=${1:-$kit} rt staticlib calls 2>&1); then
+        printf '%s\n' "$said" >&2
+        die "the library for C was not built (see above)"
+    fi
+    mv "$room/repository/target/staticlib/libcalls.a" "$room/libcalls.a"
+}
+
+# ---- running and counting
+
+# run PROGRAM [WORD..]: by the toolchain's own loader and C library, under its emulator where the machine needs one.
+run() { ${emulator:+"$emulator"} "$loader" --library-path "$lib" "$@"; }
+
+# The way of counting: the toolchain's emulator where programs run under it; else valgrind where it is installed; else single steps of the processor, which is as
+# exact and much slower. COUNTER=steps or COUNTER=valgrind chooses among the last two.
+choose_counter() {
+    counter=${COUNTER:-}
+    if [ -n "$emulator" ]; then
+        counter=emulator
+    elif [ -z "$counter" ]; then
+        counter=steps
+        ! command -v valgrind >/dev/null 2>&1 || counter=valgrind
+    fi
+    case $counter in
+    emulator) counted_by="the toolchain's emulator, an instruction at a time" ;;
+    valgrind) counted_by=valgrind ;;
+    steps) counted_by='single steps of the processor' && build_c steps ;;
+    *) die "COUNTER is steps or valgrind" ;;
+    esac
+}
+
+# count PROGRAM [WORD..]: how many instructions a run executes, those of the loader included. What the program writes is dropped.
+count() {
+    counted=$(
+        set -- "$loader" --library-path "$lib" "$@"
+        case $counter in
+        emulator) "$emulator" -one-insn-per-tb -d exec,nochain "$@" 2>&1 >/dev/null | grep -c '^Trace' ;;
+        valgrind) valgrind --vgdb=no --tool=callgrind --callgrind-out-file=/dev/null "$@" 2>&1 >/dev/null | sed -n 's/.*Collected : //p' ;;
+        steps) { run "$room/steps" "$@" >/dev/null; } 2>&1 ;;
+        esac
+    ) || true
+    case $counted in '' | *[!0-9]*) die "nothing was counted by $counted_by: $counted" ;; esac
+    echo "$counted"
+}
