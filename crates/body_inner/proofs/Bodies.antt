@@ -15,8 +15,8 @@ use Rattle.rings.specs.declared.Class.the-variants.{Loose, Opening, Repeating, 
 use Rattle.rings.specs.Necklace.{necklace}
 use Rattle.rings.specs.Prenecklace.{prenecklace}
 use Rattle.rings.specs.Class.{Classed, classOf}
-use Rattle.necklaces.proofs.Classes.{classed, lyndon-necklace}
-use Rattle.necklaces.proofs.Words.{necklace-prenecklace}
+use Rattle.necklace_laws.proofs.Classes.{classed, lyndon-necklace}
+use Rattle.necklace_laws.proofs.Words.{necklace-prenecklace}
 use Rattle.refusal.specs.declared.Refusal.{Refusal}
 use Rattle.refusal.specs.declared.Refusal.the-variants.{Sector, NotHome}
 use Rattle.refusal.specs.Numbers.{placeOf}

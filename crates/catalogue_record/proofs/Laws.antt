@@ -13,7 +13,7 @@ use lib.ListN.{length, take, drop, length-drop, length-reverse}
 use lib.Seq.{length-take-le, take-at, drop-at}
 use Rattle.rings.specs.Necklace.{necklace}
 use Rattle.rings.specs.Alike.{mirrored}
-use Rattle.homes.proofs.Home.{length-home, home-necklace}
+use Rattle.home_laws.proofs.Home.{length-home, home-necklace}
 use Rattle.catalogue_record.specs.declared.Kind.{Kind}
 use Rattle.catalogue_record.specs.declared.Kind.the-variants.{Front, Back}
 use Rattle.catalogue_record.specs.declared.Entry.the-variants.{Record}

@@ -9,9 +9,9 @@ use native.Mathlib.Omega.{arith}
 use native.Mathlib.Numerals.{add-one}
 use lib.ListN.{length, getD, take, set, replicate, length-set, replicate-append-replicate}
 use lib.Seq.{take-suc-set, take-all}
-use Rattle.pool.proofs.Cut.{sum-take-suc, sum-take-le}
+use Rattle.pool_laws.proofs.Cut.{sum-take-suc, sum-take-le}
 use Rattle.words.specs.Sum.{sumOf}
-use Rattle.pool.proofs.Letters.{letters, letters-suc, lettersFrom}
+use Rattle.pool_laws.proofs.Letters.{letters, letters-suc, lettersFrom}
 
 -- from place i up to place j the letter x is written, up to e it shall be
 pub record Putting (w₀ : List ℕ) (i e x : ℕ) (w : List ℕ) (j : ℕ) : Type 0 where

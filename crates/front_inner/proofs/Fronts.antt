@@ -14,7 +14,7 @@ use Rattle.words.proofs.Turn.{getD-reverse}
 use Rattle.rings.specs.Necklace.{necklace}
 use Rattle.rings.specs.Home.{home}
 use Rattle.rings.specs.Alike.{mirrored}
-use Rattle.homes.proofs.Home.{necklace-home}
+use Rattle.home_laws.proofs.Home.{necklace-home}
 use Rattle.refusal.specs.Order.{Passed}
 use Rattle.refusal.specs.Calls.{withRoom}
 use Rattle.refusal.proofs.Unique.{never-both}

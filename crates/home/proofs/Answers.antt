@@ -13,7 +13,7 @@ use Rattle.words.specs.Order.{same}
 use Rattle.words.specs.Turn.{turn}
 use Rattle.rings.specs.Home.{home, shift}
 use Rattle.rings.specs.Alike.{sameRing, differing, apart}
-use Rattle.homes.proofs.Home.{shift-lt, turn-back-home}
+use Rattle.home_laws.proofs.Home.{shift-lt, turn-back-home}
 use Rattle.refusal.specs.Order.{Asked, Passed}
 use Rattle.refusal.specs.Calls.{twoReadings, withRoom}
 use Rattle.home.specs.declared.Homed.the-variants as H

@@ -1,5 +1,5 @@
 // The listing program (01, 'The listing program').
 
 fn main() {
-    printing::run();
+    printing_inner::run();
 }

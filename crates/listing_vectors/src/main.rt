@@ -27,7 +27,7 @@ fn find(s: &[u8], character: u8) -> usize
 // What the program writes for a line, by way of 4,096 bytes.
 fn print(line: &[u8]) {
     let mut buf = io::buffer();
-    printing::print_through(line, &mut buf);
+    printing_inner::print_through(line, &mut buf);
 }
 
 // A case: its name, and what the program writes for the line.
@@ -53,7 +53,7 @@ fn run_all(cases: &[u8]) {
 fn run_paged(line: &[u8]) {
     let mut small = [0u8; 107];
     show::text(b"> 107 bytes at a time\n");
-    printing::print_through(line, &mut small);
+    printing_inner::print_through(line, &mut small);
 }
 
 // ---- plans

@@ -12,7 +12,7 @@ use native.Mathlib.Omega.{arith}
 use lib.ListN.{length, drop}
 use Rattle.rings.specs.Necklace.{necklace}
 use Rattle.rings.specs.Steps.{FullWalk, done, step}
-use Rattle.necklaces.proofs.FullWalk.{walk-moves}
+use Rattle.necklace_laws.proofs.FullWalk.{walk-moves}
 use Rattle.refusal.specs.declared.Refusal.{Refusal}
 use Rattle.refusal.specs.Numbers.{numberOf}
 use Rattle.text.specs.Text.{refusedLine}

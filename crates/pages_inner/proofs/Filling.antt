@@ -13,9 +13,9 @@ use lib.ListN.{length, take, drop, length-append, length-replicate}
 use lib.Seq.{ext-getD, getD-take, length-take-le}
 use Rattle.words.proofs.Sequence.{sec}
 use Rattle.rings.specs.Necklace.{period}
-use Rattle.necklaces.proofs.Run.{Run, lyn-one}
-use Rattle.necklaces.proofs.Lyndon.{period-run}
-use Rattle.necklaces.proofs.FullWalk.{length-zeros, zeros-at}
+use Rattle.necklace_laws.proofs.Run.{Run, lyn-one}
+use Rattle.necklace_laws.proofs.Lyndon.{period-run}
+use Rattle.necklace_laws.proofs.FullWalk.{length-zeros, zeros-at}
 use Rattle.text.specs.Text.{firstLine, ringLine, lastLine}
 use Rattle.text.specs.Put.{Placed}
 use Rattle.text.proofs.Digits.{length-decimal}

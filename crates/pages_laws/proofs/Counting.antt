@@ -26,11 +26,11 @@ use Rattle.rings.specs.Necklace.{necklace}
 use Rattle.rings.specs.Prenecklace.{prenecklace}
 use Rattle.rings.specs.Next.{lastLow}
 use Rattle.rings.specs.Steps.{aboveOf, nextOf, passed, moves, howMany}
-use Rattle.necklaces.proofs.Repeat.{Turned}
-use Rattle.necklaces.proofs.Words.{of-neck}
-use Rattle.necklaces.proofs.Next.{low-or-full, none-before}
-use Rattle.necklaces.proofs.Moves.{before-not-same, after-not-same, moves-start, moves-full, moves-join}
-use Rattle.necklaces.proofs.FullWalk.{next-facts, length-zeros, zeros-at, zeros-reading, zeros-necklace, walk-sum, walk-exists, walk-moves}
+use Rattle.necklace_laws.proofs.Repeat.{Turned}
+use Rattle.necklace_laws.proofs.Words.{of-neck}
+use Rattle.necklace_laws.proofs.Next.{low-or-full, none-before}
+use Rattle.necklace_laws.proofs.Moves.{before-not-same, after-not-same, moves-start, moves-full, moves-join}
+use Rattle.necklace_laws.proofs.FullWalk.{next-facts, length-zeros, zeros-at, zeros-reading, zeros-necklace, walk-sum, walk-exists, walk-moves}
 use Rattle.pages.specs.Listing.{zeroRing}
 
 -- the necklaces of the same n and k that are not above v

@@ -13,7 +13,7 @@ use lib.ListN.{length}
 use Rattle.words.specs.Readings.{Reading}
 use Rattle.rings.specs.Necklace.{necklace}
 use Rattle.rings.specs.Steps.{nextOf, moves, FullWalk, done, step}
-use Rattle.necklaces.proofs.FullWalk.{next-facts}
+use Rattle.necklace_laws.proofs.FullWalk.{next-facts}
 use Rattle.text.specs.Text.{lastLine}
 use Rattle.pages.specs.Listing.{row, rows}
 use Rattle.pages.specs.State.{Rest, over, on}

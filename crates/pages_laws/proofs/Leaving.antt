@@ -17,7 +17,7 @@ use lib.Seq.{take-at, length-take-le}
 use Rattle.words.specs.Readings.{Reading}
 use Rattle.rings.specs.Necklace.{necklace, period}
 use Rattle.rings.specs.Steps.{nextOf, moves}
-use Rattle.necklaces.proofs.FullWalk.{next-facts, length-zeros, zeros-reading, zeros-necklace}
+use Rattle.necklace_laws.proofs.FullWalk.{next-facts, length-zeros, zeros-reading, zeros-necklace}
 use Rattle.text.specs.Text.{lastLine}
 use Rattle.text.proofs.Put.{length-last, length-ring}
 use Rattle.plan.specs.Plan.{Listable}

@@ -16,7 +16,7 @@ use Rattle.words.specs.Readings.{Reading}
 use Rattle.rings.specs.Necklace.{necklace}
 use Rattle.rings.specs.Prenecklace.{prenecklace}
 use Rattle.rings.specs.Steps.{howMany, FullWalk, done, step}
-use Rattle.necklaces.proofs.FullWalk.{next-facts, length-zeros, zeros-reading, zeros-necklace, walk-sum, walk-exists}
+use Rattle.necklace_laws.proofs.FullWalk.{next-facts, length-zeros, zeros-reading, zeros-necklace, walk-sum, walk-exists}
 use Rattle.text.specs.Text.{lastLine}
 use Rattle.plan.specs.Plan.{Listable}
 use Rattle.pages.specs.declared.State.{State}

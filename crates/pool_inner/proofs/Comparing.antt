@@ -16,7 +16,7 @@ use Rattle.words.specs.Order.{before, same}
 use Rattle.words.proofs.Split.{lt, eq, gt, tri}
 use Rattle.words.proofs.Sequence.{sec, one-more}
 use Rattle.words.proofs.Lex.{before-irrefl, before-asym, true-same, same-false}
-use Rattle.pool.proofs.Under.{before-place}
+use Rattle.pool_laws.proofs.Under.{before-place}
 
 -- the two have the same letters below place j
 abbrev pub Agree : List ℕ → List ℕ → ℕ → Type 0

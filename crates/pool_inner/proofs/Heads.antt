@@ -15,8 +15,8 @@ use Rattle.words.specs.Order.{same}
 use Rattle.words.proofs.Split.{clash}
 use Rattle.words.proofs.Sequence.{sec, place}
 use Rattle.words.proofs.Lex.{same-true, true-same}
-use Rattle.pool.proofs.Cut.{parts}
-use Rattle.pool.proofs.Held.{Leads, leads-one, leads-more, leads-next}
+use Rattle.pool_laws.proofs.Cut.{parts}
+use Rattle.pool_laws.proofs.Held.{Leads, leads-one, leads-more, leads-next}
 use Rattle.pool_inner.specs.Pool.{Laid, Leading}
 
 -- the first q of the t words are copies of the first

@@ -9,7 +9,7 @@ use lib.ListN.{length, set, length-set}
 use lib.Seq.{getD-set-same, getD-set-other}
 use Rattle.words.proofs.Split.{lt, eq, gt, tri}
 use Rattle.words.proofs.Sequence.{sec, place}
-use Rattle.pool.proofs.Cut.{Moved}
+use Rattle.pool_laws.proofs.Cut.{Moved}
 
 -- the places from o up to i have their new letters
 pub record Moving (o g l : ℕ) (v w : List ℕ) (i : ℕ) : Type 0 where

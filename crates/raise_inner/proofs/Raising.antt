@@ -18,7 +18,7 @@ use Rattle.words.specs.Search.{greatest}
 use Rattle.words.proofs.Split.{lt, eq, gt, tri, clash}
 use Rattle.words.proofs.Search.{greatest-is, greatest-at, greatest-le}
 use Rattle.rings.specs.Next.{lowAt, lastLow, raised, repeated}
-use Rattle.necklaces.proofs.Next.{length-raised, raised-low, raised-last, length-repeated, repeated-at}
+use Rattle.necklace_laws.proofs.Next.{length-raised, raised-low, raised-last, length-repeated, repeated-at}
 
 -- ---- the last place to raise
 

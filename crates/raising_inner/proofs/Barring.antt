@@ -20,12 +20,12 @@ use Rattle.words.proofs.Sequence.{sec}
 use Rattle.rings.specs.Necklace.{lyndon}
 use Rattle.rings.specs.Prenecklace.{prenecklace}
 use Rattle.rings.specs.Counts.{occurs}
-use Rattle.necklaces.proofs.Run.{Lyn, pre-through}
-use Rattle.necklaces.proofs.Raise.{raise-lyn}
-use Rattle.necklaces.proofs.Words.{pre-of}
-use Rattle.necklaces.proofs.Lyndon.{lyndon-of}
+use Rattle.necklace_laws.proofs.Run.{Lyn, pre-through}
+use Rattle.necklace_laws.proofs.Raise.{raise-lyn}
+use Rattle.necklace_laws.proofs.Words.{pre-of}
+use Rattle.necklace_laws.proofs.Lyndon.{lyndon-of}
 use Rattle.words.specs.Sum.{sumOf}
-use Rattle.completable.specs.Completion.{Completing, Hopeless, Hopeful, Decides}
+use Rattle.completable_inner.specs.Completion.{Completing, Hopeless, Hopeful, Decides}
 use Rattle.raising_inner.specs.Places.{Barred, Fitting, Allows, Possible, Liftable, Lifted, LiftedTo}
 use Rattle.tally_inner.proofs.Tallying.{occurs-none, occurs-here, occurs-other}
 use Rattle.tally_inner.proofs.Leaving.{sum-le}
@@ -137,7 +137,7 @@ raised-lyndon w l b inside pre h = lyndon-of al (omega (arith, long)) (subst (Ly
     last : sec al l ≡ b
     last = getD-at (take l w) b [] 0 l short
 
-    first : Rattle.necklaces.proofs.Run.Pre (sec w) (suc l)
+    first : Rattle.necklace_laws.proofs.Run.Pre (sec w) (suc l)
     first = pre-through (sec (take (suc l) w)) (sec w) (suc l) (λ m k. getD-take (suc l) w m 0 k) (rw (length-take-le (suc l) w (omega arith)) at (pre-of (take (suc l) w) pre))
 
 -- ---- the shades above that at place l, one after the other

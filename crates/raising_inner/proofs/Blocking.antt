@@ -19,9 +19,9 @@ use Rattle.rings.specs.Necklace.{necklace}
 use Rattle.rings.specs.Counts.{occurs, hasCounts, countedNecklace}
 use Rattle.rings.specs.Prenecklace.{prenecklace}
 use Rattle.words.specs.Sum.{sumOf}
-use Rattle.necklaces.proofs.Run.{pre-shorter, pre-through}
-use Rattle.necklaces.proofs.Words.{pre-of, of-pre}
-use Rattle.pool.proofs.Copies.{occurs-append}
+use Rattle.necklace_laws.proofs.Run.{pre-shorter, pre-through}
+use Rattle.necklace_laws.proofs.Words.{pre-of, of-pre}
+use Rattle.pool_laws.proofs.Copies.{occurs-append}
 use Rattle.raising_inner.specs.Places.{Ring, Blocked, Begun, Barred, Fitting, Liftable, LiftedTo, Raisable, Raises, Placed}
 use Rattle.tally_inner.specs.Remaining.{Remains, Exceeds}
 use Rattle.raising_inner.specs.Ready.{Opening}

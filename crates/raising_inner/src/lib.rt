@@ -1,4 +1,4 @@
-// The last place of a prenecklace that can be raised so that the pool leaves a completion (`completable`). No public calls.
+// The last place of a prenecklace that can be raised so that the pool leaves a completion (`completable_inner`). No public calls.
 ghost use lib.ListN.{take};
 ghost use Rattle.raising_inner.specs.Places.{Possible, Allows, Liftable, LiftedTo, Raisable, Raises, Placed};
 ghost use Rattle.raising_inner.specs.Ready.{Opening};
@@ -15,7 +15,7 @@ fn possible(w: [u8; 64], l: usize, b: usize, rem: [usize; 16]) -> bool
     al[l] = b as u8;
     let mut left = rem;
     left[b] -= 1;
-    completable::completable(&al[..l + 1], &left)
+    completable_inner::completable(&al[..l + 1], &left)
 }
 
 // The least shade above that at place l to which letters leave a completion, or k.

@@ -2,7 +2,7 @@
 -- Repeating, with its period, is a necklace and no Lyndon word; Single is a Lyndon word.
 --     Classed w c    w is of class c, by the page's sentence for c
 --     classOf w      the class of w
--- That each reading has exactly one class, `classOf w`: `necklaces`, proofs/Classes. Assumes nothing.
+-- That each reading has exactly one class, `classOf w`: `necklace_laws`, proofs/Classes. Assumes nothing.
 use Prim.Native.Nat.{ℕ}
 use mathlib.Core.Path.{_≡_}
 use mathlib.Core.Bool.{true, false}

@@ -29,6 +29,6 @@ period w = suc (least (length w) (λ i. repeatsBy w (suc i)))
 unfoldable pub lyndon : List ℕ → Bool
 lyndon w = necklace w && eqb (period w) (length w)
 
--- the other form of a Lyndon word: below each of its other turns. proofs of `necklaces`, Lyndon: the two agree
+-- the other form of a Lyndon word: below each of its other turns. proofs of `necklace_laws`, Lyndon: the two agree
 unfoldable pub belowOtherTurns : List ℕ → Bool
 belowOtherTurns w = allBelow (length w - 1) (λ i. before w (turn (suc i) w))

@@ -1,5 +1,5 @@
 -- Prenecklaces, in the two forms of the page, and lyn (001, Definition 3 and Theorem 1; 000, section 2; 002, section 2).
--- That the two forms agree: `necklaces`, proofs/Begin. Assumes nothing.
+-- That the two forms agree: `necklace_laws`, proofs/Begin. Assumes nothing.
 use Prim.Native.Nat.{ℕ, _-_}
 use mathlib.Core.Path.{_≡_}
 use mathlib.Core.Bool.{Bool, true}

@@ -23,9 +23,9 @@ use Rattle.words.proofs.Split.{clash}
 use Rattle.words.proofs.Search.{least-le}
 use Rattle.rings.specs.Necklace.{necklace, period, repeatsBy}
 use Rattle.rings.specs.Steps.{nextOf, moves}
-use Rattle.necklaces.proofs.Words.{necklace-prenecklace}
-use Rattle.necklaces.proofs.FullWalk.{next-facts}
-use Rattle.moves.specs.Going.{Ready}
+use Rattle.necklace_laws.proofs.Words.{necklace-prenecklace}
+use Rattle.necklace_laws.proofs.FullWalk.{next-facts}
+use Rattle.moves_inner.specs.Going.{Ready}
 use types.Run.{OneOf}
 use denote.Enum.Declared.{tagOf}
 use Rattle.walk_record.proofs.Outcome.{the-type}

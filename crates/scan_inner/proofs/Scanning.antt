@@ -12,8 +12,8 @@ use Rattle.rings.specs.Class.{classOf}
 use Rattle.rings.specs.Open.{open-all}
 use Rattle.scan_inner.specs.declared.Begun.{Begun}
 use Rattle.scan_inner.specs.Beginning.{Opened}
-use Rattle.necklaces.proofs.Run.{Run, lyn-self, lyn-one, same, smaller, greater}
-use Rattle.necklaces.proofs.Classes.{class-loose, class-opening, class-repeating, class-single}
+use Rattle.necklace_laws.proofs.Run.{Run, lyn-self, lyn-one, same, smaller, greater}
+use Rattle.necklace_laws.proofs.Classes.{class-loose, class-opening, class-repeating, class-single}
 
 -- the first i sectors are a run of i - j: sector j is the one that the next sector is held to
 pub record Runs (w : List ℕ) (i j : ℕ) : Type 0 where

@@ -4,7 +4,7 @@ use Prim.Native.Nat.{ℕ, _-_, _<_, _≤_}
 use mathlib.Core.List.{List}
 use lib.ListN.{length}
 use Rattle.words.proofs.Sequence.{sec}
-use Rattle.necklaces.proofs.Run.{Run}
+use Rattle.necklace_laws.proofs.Run.{Run}
 use Rattle.scan_inner.specs.declared.Begun.{Begun}
 
 -- the first `end` sectors are a prenecklace with this lyn, and with the next one they are none

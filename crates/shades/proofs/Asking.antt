@@ -15,11 +15,11 @@ use Rattle.rings.specs.Steps.{firstOf, nextOf}
 use Rattle.refusal.specs.Order.{Passed}
 use Rattle.refusal.specs.Calls.{countedFirst, countedNext}
 use Rattle.words.specs.Sum.{sumOf}
-use Rattle.pool.proofs.Letters.{letters}
+use Rattle.pool_laws.proofs.Letters.{letters}
 use Rattle.fill_inner.specs.Fillable.{Fillable}
-use Rattle.counted.specs.declared.Sought.{Sought}
+use Rattle.counted_inner.specs.declared.Sought.{Sought}
 use Rattle.raising_inner.specs.Ready.{Ready}
-use Rattle.counted.specs.Above.{Answers}
+use Rattle.counted_inner.specs.Above.{Answers}
 use Rattle.shades.proofs.Least.{first-letters}
 
 module _ (n k : ℕ) (cs : List ℕ) (passed : Passed (countedFirst n k cs)) where

@@ -22,9 +22,9 @@ use Rattle.rings.specs.Necklace.{necklace, notAboveTurn}
 use Rattle.rings.specs.Counts.{occurs, hasCounts, countedNecklace}
 use Rattle.rings.specs.Steps.{firstOf}
 use Rattle.words.specs.Sum.{sumOf}
-use Rattle.pool.proofs.Pool.{Sorted}
-use Rattle.pool.proofs.Copies.{occurs-append}
-use Rattle.pool.proofs.Letters.{letters, occurs-letters, sorted-letters, length-letters}
+use Rattle.pool_laws.proofs.Pool.{Sorted}
+use Rattle.pool_laws.proofs.Copies.{occurs-append}
+use Rattle.pool_laws.proofs.Letters.{letters, occurs-letters, sorted-letters, length-letters}
 use Rattle.tally_inner.proofs.Tallying.{occurs-none, occurs-here, occurs-other, occurs-at, counts-end}
 use Rattle.raising_inner.specs.Places.{Ring}
 use Rattle.raising_inner.proofs.Blocking.{ring-known, ring-past}

@@ -29,7 +29,7 @@ pub fn next_ring(s: &[u8], k: usize, counts: &[usize], out: &mut [u8]) -> NextAn
             let n = s.len();
             let mut start = [0u8; 64];
             bytes::copy(s, &mut start[..n]);
-            let found = counted::above(start, n, k, counts);
+            let found = counted_inner::above(start, n, k, counts);
             if !found.some {
                 return NextAnswer::Done;
             }

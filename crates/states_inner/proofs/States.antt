@@ -17,8 +17,8 @@ use Rattle.rings.specs.declared.Class.the-variants.{Loose, Opening, Repeating, 
 use Rattle.rings.specs.Necklace.{necklace, lyndon, period}
 use Rattle.rings.specs.Prenecklace.{prenecklace}
 use Rattle.rings.specs.Class.{Classed, classOf}
-use Rattle.necklaces.proofs.Words.{necklace-prenecklace}
-use Rattle.necklaces.proofs.Classes.{classed}
+use Rattle.necklace_laws.proofs.Words.{necklace-prenecklace}
+use Rattle.necklace_laws.proofs.Classes.{classed}
 use Rattle.refusal.specs.declared.Refusal.{Refusal}
 use Rattle.refusal.specs.Order.{Given, Passed}
 use Rattle.refusal.specs.Calls.{oneReading}

@@ -1,13 +1,13 @@
 // A step from a ring that is known to be good, into a new record or in the ring's own place. No public calls.
 
-use moves::Kind;
+use moves_inner::Kind;
 use walk_record::Outcome;
 use walk_record::Stepped;
 use walk_record::Walk;
 use walk_record::Went;
 ghost use Rattle.refusal.specs.Order.{Passed};
-ghost use Rattle.moves.specs.Kinds.{kindOf};
-ghost use Rattle.moves.specs.Going.{Ready};
+ghost use Rattle.moves_inner.specs.Kinds.{kindOf};
+ghost use Rattle.moves_inner.specs.Going.{Ready};
 ghost use Rattle.walk_record.specs.Record.{walkAsked};
 ghost use Rattle.walk_record.specs.Says.{StepSays, WentSays};
 
@@ -19,14 +19,14 @@ pub fn step_good(w: Walk, kind: Kind) -> Stepped
     let n = w.n;
     let ring = w.ring;
     let mut next = ring;
-    let r = moves::advance(&mut next[..n], w.k, kind);
+    let r = moves_inner::advance(&mut next[..n], w.k, kind);
     if r.lyn == 0 {
         return Stepped {
             walk: w,
             outcome: Outcome::Done(r.moves),
         };
     }
-    let class = moves::class_at(n, r.lyn);
+    let class = moves_inner::class_at(n, r.lyn);
     Stepped {
         walk: Walk {
             n: n,
@@ -44,7 +44,7 @@ pub fn go_on(ring: &mut [u8], k: usize) -> Went
     requires { ⌜ Ready k (now ring) ⌝ }
     ensures { λ r. ⌜ WentSays k (now (ring .entry)) (now (ring .exit)) (r .outcome) (r .period) ⌝ }
 {
-    let reached = moves::advance(ring, k, Kind::Necklace);
+    let reached = moves_inner::advance(ring, k, Kind::Necklace);
     if reached.lyn == 0 {
         return Went {
             outcome: Outcome::Done(reached.moves),

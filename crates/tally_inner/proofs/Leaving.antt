@@ -11,7 +11,7 @@ use lib.ListN.{length, getD, set, replicate, length-set, length-replicate}
 use lib.Seq.{getD-set-same, getD-set-other}
 use Rattle.words.proofs.Split.{lt, eq, gt, tri}
 use Rattle.rings.specs.Counts.{occurs}
-use Rattle.necklaces.proofs.FullWalk.{zeros-at}
+use Rattle.necklace_laws.proofs.FullWalk.{zeros-at}
 use Rattle.words.specs.Sum.{sumOf}
 use Rattle.tally_inner.specs.Remaining.{Remains}
 

@@ -21,9 +21,9 @@ use Rattle.words.proofs.Sequence.{sec}
 use Rattle.words.proofs.Lex.{same-true, true-same}
 use Rattle.rings.specs.Necklace.{necklace}
 use Rattle.rings.specs.Counts.{occurs, countsOf, hasCounts, countedNecklace}
-use Rattle.necklaces.proofs.Run.{Run}
-use Rattle.necklaces.proofs.Lyndon.{run-necklace, necklace-run}
-use Rattle.pool.proofs.Copies.{occurs-append}
+use Rattle.necklace_laws.proofs.Run.{Run}
+use Rattle.necklace_laws.proofs.Lyndon.{run-necklace, necklace-run}
+use Rattle.pool_laws.proofs.Copies.{occurs-append}
 
 -- ---- one shade
 

@@ -3,7 +3,7 @@ ghost use mathlib.Core.Path.{_≡_};
 ghost use Prim.Native.Nat.{_≤_};
 ghost use lib.ListN.{length};
 ghost use Rattle.rings.specs.Counts.{occurs, hasCounts, countedNecklace};
-ghost use Rattle.necklaces.proofs.Run.{Run};
+ghost use Rattle.necklace_laws.proofs.Run.{Run};
 ghost use Rattle.words.proofs.Sequence.{sec};
 ghost use Rattle.tally_inner.specs.Remaining.{Beside};
 

@@ -18,8 +18,8 @@ use Rattle.words.proofs.Lex.{upTo-refl, before-upTo, before-upTo-trans, not-bef
 use Rattle.words.proofs.Turn.{turn-zero}
 use Rattle.rings.specs.Necklace.{repeatsBy, period}
 use Rattle.rings.specs.Home.{shift, home}
-use Rattle.homes.proofs.Home.{home-is, shift-is}
-use Rattle.homes.proofs.Period.{period-pos, period-le, period-least, period-divides, period-turn, repeats-by, repeats-divides, repeats-turn}
+use Rattle.home_laws.proofs.Home.{home-is, shift-is}
+use Rattle.home_laws.proofs.Period.{period-pos, period-le, period-least, period-divides, period-turn, repeats-by, repeats-divides, repeats-turn}
 
 -- ---- the shift
 

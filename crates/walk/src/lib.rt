@@ -1,6 +1,6 @@
 // Walks (01, 'Walks'): one record, a start and three steps. The record and what is promised of it stand in `walk_record`.
 
-use moves::Kind;
+use moves_inner::Kind;
 use refusal::Checked;
 pub use walk_record::Outcome;
 pub use walk_record::Started;
@@ -9,7 +9,7 @@ pub use walk_record::Walk;
 pub use walk_record::Went;
 ghost use Rattle.rings.specs.Necklace.{necklace, lyndon};
 ghost use Rattle.rings.specs.Prenecklace.{prenecklace};
-ghost use Rattle.moves.specs.Kinds.{kindOf};
+ghost use Rattle.moves_inner.specs.Kinds.{kindOf};
 ghost use Rattle.walk_record.specs.Says.{StartSays, StepSays};
 
 // A walk from a lent prenecklace: its record, or 1, 2, 3, 5.
@@ -31,7 +31,7 @@ pub fn start(s: &[u8], k: usize) -> Started
 fn step(w: Walk, kind: Kind) -> Stepped
     ensures { λ r. ⌜ StepSays (kindOf kind) w (r .walk) (r .outcome) ⌝ }
 {
-    let v = walk_checks::check_walk(w);
+    let v = walk_checks_inner::check_walk(w);
     match v {
         Checked::Refused(r) => Stepped {
             walk: w,

@@ -26,20 +26,20 @@ use Rattle.rings.specs.Necklace.{necklace, period}
 use Rattle.rings.specs.Prenecklace.{prenecklace, lyn}
 use Rattle.rings.specs.Class.{Classed, classOf}
 use Rattle.rings.specs.Steps.{nextOf}
-use Rattle.necklaces.proofs.Lyndon.{lyn-run}
-use Rattle.necklaces.proofs.Classes.{classed, lyndon-necklace, period-lyn}
-use Rattle.necklaces.proofs.Words.{necklace-prenecklace}
-use Rattle.necklaces.proofs.FullWalk.{next-facts, zeros, zeros-at}
+use Rattle.necklace_laws.proofs.Lyndon.{lyn-run}
+use Rattle.necklace_laws.proofs.Classes.{classed, lyndon-necklace, period-lyn}
+use Rattle.necklace_laws.proofs.Words.{necklace-prenecklace}
+use Rattle.necklace_laws.proofs.FullWalk.{next-facts, zeros, zeros-at}
 use Rattle.refusal.specs.declared.Refusal.the-variants.{OffWalk}
 use Rattle.refusal.specs.Order.{Passed, Given}
 use Rattle.refusal.specs.Order.Given.{offWalk}
 use Rattle.refusal.specs.Calls.{ringLimit, walkRecord, walkStart, oneReading}
 use Rattle.walk_record.specs.declared.Walk.{Walk}
-use Rattle.moves.specs.declared.Kind as K
-use Rattle.moves.specs.Kinds.{kindOf, classAt}
+use Rattle.moves_inner.specs.declared.Kind as K
+use Rattle.moves_inner.specs.Kinds.{kindOf, classAt}
 use Rattle.walk_record.specs.Record.{ringOf, laidOut, walkOf, tagOf, valueOf, sameClass, isLoose, onWalk, walkAsked}
-use Rattle.moves.specs.Going.{Ready}
-use Rattle.moves.proofs.Standing.{kind-only, class-at}
+use Rattle.moves_inner.specs.Going.{Ready}
+use Rattle.moves_inner.proofs.Standing.{kind-only, class-at}
 
 -- ---- classes
 

@@ -14,9 +14,9 @@ use lib.ListN.{length, replicate}
 use Rattle.rings.specs.Necklace.{necklace}
 use Rattle.rings.specs.Prenecklace.{prenecklace}
 use Rattle.rings.specs.Steps.{nextOf, moves, howMany, howManyTo, FullWalk, done, step}
-use Rattle.necklaces.proofs.Next.{low-or-full}
-use Rattle.necklaces.proofs.Bound.{bound-necklace, bound-last}
-use Rattle.necklaces.proofs.FullWalk.{zeros, walk-sum, walk-sum-bound}
+use Rattle.necklace_laws.proofs.Next.{low-or-full}
+use Rattle.necklace_laws.proofs.Bound.{bound-necklace, bound-last}
+use Rattle.necklace_laws.proofs.FullWalk.{zeros, walk-sum, walk-sum-bound}
 use Rattle.refusal.specs.declared.Checked.the-variants as C
 use Rattle.walk_record.specs.declared.Walk.{Walk}
 use Rattle.walk_record.specs.declared.Outcome.the-variants.{Moved, Done}

@@ -3,7 +3,7 @@ use Prim.Native.Nat.{_<_}
 use mathlib.Core.Path.{refl}
 use native.Mathlib.Omega.{arith}
 use borrow.Author.Needs.{needs}
-use Rattle.moves.specs.Kinds.{kindOf}
+use Rattle.moves_inner.specs.Kinds.{kindOf}
 use Rattle.walk_record.proofs.Good.{went-period}
 use Rattle.step_inner.proofs.go_on.Statement.{statement}
 use Rattle.step_inner.proofs.go_on.Tie as tie

@@ -1,6 +1,6 @@
 -- `walk::next_prenecklace` meets its contract. Assumes nothing.
 use borrow.Author.Needs.{needs}
-use Rattle.moves.specs.Kinds.{kindOf}
+use Rattle.moves_inner.specs.Kinds.{kindOf}
 use Rattle.walk.proofs.next_prenecklace.Statement.{statement}
 use Rattle.walk.proofs.next_prenecklace.Tie as tie
 

@@ -1,0 +1,18 @@
+-- The next ring of given counts.
+--     Answers w n k cs r   r is the next ring of these counts above the first n sectors of w, where there is one
+-- Assumes nothing.
+use Prim.Native.Nat.{ℕ, _≤_}
+use mathlib.Core.Path.{_≡_}
+use mathlib.Core.Bool.{true, false}
+use mathlib.Core.Option.{none, some}
+use mathlib.Core.List.{List}
+use lib.ListN.{take}
+use Rattle.rings.specs.Counts.{countedNecklace}
+use Rattle.rings.specs.Steps.{nextOf}
+use Rattle.counted_inner.specs.declared.Sought.{Sought}
+
+-- the next ring of these counts above the first n sectors of w, or that there is none; either is known after raising at most n places
+pub record Answers (w : List ℕ) (n k : ℕ) (cs : List ℕ) (r : Sought) : Type 0 where
+  pub ring : r .some ≡ true → nextOf (countedNecklace cs) k (take n w) ≡ some (take n (r .ring))
+  pub done : r .some ≡ false → nextOf (countedNecklace cs) k (take n w) ≡ none
+  pub soon : r .raised ≤ n

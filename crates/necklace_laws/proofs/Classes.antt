@@ -1,0 +1,103 @@
+-- A prenecklace's kind by its lyn (002, section 2), and the class of a reading.
+--     necklace-lyn        a prenecklace is a necklace exactly when lyn divides n
+--     lyndon-lyn          and a Lyndon word exactly when lyn = n
+--     period-lyn          a necklace's period is its lyn
+--     classed, one-class  each reading has exactly one class
+--     class-loose, class-opening, class-repeating, class-single    the class by the run of the sectors, for a scan from left to right
+-- Assumes nothing.
+use Prim.Native.Nat.{ℕ, _-_, _%_, _<_, _≤_}
+use mathlib.Core.Path.{_≡_, refl}
+use mathlib.Core.Logic.{_↔_}
+use mathlib.Core.Bool.{true, false}
+use mathlib.Core.List.{List}
+use native.Mathlib.Omega.{arith}
+use lib.ListN.{length}
+use Rattle.words.proofs.Split.{Test, passes, fails, test, both-left, refuted}
+use Rattle.words.proofs.Sequence.{sec, from, Less}
+use Rattle.rings.specs.declared.Class.{Class}
+use Rattle.rings.specs.declared.Class.the-variants.{Loose, Opening, Repeating, Single}
+use Rattle.rings.specs.Necklace.{necklace, period, lyndon}
+use Rattle.rings.specs.Prenecklace.{prenecklace, lyn}
+use Rattle.rings.specs.Class.{Classed, necklaceClass, prenecklaceClass, classOf}
+use Rattle.necklace_laws.proofs.Run.{Run, lyn-self, run-one}
+use Rattle.necklace_laws.proofs.Words.{pre-of, necklace-prenecklace}
+use Rattle.necklace_laws.proofs.Lyndon.{run-necklace, necklace-run, period-run, lyndon-of, of-lyndon, lyn-run, run-lyn, run-prenecklace}
+
+pub lyndon-necklace : (w : List ℕ) → lyndon w ≡ true → necklace w ≡ true
+unfolding lyndon
+lyndon-necklace w h = both-left (necklace w) (lib.Dec.eqb (period w) (length w)) h
+
+-- ---- by the run of the sectors
+
+module _ (w : List ℕ) (p : ℕ) (r : Run (sec w) (length w) p) where
+  pos : 0 < length w
+  pos = omega (arith, r .pos, r .fits)
+
+  pub run-lyndon : p ≡ length w → lyndon w ≡ true
+  run-lyndon e = lyndon-of w pos (rw e at (r .lyn))
+
+  pub lyndon-run : lyndon w ≡ true → p ≡ length w
+  lyndon-run h = run-one (sec w) (length w) p (length w) r (lyn-self (sec w) (length w) pos (of-lyndon w pos h))
+
+  pub not-necklace : 0 < length w % p → necklace w ≡ false
+  not-necklace z = refuted (necklace w) (λ h. omega (arith, necklace-run w p r h))
+
+  pub not-lyndon : p < length w → lyndon w ≡ false
+  not-lyndon b = refuted (lyndon w) (λ h. omega (arith, lyndon-run h))
+
+  pub class-opening : 0 < length w % p → classOf w ≡ Opening p
+  unfolding classOf prenecklaceClass
+  class-opening z = rw (run-prenecklace w p r, not-necklace z, classOf, prenecklaceClass, run-lyn w p r)
+
+  pub class-repeating : length w % p ≡ 0 → p < length w → classOf w ≡ Repeating p
+  unfolding classOf prenecklaceClass necklaceClass
+  class-repeating d b =
+      rw (run-prenecklace w p r, run-necklace w p r d, not-lyndon b, classOf, prenecklaceClass, necklaceClass, period-run w p r d)
+
+  pub class-single : p ≡ length w → classOf w ≡ Single
+  unfolding classOf prenecklaceClass necklaceClass
+  class-single e =
+      rw (run-prenecklace w p r, lyndon-necklace w (run-lyndon e), run-lyndon e, classOf, prenecklaceClass, necklaceClass)
+
+-- a difference downwards between an ending and the beginning
+pub class-loose : (w : List ℕ) (i n : ℕ) → n ≤ length w → Less (from i (sec w)) (sec w) (n - i) → classOf w ≡ Loose
+unfolding classOf
+class-loose w i n b l = rw (refuted (prenecklace w) (λ h. pre-of w h i (record { at = l .at; bound = omega (arith, l .bound); agree = l .agree; less = l .less })), classOf)
+
+-- ---- by lyn
+
+module _ (w : List ℕ) (z : 0 < length w) (h : prenecklace w ≡ true) where
+  -- a prenecklace is a necklace exactly when lyn divides n
+  pub necklace-lyn : (necklace w ≡ true) ↔ (length w % lyn w ≡ 0)
+  necklace-lyn = (necklace-run w (lyn w) (lyn-run w z h), run-necklace w (lyn w) (lyn-run w z h))
+
+  -- and a Lyndon word exactly when lyn = n
+  pub lyndon-lyn : (lyndon w ≡ true) ↔ (lyn w ≡ length w)
+  lyndon-lyn = (lyndon-run w (lyn w) (lyn-run w z h), run-lyndon w (lyn w) (lyn-run w z h))
+
+-- a necklace's period is its lyn
+pub period-lyn : (w : List ℕ) → 0 < length w → necklace w ≡ true → period w ≡ lyn w
+period-lyn w z h =
+    let r = lyn-run w z (necklace-prenecklace w h) in
+    period-run w (lyn w) r (necklace-run w (lyn w) r h)
+
+-- ---- exactly one class
+
+pub classed : (w : List ℕ) → Classed w (classOf w)
+unfolding classOf prenecklaceClass necklaceClass
+classed w = elim (test (prenecklace w)) [ passes p ↦ rw (p, classOf) (opening p (test (necklace w))) | fails p ↦ rw (p, classOf) p ]
+  where
+    single : necklace w ≡ true → Test (lyndon w) → Classed w (necklaceClass w)
+    single n (passes l) = rw (l, necklaceClass) l
+    single n (fails l) = rw (l, necklaceClass) (n, l, refl)
+
+    opening : prenecklace w ≡ true → Test (necklace w) → Classed w (prenecklaceClass w)
+    opening p (passes n) = rw (n, prenecklaceClass) (single n (test (lyndon w)))
+    opening p (fails n) = rw (n, prenecklaceClass) (p, n, refl)
+
+pub one-class : (w : List ℕ) (c : Class) → Classed w c → c ≡ classOf w
+unfolding classOf prenecklaceClass necklaceClass
+one-class w Loose h = rw (h, classOf)
+one-class w (Opening p) h = rw (h .0, h .1, classOf, prenecklaceClass, h .2)
+one-class w (Repeating p) h = rw (necklace-prenecklace w (h .0), h .0, h .1, classOf, prenecklaceClass, necklaceClass, h .2)
+one-class w Single h = rw (necklace-prenecklace w (lyndon-necklace w h), lyndon-necklace w h, h, classOf, prenecklaceClass, necklaceClass)
