@@ -1,4 +1,4 @@
--- What `advance` asks for and what it comes to. These serve the code alone: the steps' own contract is specs/Steps.
+-- What `advance` asks for and what it comes to. These serve the code alone: the steps' own contract is `walk_record`, specs/Says.
 -- Assumes nothing.
 use Prim.Native.Nat.{ℕ, _≤_, _<_}
 use mathlib.Core.Path.{_≡_}
