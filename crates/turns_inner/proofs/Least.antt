@@ -1,5 +1,4 @@
--- The searches for the shift and for the period.
---     Best w i b, best-start, best-better, best-stays, best-end    b is the first of the least turns by less than i
+-- The search for the period.
 --     Unrepeated w p, unrepeated-start, unrepeated-more            nothing below p repeats w
 --     unrepeated-found, unrepeated-end                             then what repeats w is its period, and so is the length
 --     repeats-not, repeats-same                                    whether p repeats w, by its two tests
@@ -11,58 +10,12 @@ use mathlib.Core.List.{List}
 use native.Mathlib.Omega.{arith}
 use lib.ListN.{length}
 use borrow.Author.Tests.{eq-eqb, ne-eqb}
-use Rattle.words.specs.Order.{before, upTo, same}
+use Rattle.words.specs.Order.{same}
 use Rattle.words.specs.Turn.{turn}
 use Rattle.words.proofs.Split.{lt, eq, gt, tri, clash}
-use Rattle.words.proofs.Lex.{upTo-refl, before-upTo, before-upTo-trans, not-before, before-irrefl}
 use Rattle.words.proofs.Turn.{turn-zero}
 use Rattle.rings.specs.Necklace.{repeatsBy, period}
-use Rattle.rings.specs.Home.{shift, home}
-use Rattle.home_laws.proofs.Home.{home-is, shift-is}
 use Rattle.home_laws.proofs.Period.{period-pos, period-le, period-least, period-divides, period-turn, repeats-by, repeats-divides, repeats-turn}
-
--- ---- the shift
-
--- of the turns by less than i, that by b is not greater than any, and before those by less than b
-pub record Best (w : List ℕ) (i b : ℕ) : Type 0 where
-  pub inside : b < i
-  pub least : (j : ℕ) → j < i → upTo (turn b w) (turn j w) ≡ true
-  pub first : (j : ℕ) → j < b → before (turn b w) (turn j w) ≡ true
-
--- of one turn, it is the first
-pub best-start : (w : List ℕ) → Best w 1 0
-best-start w = record { inside = omega arith; least = λ j h. let e : j ≡ 0 = omega arith in rw e (upTo-refl (turn 0 w)); first = λ j h. absurd (omega arith) }
-
--- a turn before the best so far is the best
-pub best-better : (w : List ℕ) (i b : ℕ) → Best w i b → true ≡ before (turn i w) (turn b w) → Best w (i + 1) i
-best-better w i b h t = record { inside = omega arith; least = up; first = λ j l. before-upTo-trans (turn i w) (turn b w) (turn j w) (sym t) (h .least j l) }
-  where
-    up : (j : ℕ) → j < i + 1 → upTo (turn i w) (turn j w) ≡ true
-    up j l =
-        elim (tri j i) [
-          | lt e ↦ before-upTo (turn i w) (turn j w) (before-upTo-trans (turn i w) (turn b w) (turn j w) (sym t) (h .least j e))
-          | eq e ↦ rw e (upTo-refl (turn i w))
-          | gt e ↦ absurd (omega arith)
-        ]
-
--- a turn that is not before the best so far leaves it
-pub best-stays : (w : List ℕ) (i b : ℕ) → Best w i b → false ≡ before (turn i w) (turn b w) → Best w (i + 1) b
-best-stays w i b h t = record { inside = omega (arith, h .inside); least = up; first = h .first }
-  where
-    up : (j : ℕ) → j < i + 1 → upTo (turn b w) (turn j w) ≡ true
-    up j l = elim (tri j i) [ lt e ↦ h .least j e | eq e ↦ rw e (not-before (turn i w) (turn b w) (sym t)) | gt e ↦ absurd (omega arith) ]
-
--- of all turns, the first of the least is the shift
-pub best-end : (w : List ℕ) (i b : ℕ) → Best w i b → i ≤ length w → length w ≤ i → b ≡ shift w
-best-end w i b h l g = sym (shift-is w (omega (arith, h .inside)) b (sym here) fewer)
-  where
-    here : home w ≡ turn b w
-    here = home-is w (omega (arith, h .inside)) b (omega (arith, h .inside)) (λ j k. h .least j (omega arith))
-
-    fewer : (j : ℕ) → j < b → turn j w ≡ home w → ⊥
-    fewer j k e = clash (before (turn b w) (turn j w)) (h .first j k) (rw (e, here) (before-irrefl (turn b w)))
-
--- ---- the period
 
 -- where p does not divide the length, it does not repeat the reading
 pub repeats-not : (w : List ℕ) (p : ℕ) → (length w % p ≡ 0 → ⊥) → false ≡ repeatsBy w p

@@ -1,11 +1,10 @@
 -- Comparing two readings v and w of n sectors, sector by sector: what is left from place m on decides. Of the two sectors at place m,
 -- x is that of v and y that of w.
---     before-yes, before-no, before-on, before-end    whether v is before w
 --     same-no, same-on, same-end                      whether v is w
 --     differing-one, differing-on, differing-end      at how many places they differ
 -- Assumes nothing.
 use Prim.Native.Nat.{ℕ, _+_, _<_, _≤_}
-use mathlib.Core.Path.{_≡_, sym, _∙_}
+use mathlib.Core.Path.{_≡_}
 use mathlib.Core.Bool.{true, false}
 use mathlib.Core.List.{List, [], _∷_}
 use native.Mathlib.Omega.{arith}
@@ -13,8 +12,7 @@ use native.Mathlib.Numerals.{add-one}
 use lib.ListN.{length, getD, drop, drop-of-length-le}
 use lib.Seq.{drop-cons}
 use borrow.Author.Tests.{eq-eqb, ne-eqb}
-use Rattle.words.specs.Order.{before, same}
-use Rattle.words.proofs.Lex.{before-lt, before-gt, before-eq}
+use Rattle.words.specs.Order.{same}
 use Rattle.rings.specs.Alike.{differing}
 
 -- ---- at place m
@@ -25,18 +23,6 @@ module _ (v w : List ℕ) (n m x y : ℕ) (p : length v ≡ n) (q : length w ≡
 
   rest-right : drop m w ≡ y ∷ drop (m + 1) w
   rest-right = rw (add-one m, d) (drop-cons w m 0 (omega arith))
-
-  -- the smaller sector decides
-  pub before-yes : before (drop m v) (drop m w) ≡ before v w → x < y → true ≡ before v w
-  before-yes r h = sym (before-lt x y (drop (m + 1) v) (drop (m + 1) w) h) ∙ rw (rest-left, rest-right) at r
-
-  -- the greater sector decides
-  pub before-no : before (drop m v) (drop m w) ≡ before v w → y < x → false ≡ before v w
-  before-no r h = sym (before-gt x y (drop (m + 1) v) (drop (m + 1) w) h) ∙ rw (rest-left, rest-right) at r
-
-  -- behind equal sectors the rest decides
-  pub before-on : before (drop m v) (drop m w) ≡ before v w → x ≡ y → before (drop (m + 1) v) (drop (m + 1) w) ≡ before v w
-  before-on r h = sym (before-eq x y (drop (m + 1) v) (drop (m + 1) w) h) ∙ rw (rest-left, rest-right) at r
 
   -- sectors that differ decide
   pub same-no : same (drop m v) (drop m w) ≡ same v w → (x ≡ y → ⊥) → false ≡ same v w
@@ -66,11 +52,6 @@ module _ (v w : List ℕ) (n m : ℕ) (p : length v ≡ n) (q : length w ≡ n) 
 
   none-right : drop m w ≡ []
   none-right = drop-of-length-le w {i = m} (omega arith)
-
-  -- readings that agree to the end are not before one another
-  pub before-end : before (drop m v) (drop m w) ≡ before v w → false ≡ before v w
-  unfolding before
-  before-end r = rw (none-left, none-right) at r
 
   -- readings that agree to the end are one
   pub same-end : same (drop m v) (drop m w) ≡ same v w → true ≡ same v w

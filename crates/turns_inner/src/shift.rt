@@ -6,21 +6,41 @@ ghost use lib.ListN.{length};
 ghost use Rattle.rings.specs.Necklace.{repeatsBy, period};
 ghost use Rattle.rings.specs.Home.{shift};
 
-// The smallest number of left turns that gives the least turn. A later turn takes the place of the best so far only where it is
-// before it, so that of equal turns the first stays.
+// The smallest number of left turns that gives the least turn. Two turns, by i and by a greater j, are compared sector by sector. At the first
+// difference, the smaller turn shows that the greater one, turned on up to there, is never least; where they do not differ, none from j on is
+// the first that is least. Each comparison of two sectors makes i + j + m greater, so there are fewer than 3 n of them.
 pub fn least_shift(s: &[u8]) -> usize
     requires { ⌜ 0 < length (now s) ⌝ }
     ensures { λ r. ⌜ r ≡ shift (now (s .entry)) ⌝ }
 {
-    let mut best = 0;
-    let mut i = 1;
-    while i < s.len() {
-        if super::turns::turn_before(s, i, best) {
-            best = i;
+    let n = s.len();
+    let mut i = 0;
+    let mut j = 1;
+    let mut m = 0;
+    while j < n {
+        let x = super::turns::sector(s, i, m);
+        let y = super::turns::sector(s, j, m);
+        if x < y {
+            j += m + 1;
+            m = 0;
+            continue;
         }
-        i += 1;
+        if y < x {
+            let past = i + m + 1;
+            i = j;
+            if i < past {
+                i = past;
+            }
+            j = i + 1;
+            m = 0;
+            continue;
+        }
+        m += 1;
+        if m == n {
+            return i;
+        }
     }
-    best
+    i
 }
 
 // Whether p divides the length and turning by p changes nothing.

@@ -3,7 +3,7 @@
 ghost use mathlib.Core.Path.{_≡_};
 ghost use Prim.Native.Nat.{_<_, _≤_};
 ghost use lib.ListN.{length, getD};
-ghost use Rattle.words.specs.Order.{before, same};
+ghost use Rattle.words.specs.Order.{same};
 ghost use Rattle.words.specs.Turn.{turn};
 ghost use Rattle.rings.specs.Alike.{differing};
 ghost use Rattle.turns_inner.specs.Around.{Around};
@@ -27,26 +27,6 @@ pub fn sector(s: &[u8], i: usize, m: usize) -> u8
 {
     let p = around(s.len(), i, m);
     s[p]
-}
-
-// Whether s turned by i is before s turned by j.
-pub fn turn_before(s: &[u8], i: usize, j: usize) -> bool
-    requires { ⌜ (i ≤ length (now s)) × (j ≤ length (now s)) ⌝ }
-    ensures { λ r. ⌜ r ≡ before (turn i (now (s .entry))) (turn j (now (s .entry))) ⌝ }
-{
-    let mut m = 0;
-    while m < s.len() {
-        let x = sector(s, i, m);
-        let y = sector(s, j, m);
-        if x < y {
-            return true;
-        }
-        if y < x {
-            return false;
-        }
-        m += 1;
-    }
-    false
 }
 
 // Whether a turned by i is b turned by j.
