@@ -1,7 +1,7 @@
 -- From the checks that passed, and from shifts, to what the calls answer.
 --     passed-pos, passed-pair, passed-room           what passed checks give
 --     shift-fits                                     the reading can be turned by its shift
---     turned-home, same-turned, differing-turned     turned by their shifts, readings are home, of the same ring, apart
+--     turned-home, same-turned                       turned by their shifts, readings are home, and of the same ring
 --     home-back                                      the output, turned back by the shift that is answered, is the reading
 -- Assumes nothing.
 use Prim.Native.Nat.{ℕ, _-_, _<_, _≤_}
@@ -12,7 +12,7 @@ use lib.ListN.{length}
 use Rattle.words.specs.Order.{same}
 use Rattle.words.specs.Turn.{turn}
 use Rattle.rings.specs.Home.{home, shift}
-use Rattle.rings.specs.Alike.{sameRing, differing, apart}
+use Rattle.rings.specs.Alike.{sameRing}
 use Rattle.home_laws.proofs.Home.{shift-lt, turn-back-home}
 use Rattle.refusal.specs.Order.{Asked, Passed}
 use Rattle.refusal.specs.Calls.{twoReadings, withRoom}
@@ -49,11 +49,6 @@ turned-home w i e = rw e
 pub same-turned : (v w : List ℕ) (i j : ℕ) → i ≡ shift v → j ≡ shift w → same (turn i v) (turn j w) ≡ sameRing v w
 unfolding sameRing
 same-turned v w i j p q = rw (turned-home v i p, turned-home w j q)
-
--- readings turned by their shifts differ at as many places as they are apart
-pub differing-turned : (v w : List ℕ) (i j : ℕ) → i ≡ shift v → j ≡ shift w → differing (turn i v) (turn j w) ≡ apart v w
-unfolding apart
-differing-turned v w i j p q = rw (turned-home v i p, turned-home w j q)
 
 -- ---- the answer of bringing home
 

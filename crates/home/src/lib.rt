@@ -1,8 +1,9 @@
-// Bringing a reading home, and comparing readings by their home readings (01, 'Rules the work stands on').
+// Bringing a reading home, and comparing readings (01, 'Rules the work stands on').
 
 use refusal::Checked;
 use refusal::Refusal;
 use turns_inner::handed;
+use turns_inner::nearest;
 use turns_inner::shift;
 use turns_inner::turns;
 ghost use Rattle.refusal.specs.Calls.{oneReading, twoReadings};
@@ -78,16 +79,12 @@ pub fn even_handed(s: &[u8], k: usize) -> Told
     }
 }
 
-// At how many places the home readings of two readings differ, or refusal 1, 10, 2 or 3.
+// The smallest number of places at which a turn of one reading differs from the other, or refusal 1, 10, 2 or 3.
 pub fn apart(a: &[u8], b: &[u8], k: usize) -> Distance
     ensures { λ r. ⌜ DistanceSays (now (a .entry)) (now (b .entry)) k r ⌝ }
 {
     match checks::check_pair(a, b, k) {
         Checked::Refused(r) => Distance::Refused(r),
-        Checked::Good => {
-            let i = shift::least_shift(a);
-            let j = shift::least_shift(b);
-            Distance::Apart(turns::differing_turns(a, i, b, j))
-        }
+        Checked::Good => Distance::Apart(nearest::fewest_differing(a, b)),
     }
 }

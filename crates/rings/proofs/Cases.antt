@@ -101,7 +101,7 @@ table =
     page-next 2 4 0011 0101 ∷
     handed 6 001011 false ∷
     handed 6 001001 true ∷
-    compared 6 010101 001011 false 4 ∷
+    compared 6 010101 001011 false 2 ∷
     compared 6 110100 001101 true 0 ∷
     other-side 6 001011 001101 ∷
     below-turns 4 0101 false ∷

@@ -5,7 +5,7 @@ use mathlib.Core.Bool.{Bool, not}
 use mathlib.Core.List.{List, [], _∷_, reverse}
 use lib.ListN.{length}
 use lib.Dec.{eqb}
-use Rattle.words.specs.Search.{someBelow}
+use Rattle.words.specs.Search.{someBelow, least}
 use Rattle.words.specs.Order.{same}
 use Rattle.words.specs.Turn.{turn}
 use Rattle.words.specs.Readings.{bit}
@@ -25,9 +25,14 @@ differing [] w = 0
 differing (a ∷ v) [] = 0
 differing (a ∷ v) (b ∷ w) = bit (not (eqb a b)) + differing v w
 
--- how far apart two readings are: the number of places at which their home readings differ
+-- some turn of v differs from w at exactly d places
+unfoldable pub turnDiffers : List ℕ → List ℕ → ℕ → Bool
+turnDiffers v w d = someBelow (length v) (λ i. eqb (differing (turn i v) w) d)
+
+-- how far apart two readings of one length are: the smallest number of places at which a turn of one differs from the other
+-- (where none is below n, it is n: no turn then agrees with w anywhere)
 unfoldable pub apart : List ℕ → List ℕ → ℕ
-apart v w = differing (home v) (home w)
+apart v w = least (length v) (turnDiffers v w)
 
 -- a ring seen from the other side: the reversed reading, brought home again
 unfoldable pub mirrored : List ℕ → List ℕ

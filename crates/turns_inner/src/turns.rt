@@ -5,7 +5,6 @@ ghost use Prim.Native.Nat.{_<_, _≤_};
 ghost use lib.ListN.{length, getD};
 ghost use Rattle.words.specs.Order.{same};
 ghost use Rattle.words.specs.Turn.{turn};
-ghost use Rattle.rings.specs.Alike.{differing};
 ghost use Rattle.turns_inner.specs.Around.{Around};
 
 // The place i + m on a ring of n places, that is, wrapped once where it runs past the end.
@@ -42,24 +41,6 @@ pub fn same_turns(a: &[u8], i: usize, b: &[u8], j: usize) -> bool
         m += 1;
     }
     true
-}
-
-// At how many places a turned by i and b turned by j differ.
-pub fn differing_turns(a: &[u8], i: usize, b: &[u8], j: usize) -> usize
-    requires { ⌜ (length (now a) ≡ length (now b)) × (i ≤ length (now a)) × (j ≤ length (now b)) ⌝ }
-    ensures { λ r. ⌜ r ≡ differing (turn i (now (a .entry))) (turn j (now (b .entry))) ⌝ }
-{
-    let mut d = 0;
-    let mut m = 0;
-    while m < a.len() {
-        let x = sector(a, i, m);
-        let y = sector(b, j, m);
-        if x != y {
-            d += 1;
-        }
-        m += 1;
-    }
-    d
 }
 
 // Writes s turned by i.

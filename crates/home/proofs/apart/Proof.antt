@@ -1,9 +1,6 @@
--- `home::apart` meets its contract: what the check answers, or else at how many places the two turns by the shifts differ. Assumes nothing.
-use mathlib.Core.Path.{_∙_}
-use native.Mathlib.Omega.{arith}
+-- `home::apart` meets its contract: what the check answers, or else the fewest places at which a turn of the one differs from the other. Assumes nothing.
 use borrow.Author.Needs.{needs}
-use Rattle.home.proofs.Answers.{passed-pos, passed-pair, shift-fits, differing-turned}
-use Rattle.refusal.specs.Calls.{twoReadings}
+use Rattle.home.proofs.Answers.{passed-pair}
 use Rattle.home.proofs.apart.Statement.{statement}
 use Rattle.home.proofs.apart.Tie as tie
 
@@ -16,32 +13,17 @@ enum-known-r c = search needs
 enum-told : tie.Need-enum-told
 enum-told c = search needs
 
-least-shift-requires : tie.Need-least-shift-requires
-least-shift-requires c κs = let a = c .before .before .before .before .before .args in passed-pos (twoReadings (a .a .now) (a .b .now) (a .k)) (rw (c .enum-told .given .1) at (c .before .before .check-pair .ensures))
-
-least-shift-requires-2 : tie.Need-least-shift-requires-2
-least-shift-requires-2 c κs =
-    let a = c .before .before .before .before .before .before .args in
-    let g = rw (c .before .enum-told .given .1) at (c .before .before .before .check-pair .ensures) in
-    omega (arith, passed-pair (a .a .now) (a .b .now) (a .k) g, passed-pos (twoReadings (a .a .now) (a .b .now) (a .k)) g)
-
-differing-turns-requires : tie.Need-differing-turns-requires
-differing-turns-requires c κs =
-    let a = c .before .before .before .before .before .before .before .args in
-    let g = rw (c .before .before .enum-told .given .1) at (c .before .before .before .before .check-pair .ensures) in
-    let z = passed-pos (twoReadings (a .a .now) (a .b .now) (a .k)) g in
-    let e = passed-pair (a .a .now) (a .b .now) (a .k) g in
-    omega (arith, shift-fits (a .a .now) (c .before .least-shift .result) z (c .before .least-shift .ensures), shift-fits (a .b .now) (c .least-shift2 .result) (omega arith) (c .least-shift2 .ensures))
+fewest-differing-requires : tie.Need-fewest-differing-requires
+fewest-differing-requires c κs =
+    let a = c .before .before .before .before .before .args in
+    let g = rw (c .enum-told .given .1) at (c .before .before .check-pair .ensures) in
+    passed-pair (a .a .now) (a .b .now) (a .k) g
 
 returns : tie.Need-returns
 returns c = rw (c .before .r .given .1) at (c .before .before .before .check-pair .ensures)
 
 returns-2 : tie.Need-returns-2
-returns-2 c =
-    let a = c .before .before .before .before .before .before .before .before .args in
-    let i = c .before .before .least-shift in
-    let j = c .before .least-shift2 in
-    (rw (c .before .before .before .enum-told .given .1) at (c .before .before .before .before .before .check-pair .ensures), c .differing-turns .ensures ∙ differing-turned (a .a .now) (a .b .now) (i .result) (j .result) (i .ensures) (j .ensures))
+returns-2 c = (rw (c .before .enum-told .given .1) at (c .before .before .before .check-pair .ensures), c .fewest-differing .ensures)
 
 pub apart-spec : {M : Type 1} → statement M
 apart-spec =
@@ -50,8 +32,6 @@ apart-spec =
     check-pair-requires
     enum-known-r
     enum-told
-    least-shift-requires
-    least-shift-requires-2
-    differing-turns-requires
+    fewest-differing-requires
     returns
     returns-2)
