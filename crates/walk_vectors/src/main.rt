@@ -1,9 +1,9 @@
-// Walks run and compared: the lists of 001, Figure 1, and 004, Figure 1, the gap of 001, Figure 2, counts of rings, the hand cases of document 01,
+// Walks run and compared: the lists of 001, Figure 1, of 004, Figure 1, and of 002, section 2, the gap of 001, Figure 2, counts of rings, the hand cases of document 01,
 // the first steps at n = 64 and k = 16, every step's Done, and each refusal. The expected text, stdout, is written from those documents.
 // The cases are the lines of stdin. `list`, a reading, k and marks: it and all prenecklaces after it. `from`, a reading, k and how many: the prenecklaces after it.
 // `count`, a reading, k, a kind of step and n. `step`, a reading, k and a kind. `made`, n, k, a place and its sector, a class and its number: a record that no walk
-// has made. Marks: 1 has bullets behind what is no necklace, as 001 has them; 2 has N for a necklace and L for a Lyndon word, as 004 has them. Classes: 0
-// Loose, 1 Opening, 2 Repeating, 3 Single.
+// has made. Marks: 1 has bullets behind what is no necklace, as 001 has them; 2 has N for a necklace and L for a Lyndon word, as 004 and 002 have them; 12
+// is the same of those alone that have as many sectors 1 as others. Classes: 0 Loose, 1 Opening, 2 Repeating, 3 Single.
 
 use refusal::Checked;
 use refusal::Refusal;
@@ -35,11 +35,31 @@ fn mark(marks: usize, these: usize, s: &[u8]) {
     }
 }
 
+// Whether half of the sectors are 1.
+fn is_half(w: Walk) -> bool {
+    let n = w.n;
+    let ring = w.ring;
+    let mut ones: usize = 0;
+    let mut i = 0;
+    while i < 64 {
+        if ring[i] == 1 {
+            ones += 1;
+        }
+        i += 1;
+    }
+    ones == n / 2
+}
+
 // A ring's line, with its mark.
 fn print_line(w: Walk, marks: usize) {
+    if 10 <= marks {
+        if !is_half(w) {
+            return;
+        }
+    }
     print_ring(w);
     let c = w.class;
-    print_mark(c, marks);
+    print_mark(c, marks % 10);
     show::text(b"\n");
 }
 

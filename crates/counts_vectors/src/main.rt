@@ -1,0 +1,75 @@
+// The two calls of `shades` run and compared with all that they leave: a refusal's number and place, and the output, which a refusal and Done leave as it was.
+// The cases are the lines of stdin: `first`, the output, k, how many shade counts there are, and those; or `next`, a reading, the output, k, and the counts
+// likewise. The expected text, stdout, is written from document 01.
+
+use shades::FirstAnswer;
+use shades::NextAnswer;
+
+fn left(out: &[u8]) {
+    show::text(b" output ");
+    show::sectors(out);
+    show::text(b"\n");
+}
+
+fn first(k: usize, counts: &[usize], out: &mut [u8]) {
+    match shades::first_ring(k, counts, out) {
+        FirstAnswer::Ring => show::text(b"ring"),
+        FirstAnswer::Refused(r) => show::refused(r),
+    }
+    left(out);
+}
+
+fn next(s: &[u8], k: usize, counts: &[usize], out: &mut [u8]) {
+    match shades::next_ring(s, k, counts, out) {
+        NextAnswer::Ring => show::text(b"ring"),
+        NextAnswer::Done => show::text(b"done"),
+        NextAnswer::Refused(r) => show::refused(r),
+    }
+    left(out);
+}
+
+// ---- the lines
+
+fn line_of_first(line: &[u8], counts: &[usize]) {
+    let mut out = [0u8; 65];
+    let m = cases::sectors(line, 1, &mut out);
+    first(cases::number(line, 2), counts, &mut out[..m]);
+}
+
+fn line_of_next(line: &[u8], counts: &[usize]) {
+    let mut s = [0u8; 65];
+    let mut out = [0u8; 65];
+    let n = cases::sectors(line, 1, &mut s);
+    let m = cases::sectors(line, 2, &mut out);
+    next(&s[..n], cases::number(line, 3), counts, &mut out[..m]);
+}
+
+// One line; the first letter tells what to do.
+fn run(line: &[u8]) {
+    if line.len() < 1 {
+        return;
+    }
+    let mut counts = [0usize; 20];
+    if line[0] == b'f' {
+        let m = cases::numbers(line, 3, &mut counts);
+        line_of_first(line, &counts[..m]);
+        return;
+    }
+    let m = cases::numbers(line, 4, &mut counts);
+    line_of_next(line, &counts[..m]);
+}
+
+fn lines(s: &[u8]) {
+    let mut at = 0;
+    while at < s.len() {
+        let end = cases::line_end(s, at);
+        run(&s[at..end]);
+        at = end + 1;
+    }
+}
+
+fn main() {
+    let mut input = io::buffer();
+    let got = io::read_full(libc::STDIN_FILENO, &mut input);
+    lines(&input[..got]);
+}
