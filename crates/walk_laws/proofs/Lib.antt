@@ -1,2 +1,4 @@
--- Theorems about a start and the steps of `walk`, through their contracts alone: every reading has one ring among those handed out (OneRing).
+-- Theorems about a start and the steps of `walk`, through their contracts alone: every reading has one ring among those handed out (OneRing), and demand 3 of
+-- whatever answer is admitted (Demand3).
 pub mod OneRing
+pub mod Demand3

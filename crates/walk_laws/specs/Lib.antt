@@ -1,1 +1,2 @@
--- No definitions: this crate holds theorems only (proofs/).
+-- What a step's outcome reports (Reports).
+pub mod Reports
