@@ -2,10 +2,6 @@
 
 use refusal::Checked;
 use refusal::Refusal;
-use turns_inner::handed;
-use turns_inner::nearest;
-use turns_inner::shift;
-use turns_inner::turns;
 ghost use Rattle.refusal.specs.Calls.{oneReading, twoReadings};
 ghost use Rattle.rings.specs.Alike.{evenHanded, sameRing, apart};
 ghost use Rattle.home.specs.Says.{HomeSays, ToldSays, DistanceSays};
@@ -36,9 +32,9 @@ pub fn bring_home(s: &[u8], k: usize, out: &mut [u8]) -> Homed
     match checks::check_room(s, k, out.len()) {
         Checked::Refused(r) => Homed::Refused(r),
         Checked::Good => {
-            let i = shift::least_shift(s);
-            let p = shift::period_of(s);
-            turns::write_turn(s, i, out);
+            let i = shift_inner::least_shift(s);
+            let p = shift_inner::period_of(s);
+            turns_inner::write_turn(s, i, out);
             Homed::Home {
                 shift: i,
                 period: p,
@@ -54,9 +50,9 @@ pub fn same_ring(a: &[u8], b: &[u8], k: usize) -> Told
     match checks::check_pair(a, b, k) {
         Checked::Refused(r) => Told::Refused(r),
         Checked::Good => {
-            let i = shift::least_shift(a);
-            let j = shift::least_shift(b);
-            if turns::same_turns(a, i, b, j) {
+            let i = shift_inner::least_shift(a);
+            let j = shift_inner::least_shift(b);
+            if turns_inner::same_turns(a, i, b, j) {
                 return Told::Yes;
             }
             Told::No
@@ -71,7 +67,7 @@ pub fn even_handed(s: &[u8], k: usize) -> Told
     match checks::check_reading(s, k) {
         Checked::Refused(r) => Told::Refused(r),
         Checked::Good => {
-            if handed::is_even_handed(s) {
+            if handed_inner::is_even_handed(s) {
                 return Told::Yes;
             }
             Told::No
@@ -85,6 +81,6 @@ pub fn apart(a: &[u8], b: &[u8], k: usize) -> Distance
 {
     match checks::check_pair(a, b, k) {
         Checked::Refused(r) => Distance::Refused(r),
-        Checked::Good => Distance::Apart(nearest::fewest_differing(a, b)),
+        Checked::Good => Distance::Apart(nearest_inner::fewest_differing(a, b)),
     }
 }
