@@ -1,4 +1,4 @@
--- How a record lies in a catalogue (01, 'Catalogue records'): 'a two-byte mark, then n, then k, then n sector bytes'.
+-- How a record lies in a catalogue (01, 'Catalogue records'): two bytes of a mark, one each for n and k, and n sectors behind them.
 -- t is the part of a catalogue that begins where the record does.
 --     secondByte x, Marked t x     the marks: 52 46 is a ring seen from the front, 52 42 one seen from the back (hexadecimal)
 --     nOf t, kOf t, sectorsOf t    what stands behind the mark

@@ -1,5 +1,5 @@
--- The record reader's order of checks (01, 'Refusal numbers': 'In the record reader: 4, 7 for start and head (End between its two tests), 8, 1, 2, 7 for the body, 3, 9'),
--- and when each refusal is given, with its place in the whole catalogue.
+-- The record reader's order of checks (01, 'Refusal numbers'): 4; 7 of the start, then End, then 7 of the head; 8, 1, 2; 7 of the body; 3, 9.
+-- And when each refusal is given, with its place in the whole catalogue.
 -- c is the catalogue, s the start, m the length of the output; t is the part of the catalogue that begins at the start.
 --     Known t                 t begins with a known mark
 --     AfterHead t .. After9 t    the checks of the record up to that one have passed

@@ -1,5 +1,4 @@
--- What a line asks for (01, 'The listing program', 'Refusal numbers': 'The listing program tests 11, 1, 2, 12'). `limit` is the greatest power that is
--- not Too many.
+-- What a line asks for (01, 'The listing program' and 'Refusal numbers': first 11, then 1, 2 and 12). `limit` is the greatest power that is not Too many.
 --     Listable limit k n        k and n may be listed: 1, 2 and 12 passed
 --     GivenFor limit k n r      the numbers k and n are refused with r: 1, 2, 12
 --     NumbersSay limit k n p    what the plan p of the numbers k and n promises

@@ -1,4 +1,4 @@
--- The order of the checks (01, 'Refusal numbers': 'Order: 1 (first reading), 10, 2, 3, 4, 6, 5, as each applies'), said once for all calls.
+-- The order of the checks (01, 'Refusal numbers'), said once for all calls: 1 of the first reading, then 10, 2, 3, 4, 6 and 5, where a call has them.
 --     Asked                     what a call is asked: the numbers and lists that its checks look at
 --     Paired, Below, Roomy, Counted, Walking    the facts that checks 10, 3, 4, 6, 5 ask; 1 and 2 ask `Sized` and `Shaded` of words
 --     After1 .. After5          the checks up to that one have passed

@@ -1,4 +1,4 @@
--- A number's decimal text (01, 'The listing program': 'numbers are decimal', 'no leading zero, 0 itself is allowed').
+-- A number's decimal text (01, 'The listing program'): 0 is 0, and no other number begins with it.
 --     digit d       the character of a digit below 10
 --     decimal x     the text of x: one digit below 10; from 10 on, the text of x / 10 and then the last digit
 -- Those two clauses are laws (proofs/Digits: `decimal-short`, `decimal-more`); the definition counts digits down, since x has at most x + 1.
