@@ -1,4 +1,5 @@
--- Theorems about a start and the steps of `walk`, through their contracts alone: every reading has one ring among those handed out (OneRing), and demand 3 of
--- whatever answer is admitted (Demand3).
+-- Theorems about a start and the steps of `walk`, through their contracts alone: every reading has one ring among those handed out (OneRing), how far one step
+-- goes (Ceiling), and demand 3 of whatever answer is admitted (Demand3).
 pub mod OneRing
+pub mod Ceiling
 pub mod Demand3
