@@ -1,10 +1,11 @@
 -- The sectors of a record, whose numbers are good: what the contracts of classifying and of the checks give the reader.
 --     only-sector, bad-sector       a refusal can only be a bad sector
---     necklace-class, not-home      by its class a reading is a necklace or not
+--     necklace-class, not-home      by its class a reading is a necklace or not, and then Not home has its place
+--     place-within                  that place is one of the sectors
 --     passed-room                   with an output as long as the reading, the checks of bringing home pass
 -- Assumes nothing.
-use Prim.Native.Nat.{ℕ, _+_}
-use mathlib.Core.Path.{_≡_, refl, sym}
+use Prim.Native.Nat.{ℕ, _+_, _<_}
+use mathlib.Core.Path.{_≡_, refl, sym, ap, _∙_}
 use mathlib.Core.Bool.{false}
 use mathlib.Core.List.{List}
 use lib.ListN.{length}
@@ -14,8 +15,8 @@ use Rattle.rings.specs.declared.Class.{Class}
 use Rattle.rings.specs.declared.Class.the-variants.{Loose, Opening, Repeating, Single}
 use Rattle.rings.specs.Necklace.{necklace}
 use Rattle.rings.specs.Prenecklace.{prenecklace}
-use Rattle.rings.specs.Class.{Classed, classOf}
-use Rattle.necklace_laws.proofs.Classes.{classed, lyndon-necklace}
+use Rattle.rings.specs.Class.{Classed, classOf, loosePlace, lookAt}
+use Rattle.necklace_laws.proofs.Classes.{classed, lyndon-necklace, look-within}
 use Rattle.necklace_laws.proofs.Words.{necklace-prenecklace}
 use Rattle.refusal.specs.declared.Refusal.{Refusal}
 use Rattle.refusal.specs.declared.Refusal.the-variants.{Sector, NotHome}
@@ -46,14 +47,20 @@ pub necklace-class : (w : List ℕ) (c : Class) → c ≡ classOf w → isNeckla
 necklace-class w c e = rw e (by-class (classOf w) (classed w))
   where
     by-class : (x : Class) → Classed w x → isNecklace x ≡ necklace w
-    by-class Loose d = sym (refuted (necklace w) (λ h. clash (prenecklace w) (necklace-prenecklace w h) d))
+    by-class (Loose p) d = sym (refuted (necklace w) (λ h. clash (prenecklace w) (necklace-prenecklace w h) (d .0)))
     by-class (Opening p) d = sym (d .1)
     by-class (Repeating p) d = sym (d .0)
     by-class Single d = sym (lyndon-necklace w d)
 
 -- sectors that are no necklace
-pub not-home : (w : List ℕ) (k s : ℕ) → Passed (oneReading w k) → necklace w ≡ false → Unfit w k s (NotHome (s + 4))
-not-home w k s g h = notHome refl (g .0 .0 .0 .1) h
+pub not-home : (w : List ℕ) (k s p : ℕ) (c : Class) → Passed (oneReading w k) → c ≡ classOf w → p ≡ loosePlace c → necklace w ≡ false → Unfit w k s (NotHome (s + 4 + p))
+unfolding lookAt
+not-home w k s p c g e q h = notHome (ap (λ (x : ℕ). NotHome (s + 4 + x)) (q ∙ ap loosePlace e)) (g .0 .0 .0 .1) h
+
+-- the sector to look at is one of theirs
+pub place-within : (w : List ℕ) (p : ℕ) (c : Class) → Sized (length w) → c ≡ classOf w → p ≡ loosePlace c → p < length w
+unfolding lookAt
+place-within w p c z e q = rw (q ∙ ap loosePlace e) (look-within w (z .0))
 
 -- with an output as long as the reading, the checks of bringing home pass
 pub passed-room : (w : List ℕ) (k m : ℕ) → Passed (oneReading w k) → m ≡ length w → Passed (withRoom w k m)

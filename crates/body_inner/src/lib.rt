@@ -31,7 +31,8 @@ pub fn read_body(body: &[u8], start: usize, k: usize, kind: Kind, out: &mut [u8]
                     next: start + HEAD + n,
                 };
             }
-            Entry::Refused(Refusal::NotHome(start + HEAD))
+            let at = scan_inner::loose_place(c);
+            Entry::Refused(Refusal::NotHome(start + HEAD + at))
         }
     }
 }
@@ -41,7 +42,7 @@ fn is_necklace(c: Class) -> bool
     ensures { λ r. ⌜ r ≡ isNecklace c ⌝ }
 {
     match c {
-        Class::Loose => false,
+        Class::Loose(_) => false,
         Class::Opening(_) => false,
         Class::Repeating(_) => true,
         Class::Single => true,

@@ -58,9 +58,12 @@ table =
     answers (frontRecord ++ front 0 0 []) 10 64 (Refused (Length 12)) ∷
     answers (frontRecord ++ front 4 1 (9 ∷ [])) 10 64 (Refused (Shades 13)) ∷
     answers (frontRecord ++ front 4 2 (0 ∷ 9 ∷ 1 ∷ [])) 10 64 (Refused (Cut 10)) ∷
-    -- then the first bad sector, and last that the sectors are no necklace
+    -- then the first bad sector, and last that the sectors are no necklace: Opening at the first of them, Loose where they go wrong
     answers (frontRecord ++ front 4 2 (1 ∷ 0 ∷ 2 ∷ 3 ∷ [])) 10 64 (Refused (Sector 16)) ∷
-    answers (frontRecord ++ front 4 2 (0 ∷ 1 ∷ 1 ∷ 0 ∷ [])) 10 64 (Refused (NotHome 14)) ∷ []
+    answers (frontRecord ++ front 4 2 (0 ∷ 1 ∷ 1 ∷ 0 ∷ [])) 10 64 (Refused (NotHome 14)) ∷
+    answers (frontRecord ++ front 4 2 (0 ∷ 1 ∷ 0 ∷ 0 ∷ [])) 10 64 (Refused (NotHome 17)) ∷
+    -- under the back mark too it is the stored sectors that count: 0100 is Loose, though reversed, as 0010, it is Opening
+    answers (frontRecord ++ (0x52 ∷ 0x42 ∷ 4 ∷ 2 ∷ 0 ∷ 1 ∷ 0 ∷ 0 ∷ [])) 10 64 (Refused (NotHome 17)) ∷ []
 
 -- every row holds
 unfoldable pub Hold : List Case → Type 0
@@ -70,4 +73,4 @@ Hold (shows c s v ∷ rows) = (frontRing (kindOf (getD (drop s c) 1 0)) (sectors
 
 pub records-read : Hold table
 unfolding table Hold open-all entryOf startEntry recordEntry orElse refusedOr recordOf from8 from1 from2 from7 from3 from9 known kindOf unless sized shaded below within firstBad bad least
-records-read = (refl, (refl, (refl, (refl, (refl, (refl, (refl, (refl, (refl, (refl, (refl, (refl, (refl, (refl, (refl, (refl, (refl, (refl, (refl, (refl, tt))))))))))))))))))))
+records-read = (refl, (refl, (refl, (refl, (refl, (refl, (refl, (refl, (refl, (refl, (refl, (refl, (refl, (refl, (refl, (refl, (refl, (refl, (refl, (refl, (refl, (refl, tt))))))))))))))))))))))

@@ -16,6 +16,7 @@ use lib.ListN.{length, getD, drop}
 use borrow.Author.Tests.{lt-ltb, le-ltb, le-leb, lt-leb, eq-eqb, ne-eqb, eqb-true}
 use Rattle.words.proofs.Split.{both, both-left, both-right, Or, left, right, either, either-left, either-right}
 use Rattle.rings.specs.Necklace.{necklace}
+use Rattle.rings.specs.Class.{lookAt}
 use Rattle.refusal.specs.declared.Refusal.{Refusal}
 use Rattle.refusal.specs.declared.Refusal.the-variants as R
 use Rattle.refusal.specs.Order.{Asked}
@@ -70,7 +71,7 @@ kind-is y Back e = rw (ne-eqb y 0x46 (λ q. omega arith), kindOf)
 -- ---- the chain of a record, from its end; the test of 1 and 2 is that of every call
 
 unfoldable pub from9 : List ℕ → ℕ → Option Refusal
-from9 t s = unless (necklace (sectorsOf t)) (R.NotHome (s + 4)) none
+from9 t s = unless (necklace (sectorsOf t)) (R.NotHome (s + 4 + lookAt (sectorsOf t))) none
 
 unfoldable pub from3 : List ℕ → ℕ → Option Refusal
 from3 t s = unless (below (oneReading (sectorsOf t) (kOf t))) (R.Sector (s + 4 + firstBad (sectorsOf t) (λ j. kOf t))) (from9 t s)
@@ -122,14 +123,14 @@ module _ (t : List ℕ) (s : ℕ) where
   -- a good record is not refused
   pub whole-fixed : After9 t → recordOf t s ≡ none
   unfolding from9
-  whole-fixed l = past3 (l .0) ∙ goes-on (necklace (sectorsOf t)) (R.NotHome (s + 4)) none (l .1)
+  whole-fixed l = past3 (l .0) ∙ goes-on (necklace (sectorsOf t)) (R.NotHome (s + 4 + lookAt (sectorsOf t))) none (l .1)
 
   -- a record is refused as its sectors are
   unfit-fixed : (r : Refusal) → After7 t → Unfit (sectorsOf t) (kOf t) s r → recordOf t s ≡ some r
   unfolding from3 from9
   unfit-fixed r l (sector i e f) =
       past7 l ∙ stops (below (oneReading (sectorsOf t) (kOf t))) (R.Sector (s + 4 + firstBad (sectorsOf t) (λ j. kOf t))) (from9 t s) (failed (below-tells (oneReading (sectorsOf t) (kOf t))) (bad-not-below (sectorsOf t) (λ j. kOf t) i f)) ∙ rw (first-bad-is (sectorsOf t) (λ j. kOf t) i f, e)
-  unfit-fixed r l (notHome e b f) = past3 (l, b) ∙ stops (necklace (sectorsOf t)) (R.NotHome (s + 4)) none f ∙ rw e
+  unfit-fixed r l (notHome e b f) = past3 (l, b) ∙ stops (necklace (sectorsOf t)) (R.NotHome (s + 4 + lookAt (sectorsOf t))) none f ∙ rw e
 
   -- a refusal that is given is the chain's
   pub broken-fixed : (r : Refusal) → Broken t s r → recordOf t s ≡ some r

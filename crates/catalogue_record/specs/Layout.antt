@@ -44,7 +44,7 @@ frontRing Back w = mirrored w
 
 -- a reading of this class is a necklace: it is Repeating or Single
 abbrev pub isNecklace : Class → Bool
-isNecklace Loose = false
+isNecklace (Loose p) = false
 isNecklace (Opening p) = false
 isNecklace (Repeating p) = true
 isNecklace Single = true

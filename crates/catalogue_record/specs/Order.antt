@@ -14,6 +14,7 @@ use mathlib.Core.List.{List}
 use lib.ListN.{length, drop}
 use Rattle.words.specs.Readings.{Sized, Shaded}
 use Rattle.rings.specs.Necklace.{necklace}
+use Rattle.rings.specs.Class.{lookAt}
 use Rattle.refusal.specs.declared.Refusal.{Refusal}
 use Rattle.refusal.specs.declared.Refusal.the-variants.{Length, Shades, Sector, Room, Cut, Mark, NotHome}
 use Rattle.refusal.specs.Order.{Below, FirstBad}
@@ -55,7 +56,8 @@ After9 t = After3 t × (necklace (sectorsOf t) ≡ true)
 -- the sectors of a record
 pub data Unfit (w : List ℕ) (k s : ℕ) (r : Refusal) : Type 0 where
   sector : (i : ℕ) → r ≡ Sector (s + 4 + i) → FirstBad w (λ j. k) i → Unfit w k s r
-  notHome : r ≡ NotHome (s + 4) → Below (oneReading w k) → necklace w ≡ false → Unfit w k s r
+  -- at the sector to look at among those that are stored, under either mark (02, b)
+  notHome : r ≡ NotHome (s + 4 + lookAt w) → Below (oneReading w k) → necklace w ≡ false → Unfit w k s r
 
 -- the record at s
 pub data Broken (t : List ℕ) (s : ℕ) (r : Refusal) : Type 0 where

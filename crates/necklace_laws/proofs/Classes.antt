@@ -4,23 +4,25 @@
 --     period-lyn          a necklace's period is its lyn
 --     classed, one-class  each reading has exactly one class
 --     class-loose, class-opening, class-repeating, class-single    the class by the run of the sectors, for a scan from left to right
+--     look-loose, look-other, look-within    the sector to look at: where the reading goes wrong if it is Loose, 0 otherwise
 -- Assumes nothing.
-use Prim.Native.Nat.{ℕ, _-_, _%_, _<_, _≤_}
+use Prim.Native.Nat.{ℕ, suc, _-_, _%_, _<_}
 use mathlib.Core.Path.{_≡_, refl}
 use mathlib.Core.Logic.{_↔_}
 use mathlib.Core.Bool.{true, false}
 use mathlib.Core.List.{List}
 use native.Mathlib.Omega.{arith}
 use lib.ListN.{length}
-use Rattle.words.proofs.Split.{Test, passes, fails, test, both-left, refuted}
-use Rattle.words.proofs.Sequence.{sec, from, Less}
+use Rattle.words.proofs.Split.{Test, passes, fails, test, both-left, refuted, clash}
+use Rattle.words.proofs.Sequence.{sec}
 use Rattle.rings.specs.declared.Class.{Class}
 use Rattle.rings.specs.declared.Class.the-variants.{Loose, Opening, Repeating, Single}
 use Rattle.rings.specs.Necklace.{necklace, period, lyndon}
-use Rattle.rings.specs.Prenecklace.{prenecklace, lyn}
-use Rattle.rings.specs.Class.{Classed, necklaceClass, prenecklaceClass, classOf}
-use Rattle.necklace_laws.proofs.Run.{Run, lyn-self, run-one}
+use Rattle.rings.specs.Prenecklace.{prenecklace, lyn, wrongPlace}
+use Rattle.rings.specs.Class.{Classed, necklaceClass, prenecklaceClass, classOf, loosePlace, lookAt}
+use Rattle.necklace_laws.proofs.Run.{Run, lyn-self, run-one, smaller, pre-shorter}
 use Rattle.necklace_laws.proofs.Words.{pre-of, necklace-prenecklace}
+use Rattle.necklace_laws.proofs.Wrong.{wrong-is, wrong-within}
 use Rattle.necklace_laws.proofs.Lyndon.{run-necklace, necklace-run, period-run, lyndon-of, of-lyndon, lyn-run, run-lyn, run-prenecklace}
 
 pub lyndon-necklace : (w : List ℕ) → lyndon w ≡ true → necklace w ≡ true
@@ -59,10 +61,11 @@ module _ (w : List ℕ) (p : ℕ) (r : Run (sec w) (length w) p) where
   class-single e =
       rw (run-prenecklace w p r, lyndon-necklace w (run-lyndon e), run-lyndon e, classOf, prenecklaceClass, necklaceClass)
 
--- a difference downwards between an ending and the beginning
-pub class-loose : (w : List ℕ) (i n : ℕ) → n ≤ length w → Less (from i (sec w)) (sec w) (n - i) → classOf w ≡ Loose
+-- the run of the first e sectors breaks at the next one
+pub class-loose : (w : List ℕ) (e p : ℕ) → Run (sec w) e p → e < length w → sec w e < sec w (e - p) → classOf w ≡ Loose e
 unfolding classOf
-class-loose w i n b l = rw (refuted (prenecklace w) (λ h. pre-of w h i (record { at = l .at; bound = omega (arith, l .bound); agree = l .agree; less = l .less })), classOf)
+class-loose w e p r b h =
+    rw (refuted (prenecklace w) (λ q. pre-shorter (sec w) (length w) (suc e) b (pre-of w q) p (smaller (sec w) e p r h)), classOf, wrong-is w e p r b h)
 
 -- ---- by lyn
 
@@ -85,7 +88,7 @@ period-lyn w z h =
 
 pub classed : (w : List ℕ) → Classed w (classOf w)
 unfolding classOf prenecklaceClass necklaceClass
-classed w = elim (test (prenecklace w)) [ passes p ↦ rw (p, classOf) (opening p (test (necklace w))) | fails p ↦ rw (p, classOf) p ]
+classed w = elim (test (prenecklace w)) [ passes p ↦ rw (p, classOf) (opening p (test (necklace w))) | fails p ↦ rw (p, classOf) (p, refl) ]
   where
     single : necklace w ≡ true → Test (lyndon w) → Classed w (necklaceClass w)
     single n (passes l) = rw (l, necklaceClass) l
@@ -97,7 +100,29 @@ classed w = elim (test (prenecklace w)) [ passes p ↦ rw (p, classOf) (opening 
 
 pub one-class : (w : List ℕ) (c : Class) → Classed w c → c ≡ classOf w
 unfolding classOf prenecklaceClass necklaceClass
-one-class w Loose h = rw (h, classOf)
+one-class w (Loose p) h = rw (h .0, classOf, h .1)
 one-class w (Opening p) h = rw (h .0, h .1, classOf, prenecklaceClass, h .2)
 one-class w (Repeating p) h = rw (necklace-prenecklace w (h .0), h .0, h .1, classOf, prenecklaceClass, necklaceClass, h .2)
 one-class w Single h = rw (necklace-prenecklace w (lyndon-necklace w h), lyndon-necklace w h, h, classOf, prenecklaceClass, necklaceClass)
+
+-- ---- the sector to look at
+
+-- where the reading goes wrong, if it is Loose
+pub look-loose : (w : List ℕ) → prenecklace w ≡ false → lookAt w ≡ wrongPlace w
+unfolding lookAt classOf
+look-loose w h = rw (h, classOf)
+
+-- 0 otherwise
+pub look-other : (w : List ℕ) → prenecklace w ≡ true → lookAt w ≡ 0
+unfolding lookAt
+look-other w h = go (classOf w) (classed w)
+  where
+    go : (c : Class) → Classed w c → loosePlace c ≡ 0
+    go (Loose p) d = clash (prenecklace w) h (d .0)
+    go (Opening p) d = refl
+    go (Repeating p) d = refl
+    go Single d = refl
+
+-- it is a place of the reading
+pub look-within : (w : List ℕ) → 0 < length w → lookAt w < length w
+look-within w z = elim (test (prenecklace w)) [ passes h ↦ rw (look-other w h) z | fails h ↦ rw (look-loose w h) (wrong-within w h) ]

@@ -5,6 +5,7 @@ pub mod Raise
 pub mod Words
 pub mod Lyndon
 pub mod Fundamental
+pub mod Wrong
 pub mod Classes
 pub mod Begin
 pub mod Next

@@ -10,7 +10,7 @@ use walk::Walk;
 fn period(w: Walk) -> usize {
     let c = w.class;
     match c {
-        Class::Loose => 0,
+        Class::Loose(_) => 0,
         Class::Opening(_) => 0,
         Class::Repeating(p) => p,
         Class::Single => w.n,

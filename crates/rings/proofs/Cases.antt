@@ -11,7 +11,7 @@ use Rattle.rings.specs.declared.Class.{Class}
 use Rattle.rings.specs.declared.Class.the-variants.{Loose, Opening, Repeating, Single}
 use Rattle.rings.specs.Necklace.{necklace, lyndon, period, belowOtherTurns}
 use Rattle.rings.specs.Prenecklace.{prenecklace}
-use Rattle.rings.specs.Class.{classOf}
+use Rattle.rings.specs.Class.{classOf, lookAt}
 use Rattle.rings.specs.Home.{home, shift}
 use Rattle.rings.specs.Alike.{evenHanded, sameRing, apart, mirrored}
 use Rattle.rings.specs.Next.{nextPrenecklace}
@@ -33,6 +33,8 @@ ring n d = digits n d []
 pub data Case : Type 0 where
   -- n, the reading, its class
   classed : ℕ → ℕ → Class → Case
+  -- n, the reading, the sector to look at
+  looked : ℕ → ℕ → ℕ → Case
   -- n, the reading, its home reading, its shift, its period
   comes-home : ℕ → ℕ → ℕ → ℕ → ℕ → Case
   -- n, the reading, the next necklace, the moves
@@ -61,6 +63,7 @@ pub data Case : Type 0 where
 -- what a row claims
 unfoldable pub Holds : Case → Type 0
 Holds (classed n w c) = classOf (ring n w) ≡ c
+Holds (looked n w p) = lookAt (ring n w) ≡ p
 Holds (comes-home n w h s p) = (home (ring n w) ≡ ring n h) × (shift (ring n w) ≡ s) × (period (ring n w) ≡ p)
 Holds (then-necklace n w v m) = (nextOf necklace 2 (ring n w) ≡ some (ring n v)) × (moves 2 (ring n w) (some (ring n v)) ≡ m)
 Holds (then-lyndon n w v m) = (nextOf lyndon 2 (ring n w) ≡ some (ring n v)) × (moves 2 (ring n w) (some (ring n v)) ≡ m)
@@ -86,7 +89,7 @@ table =
     classed 4 0001 Single ∷
     classed 4 0101 (Repeating 2) ∷
     classed 4 0110 (Opening 3) ∷
-    classed 4 0100 Loose ∷
+    classed 4 0100 (Loose 3) ∷
     classed 1 1 Single ∷
     classed 9 001010010 (Opening 5) ∷
     comes-home 4 1010 0101 1 2 ∷
@@ -96,6 +99,10 @@ table =
     then-lyndon 4 0011 0111 3 ∷
     then-done 4 1111 ∷
     -- not starred: a row for each definition that the rows above do not compute
+    classed 5 10010 (Loose 1) ∷
+    classed 7 0101100 (Loose 6) ∷
+    looked 4 0100 3 ∷
+    looked 4 0110 0 ∷
     then-necklace 4 0011 0101 1 ∷
     page-next 3 4 0222 1111 ∷
     page-next 2 4 0011 0101 ∷
@@ -139,7 +146,7 @@ cases = (
                       (refl, refl),
                       (
                         (refl, refl, refl, refl),
-                        ((refl, refl), (refl, (refl, (refl, (refl, ((refl, refl), ((refl, refl), (refl, (refl, (refl, (refl, (refl, (refl, (refl, tt)))))))))))))),
+                        (refl, (refl, (refl, (refl, ((refl, refl), (refl, (refl, (refl, (refl, ((refl, refl), ((refl, refl), (refl, (refl, (refl, (refl, (refl, (refl, (refl, tt)))))))))))))))))),
                       ),
                     ),
                   ),

@@ -1,7 +1,9 @@
--- The class of a reading (01, 'Rules the work stands on'): Loose is no prenecklace; Opening, with its lyn, is a prenecklace and no necklace;
--- Repeating, with its period, is a necklace and no Lyndon word; Single is a Lyndon word.
+-- The class of a reading (01, 'Rules the work stands on'; 02, b): Loose, with the place where it goes wrong, is no prenecklace; Opening, with its lyn,
+-- is a prenecklace and no necklace; Repeating, with its period, is a necklace and no Lyndon word; Single is a Lyndon word.
 --     Classed w c    w is of class c, by the page's sentence for c
 --     classOf w      the class of w
+--     loosePlace c   the place that Loose carries, 0 for the other classes
+--     lookAt w       the sector of w to look at
 -- That each reading has exactly one class, `classOf w`: `necklace_laws`, proofs/Classes. Assumes nothing.
 use Prim.Native.Nat.{ℕ}
 use mathlib.Core.Path.{_≡_}
@@ -10,11 +12,11 @@ use mathlib.Core.List.{List}
 use Rattle.rings.specs.declared.Class.{Class}
 use Rattle.rings.specs.declared.Class.the-variants.{Loose, Opening, Repeating, Single}
 use Rattle.rings.specs.Necklace.{necklace, lyndon, period}
-use Rattle.rings.specs.Prenecklace.{prenecklace, lyn}
+use Rattle.rings.specs.Prenecklace.{prenecklace, lyn, wrongPlace}
 
 -- w is of this class
 abbrev pub Classed : List ℕ → Class → Type 0
-Classed w Loose = prenecklace w ≡ false
+Classed w (Loose p) = (prenecklace w ≡ false) × (wrongPlace w ≡ p)
 Classed w (Opening p) = (prenecklace w ≡ true) × (necklace w ≡ false) × (lyn w ≡ p)
 Classed w (Repeating p) = (necklace w ≡ true) × (lyndon w ≡ false) × (period w ≡ p)
 Classed w Single = lyndon w ≡ true
@@ -29,4 +31,15 @@ prenecklaceClass w = elim (necklace w) [ true ↦ necklaceClass w | false ↦ Op
 
 -- the class of a reading
 unfoldable pub classOf : List ℕ → Class
-classOf w = elim (prenecklace w) [ true ↦ prenecklaceClass w | false ↦ Loose ]
+classOf w = elim (prenecklace w) [ true ↦ prenecklaceClass w | false ↦ Loose (wrongPlace w) ]
+
+-- the place that Loose carries; the other classes have none to look at, and give 0
+abbrev pub loosePlace : Class → ℕ
+loosePlace (Loose p) = p
+loosePlace (Opening p) = 0
+loosePlace (Repeating p) = 0
+loosePlace Single = 0
+
+-- the sector of w to look at, for Off walk and Not home: the place where w goes wrong where it is Loose, 0 otherwise
+unfoldable pub lookAt : List ℕ → ℕ
+lookAt w = loosePlace (classOf w)

@@ -1,6 +1,6 @@
 -- Document 01's rules as definitions, read from top to bottom.
 --     Necklace       necklace, period, Lyndon word
---     Prenecklace    prenecklace, lyn
+--     Prenecklace    prenecklace, lyn, where a reading goes wrong
 --     Class          Loose, Opening, Repeating, Single
 --     Home           home reading, shift
 --     Alike          even-handed, same ring, apart, the ring seen from the other side

@@ -1,11 +1,12 @@
--- Prenecklaces, in the two forms of the page, and lyn (001, Definition 3 and Theorem 1; 000, section 2; 002, section 2).
--- That the two forms agree: `necklace_laws`, proofs/Begin. Assumes nothing.
-use Prim.Native.Nat.{ℕ, _-_}
+-- Prenecklaces, in the two forms of the page, lyn (001, Definition 3 and Theorem 1; 000, section 2; 002, section 2), and where a reading goes wrong
+-- (02, b).
+-- That the two forms agree: `necklace_laws`, proofs/Begin. What is so of the place where a reading goes wrong: proofs/Wrong there. Assumes nothing.
+use Prim.Native.Nat.{ℕ, suc, _-_}
 use mathlib.Core.Path.{_≡_}
-use mathlib.Core.Bool.{Bool, true}
+use mathlib.Core.Bool.{Bool, true, not}
 use mathlib.Core.List.{List, _++_}
 use lib.ListN.{length, take, drop}
-use Rattle.words.specs.Search.{allBelow, greatest}
+use Rattle.words.specs.Search.{allBelow, least, greatest}
 use Rattle.words.specs.Order.{upTo}
 use Rattle.words.specs.Readings.{Reading}
 use Rattle.rings.specs.Necklace.{necklace, lyndon}
@@ -27,3 +28,12 @@ pub record Begins (k : ℕ) (w : List ℕ) : Type 0 where
 -- lyn: the length of the longest beginning that is a Lyndon word
 unfoldable pub lyn : List ℕ → ℕ
 lyn w = greatest (length w) (λ p. lyndon (take p w))
+
+-- the beginning up to and including the sector at place i is no prenecklace
+unfoldable pub wrongAt : List ℕ → ℕ → Bool
+wrongAt w i = not (prenecklace (take (suc i) w))
+
+-- where a reading goes wrong: the place, from 0, of the first sector whose beginning, up to and including it, is no prenecklace
+-- (the length of a reading that is one)
+unfoldable pub wrongPlace : List ℕ → ℕ
+wrongPlace w = least (length w) (wrongAt w)

@@ -9,8 +9,8 @@ pub const FEWEST_SHADES: usize = 2;
 pub const MOST_SHADES: usize = 16;
 
 pub enum Class {
-    // no prenecklace
-    Loose,
+    // no prenecklace, with the place of the first sector whose beginning, up to and including it, is none
+    Loose(usize),
     // a prenecklace that is no necklace, with its lyn
     Opening(usize),
     // a necklace that is no Lyndon word, with its period

@@ -12,7 +12,7 @@ use Rattle.rings.specs.Class.{classOf}
 use Rattle.rings.specs.Open.{open-all}
 use Rattle.scan_inner.specs.declared.Begun.{Begun}
 use Rattle.scan_inner.specs.Beginning.{Opened}
-use Rattle.necklace_laws.proofs.Run.{Run, lyn-self, lyn-one, same, smaller, greater}
+use Rattle.necklace_laws.proofs.Run.{Run, lyn-self, lyn-one, same, greater}
 use Rattle.necklace_laws.proofs.Classes.{class-loose, class-opening, class-repeating, class-single}
 
 -- the first i sectors are a run of i - j: sector j is the one that the next sector is held to
@@ -60,8 +60,8 @@ class-empty [] h = refl
 class-empty (a ∷ w) h = absurd (omega arith)
 
 module _ (w : List ℕ) (r : Begun) (opened : Opened w r) where
-  pub class-broken : r .end < length w → Loose ≡ classOf w
-  class-broken h = sym (class-loose w (r .lyn) (suc (r .end)) h (smaller (sec w) (r .end) (r .lyn) (opened .run) (opened .breaks h)))
+  pub class-broken : r .end < length w → Loose (r .end) ≡ classOf w
+  class-broken h = sym (class-loose w (r .end) (r .lyn) (opened .run) h (opened .breaks h))
 
   module _ (whole : length w ≤ r .end) where
     pub class-run : Run (sec w) (length w) (r .lyn)

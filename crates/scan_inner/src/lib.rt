@@ -4,7 +4,7 @@ use rings::Class;
 ghost use mathlib.Core.Path.{_≡_};
 ghost use Prim.Native.Nat.{_<_};
 ghost use lib.ListN.{length};
-ghost use Rattle.rings.specs.Class.{classOf};
+ghost use Rattle.rings.specs.Class.{classOf, loosePlace};
 ghost use Rattle.scan_inner.specs.Beginning.{Opened};
 
 // How far a reading is a prenecklace: its longest beginning that is one ends before `end`, and the lyn of that beginning is `lyn`.
@@ -48,7 +48,7 @@ pub fn class_of(s: &[u8]) -> Class
     }
     let begun = scan(s);
     if begun.end < n {
-        return Class::Loose;
+        return Class::Loose(begun.end);
     }
     let p = begun.lyn;
     if p == n {
@@ -58,4 +58,16 @@ pub fn class_of(s: &[u8]) -> Class
         return Class::Repeating(p);
     }
     Class::Opening(p)
+}
+
+// The place that Loose carries; the other classes give 0.
+pub fn loose_place(c: Class) -> usize
+    ensures { λ r. ⌜ r ≡ loosePlace c ⌝ }
+{
+    match c {
+        Class::Loose(p) => p,
+        Class::Opening(_) => 0,
+        Class::Repeating(_) => 0,
+        Class::Single => 0,
+    }
 }

@@ -42,10 +42,13 @@ pub fn sectors(s: &[u8]) {
     io::write_all(STDOUT_FILENO, &row[..n]);
 }
 
-// A class by its name, with its lyn or period.
+// A class by its name, with its place, lyn or period.
 pub fn class(c: Class) {
     match c {
-        Class::Loose => text(b"Loose"),
+        Class::Loose(p) => {
+            text(b"Loose ");
+            number(p);
+        }
         Class::Opening(p) => {
             text(b"Opening ");
             number(p);

@@ -21,7 +21,7 @@ pub fn empty() -> Walk
         n: 0,
         k: 0,
         ring: [0u8; 64],
-        class: Class::Loose,
+        class: Class::Loose(0),
     }
 }
 
@@ -42,9 +42,10 @@ pub fn start_good(s: &[u8], k: usize) -> Started
 {
     let class = scan_inner::class_of(s);
     if class_inner::is_loose(class) {
+        let at = scan_inner::loose_place(class);
         return Started {
             walk: empty(),
-            answer: Checked::Refused(Refusal::OffWalk),
+            answer: Checked::Refused(Refusal::OffWalk(at)),
         };
     }
     let ring = lay_out(s);

@@ -35,7 +35,7 @@ unfolding lyndon
 closed-necklace w e = go (classOf w) (classed w) e
   where
     go : (c : Class) → Classed w c → closed c ≡ true → necklace w ≡ true
-    go Loose d q = clash false q refl
+    go (Loose p) d q = clash false q refl
     go (Opening p) d q = clash false q refl
     go (Repeating p) d q = d .0
     go Single d q = both-left (necklace w) (eqb (period w) (length w)) d
@@ -44,7 +44,7 @@ pub necklace-closed : (w : List ℕ) → necklace w ≡ true → closed (classOf
 necklace-closed w e = go (classOf w) (classed w)
   where
     go : (c : Class) → Classed w c → closed c ≡ true
-    go Loose d = clash (prenecklace w) (necklace-prenecklace w e) d
+    go (Loose p) d = clash (prenecklace w) (necklace-prenecklace w e) (d .0)
     go (Opening p) d = clash (necklace w) e (d .1)
     go (Repeating p) d = refl
     go Single d = refl

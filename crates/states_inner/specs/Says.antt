@@ -14,7 +14,7 @@ use Rattle.rings.specs.declared.Class.the-variants.{Loose, Opening, Repeating, 
 use Rattle.rings.specs.Necklace.{necklace}
 
 abbrev pub closed : Class → Bool
-closed Loose = false
+closed (Loose p) = false
 closed (Opening p) = false
 closed (Repeating p) = true
 closed Single = true

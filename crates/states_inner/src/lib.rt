@@ -16,7 +16,7 @@ fn is_closed(c: Class) -> bool
     ensures { λ r. ⌜ r ≡ closed c ⌝ }
 {
     match c {
-        Class::Loose => false,
+        Class::Loose(_) => false,
         Class::Opening(_) => false,
         Class::Repeating(_) => true,
         Class::Single => true,

@@ -43,10 +43,11 @@ pub fn check_walk(w: Walk) -> Checked
     match v {
         Checked::Refused(r) => Checked::Refused(r),
         Checked::Good => {
-            if class_inner::on_walk(ring, n, class) {
+            let looked = class_inner::on_walk(ring, n, class);
+            if looked.on {
                 return Checked::Good;
             }
-            Checked::Refused(Refusal::OffWalk)
+            Checked::Refused(Refusal::OffWalk(looked.at))
         }
     }
 }

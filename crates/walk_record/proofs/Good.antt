@@ -15,7 +15,7 @@ use mathlib.Core.Option.{some}
 use mathlib.Core.List.{List, _++_}
 use native.Mathlib.Omega.{arith}
 use lib.ListN.{length, getD, take, drop, replicate, List·getD-append, length-drop, length-replicate, getD-replicate}
-use lib.Seq.{take-append-seam, getD-append-add, ext-getD, getD-take, getD-drop, length-take-le}
+use lib.Seq.{take-append-seam, getD-append-add, ext-getD, getD-take, getD-drop, length-take-le, take-all}
 use lib.Dec.{eqb}
 use borrow.Author.Tests.{eq-eqb, ne-eqb, eqb-true, lt-ltb, le-ltb}
 use Rattle.words.specs.Readings.{Sized, Shaded, Reading}
@@ -24,7 +24,7 @@ use Rattle.rings.specs.declared.Class.{Class}
 use Rattle.rings.specs.declared.Class.the-variants.{Loose, Opening, Repeating, Single}
 use Rattle.rings.specs.Necklace.{necklace, period}
 use Rattle.rings.specs.Prenecklace.{prenecklace, lyn}
-use Rattle.rings.specs.Class.{Classed, classOf}
+use Rattle.rings.specs.Class.{Classed, classOf, loosePlace, lookAt}
 use Rattle.rings.specs.Steps.{nextOf}
 use Rattle.necklace_laws.proofs.Lyndon.{lyn-run}
 use Rattle.necklace_laws.proofs.Classes.{classed, lyndon-necklace, period-lyn}
@@ -45,19 +45,19 @@ use Rattle.moves_inner.proofs.Standing.{kind-only, class-at}
 
 -- two classes with equal case and number are one
 pub one-class : (a b : Class) → tagOf a ≡ tagOf b → valueOf a ≡ valueOf b → a ≡ b
-one-class Loose Loose e f = refl
-one-class Loose (Opening q) e f = absurd (omega arith)
-one-class Loose (Repeating q) e f = absurd (omega arith)
-one-class Loose Single e f = absurd (omega arith)
-one-class (Opening p) Loose e f = absurd (omega arith)
+one-class (Loose p) (Loose q) e f = ap Loose f
+one-class (Loose p) (Opening q) e f = absurd (omega arith)
+one-class (Loose p) (Repeating q) e f = absurd (omega arith)
+one-class (Loose p) Single e f = absurd (omega arith)
+one-class (Opening p) (Loose q) e f = absurd (omega arith)
 one-class (Opening p) (Opening q) e f = ap Opening f
 one-class (Opening p) (Repeating q) e f = absurd (omega arith)
 one-class (Opening p) Single e f = absurd (omega arith)
-one-class (Repeating p) Loose e f = absurd (omega arith)
+one-class (Repeating p) (Loose q) e f = absurd (omega arith)
 one-class (Repeating p) (Opening q) e f = absurd (omega arith)
 one-class (Repeating p) (Repeating q) e f = ap Repeating f
 one-class (Repeating p) Single e f = absurd (omega arith)
-one-class Single Loose e f = absurd (omega arith)
+one-class Single (Loose q) e f = absurd (omega arith)
 one-class Single (Opening q) e f = absurd (omega arith)
 one-class Single (Repeating q) e f = absurd (omega arith)
 one-class Single Single e f = refl
@@ -71,7 +71,7 @@ pub loose-class : (v : List ℕ) → isLoose (classOf v) ≡ true → prenecklac
 loose-class v h = go (classOf v) (classed v) h
   where
     go : (c : Class) → Classed v c → isLoose c ≡ true → prenecklace v ≡ false
-    go Loose d e = d
+    go (Loose p) d e = d .0
     go (Opening p) d e = clash false e refl
     go (Repeating p) d e = clash false e refl
     go Single d e = clash false e refl
@@ -80,7 +80,7 @@ pub tight-class : (v : List ℕ) → isLoose (classOf v) ≡ false → preneckla
 tight-class v h = go (classOf v) (classed v) h
   where
     go : (c : Class) → Classed v c → isLoose c ≡ false → prenecklace v ≡ true
-    go Loose d e = clash true refl e
+    go (Loose p) d e = clash true refl e
     go (Opening p) d e = d .0
     go (Repeating p) d e = necklace-prenecklace v (d .0)
     go Single d e = necklace-prenecklace v (lyndon-necklace v d)
@@ -115,8 +115,8 @@ module _ (v : List ℕ) (c found : Class) (is : found ≡ classOf v) where
 pub pass-walk : (n k : ℕ) (ring : List ℕ) (b : Bool) → Passed (walkRecord n k ring true) → b ≡ true → Passed (walkRecord n k ring b)
 pass-walk n k ring b h e = (h .0, e)
 
-pub off-walk : (n k : ℕ) (ring : List ℕ) (b : Bool) → Passed (walkRecord n k ring true) → b ≡ false → Given (walkRecord n k ring b) OffWalk
-off-walk n k ring b h e = offWalk refl (h .0) (λ t. clash b t e)
+pub off-walk : (n k : ℕ) (ring : List ℕ) (b : Bool) (p : ℕ) → Passed (walkRecord n k ring true) → b ≡ false → p ≡ lookAt (take n ring) → Given (walkRecord n k ring b) (OffWalk p)
+off-walk n k ring b p h e q = offWalk (ap OffWalk q) (h .0) (λ t. clash b t e)
 
 -- its sectors are below k up to n, and below 1 past it
 limit-low : (n k i : ℕ) → i < n → ringLimit n k i ≡ k
@@ -190,8 +190,11 @@ went-period k s v p z e is =
 -- ---- a start, from a reading that passed 1, 2, 3
 
 module _ (s : List ℕ) (k : ℕ) (found : Class) (passed : Passed (oneReading s k)) (is : found ≡ classOf s) where
-  pub start-off : isLoose found ≡ true → Given (walkStart s k (prenecklace s)) OffWalk
-  start-off h = offWalk refl (passed .0) (λ t. clash (prenecklace s) t (loose-class s (rw is at h)))
+  pub start-off : (p : ℕ) → isLoose found ≡ true → p ≡ loosePlace found → Given (walkStart s k (prenecklace s)) (OffWalk p)
+  unfolding lookAt
+  start-off p h q =
+      offWalk (ap OffWalk (q ∙ ap loosePlace is ∙ ap lookAt (sym (take-all (length s) s (omega arith))))) (passed .0)
+      (λ t. clash (prenecklace s) t (loose-class s (rw is at h)))
 
   pub start-on : isLoose found ≡ false → Passed (walkStart s k (prenecklace s))
   start-on h = (passed .0, tight-class s (rw is at h))

@@ -30,19 +30,19 @@ laidOut v = v ++ replicate (64 - length v) 0
 abbrev pub walkOf : ℕ → List ℕ → Walk
 walkOf k v = record { n = length v; k = k; ring = laidOut v; class = classOf v }
 
--- 0 for n, k and every sector, classed Loose
+-- 0 for n, k and every sector, classed Loose with the place 0, which no reading has
 abbrev pub emptyWalk : Walk
-emptyWalk = record { n = 0; k = 0; ring = replicate 64 0; class = Loose }
+emptyWalk = record { n = 0; k = 0; ring = replicate 64 0; class = Loose 0 }
 
 -- two classes are the same: their cases are, and their numbers are
 abbrev pub tagOf : Class → ℕ
-tagOf Loose = 0
+tagOf (Loose p) = 0
 tagOf (Opening p) = 1
 tagOf (Repeating p) = 2
 tagOf Single = 3
 
 abbrev pub valueOf : Class → ℕ
-valueOf Loose = 0
+valueOf (Loose p) = p
 valueOf (Opening p) = p
 valueOf (Repeating p) = p
 valueOf Single = 0
@@ -51,7 +51,7 @@ abbrev pub sameClass : Class → Class → Bool
 sameClass a b = eqb (tagOf a) (tagOf b) && eqb (valueOf a) (valueOf b)
 
 abbrev pub isLoose : Class → Bool
-isLoose Loose = true
+isLoose (Loose p) = true
 isLoose (Opening p) = false
 isLoose (Repeating p) = false
 isLoose Single = false

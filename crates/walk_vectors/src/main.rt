@@ -22,7 +22,7 @@ fn print_ring(w: Walk) {
 
 fn print_mark(c: Class, marks: usize) {
     match c {
-        Class::Loose => show::text(b" loose"),
+        Class::Loose(_) => show::text(b" loose"),
         Class::Opening(_) => mark(marks, 1, b" *"),
         Class::Repeating(_) => mark(marks, 2, b" N"),
         Class::Single => mark(marks, 2, b" N L"),
@@ -186,7 +186,7 @@ fn bad(w: Walk) {
 
 fn class_of(case: usize, p: usize) -> Class {
     if case == 0 {
-        return Class::Loose;
+        return Class::Loose(p);
     }
     if case == 1 {
         return Class::Opening(p);

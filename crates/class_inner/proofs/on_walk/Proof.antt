@@ -1,9 +1,10 @@
 -- `class_inner::on_walk` meets its contract. Assumes nothing.
-use mathlib.Core.Path.{_≡_, _∙_, sym}
+use mathlib.Core.Path.{_≡_, _∙_, sym, ap}
 use native.Mathlib.Omega.{arith}
 use lib.ListN.{length, take}
 use borrow.Author.Needs.{needs}
 use lib.ListN.{length-take}
+use Rattle.rings.specs.Class.{loosePlace, lookAt}
 use Rattle.walk_record.proofs.Good.{off-loose, off-tag, off-value, on-class}
 use Rattle.class_inner.proofs.on_walk.Statement.{statement}
 use Rattle.class_inner.proofs.on_walk.Tie as tie
@@ -17,11 +18,18 @@ slice-aggregate-class-of c = let l : length (c .before .args .t1) ≡ 64 = searc
 class-of-requires : tie.Need-class-of-requires
 class-of-requires c κs = search needs
 
+loose-place-requires : tie.Need-loose-place-requires
+loose-place-requires c κs = search needs
+
 is-loose-requires : tie.Need-is-loose-requires
 is-loose-requires c κs = search needs
 
 returns : tie.Need-returns
-returns c = let a = c .before .before .before .before .args in let f = c .before .before .class-of in off-loose (take (a .n) (a .t1)) (a .class) (f .result) (f .ensures) (sym (c .before .is-loose .ensures) ∙ c .if1 .taken)
+unfolding lookAt
+returns c =
+    let a = c .before .before .before .before .before .args in
+    let f = c .before .before .before .class-of in
+    (off-loose (take (a .n) (a .t1)) (a .class) (f .result) (f .ensures) (sym (c .before .is-loose .ensures) ∙ c .if1 .taken), c .before .before .loose-place .ensures ∙ ap loosePlace (f .ensures))
 
 tag-requires : tie.Need-tag-requires
 tag-requires c κs = search needs
@@ -30,7 +38,11 @@ tag-requires-2 : tie.Need-tag-requires-2
 tag-requires-2 c κs = search needs
 
 returns-2 : tie.Need-returns-2
-returns-2 c = let a = c .before .before .before .before .before .before .before .args in let f = c .before .before .before .before .before .class-of in off-tag (take (a .n) (a .t1)) (a .class) (f .result) (f .ensures) (λ e. c .if2 .taken (c .before .before .tag .ensures ∙ e ∙ sym (c .before .tag2 .ensures)))
+unfolding lookAt
+returns-2 c =
+    let a = c .before .before .before .before .before .before .before .before .args in
+    let f = c .before .before .before .before .before .before .class-of in
+    (off-tag (take (a .n) (a .t1)) (a .class) (f .result) (f .ensures) (λ e. c .if2 .taken (c .before .before .tag .ensures ∙ e ∙ sym (c .before .tag2 .ensures))), c .before .before .before .before .before .loose-place .ensures ∙ ap loosePlace (f .ensures))
 
 value-requires : tie.Need-value-requires
 value-requires c κs = search needs
@@ -39,16 +51,23 @@ value-requires-2 : tie.Need-value-requires-2
 value-requires-2 c κs = search needs
 
 returns-3 : tie.Need-returns-3
-returns-3 c = let a = c .before .before .before .before .before .before .before .before .before .before .args in let f = c .before .before .before .before .before .before .before .before .class-of in off-value (take (a .n) (a .t1)) (a .class) (f .result) (f .ensures) (λ e. c .if3 .taken (c .before .before .value .ensures ∙ e ∙ sym (c .before .value2 .ensures)))
+unfolding lookAt
+returns-3 c =
+    let a = c .before .before .before .before .before .before .before .before .before .before .before .args in
+    let f = c .before .before .before .before .before .before .before .before .before .class-of in
+    (off-value (take (a .n) (a .t1)) (a .class) (f .result) (f .ensures) (λ e. c .if3 .taken (c .before .before .value .ensures ∙ e ∙ sym (c .before .value2 .ensures))), c .before .before .before .before .before .before .before .before .loose-place .ensures ∙ ap loosePlace (f .ensures))
 
 returns-4 : tie.Need-returns-4
+unfolding lookAt
 returns-4 c =
-    let a = c .before .before .before .before .before .before .before .before .before .before .args in
-    let f = c .before .before .before .before .before .before .before .before .class-of in
-    on-class (take (a .n) (a .t1)) (a .class) (f .result) (f .ensures)
-    (sym (c .before .before .before .before .before .before .before .is-loose .ensures) ∙ c .before .before .before .before .before .before .if1 .left)
-    (sym (c .before .before .before .before .before .tag .ensures) ∙ c .before .before .before .if2 .left ∙ c .before .before .before .before .tag2 .ensures)
-    (sym (c .before .before .value .ensures) ∙ c .if3 .left ∙ c .before .value2 .ensures)
+    let a = c .before .before .before .before .before .before .before .before .before .before .before .args in
+    let f = c .before .before .before .before .before .before .before .before .before .class-of in (
+      on-class (take (a .n) (a .t1)) (a .class) (f .result) (f .ensures)
+          (sym (c .before .before .before .before .before .before .before .is-loose .ensures) ∙ c .before .before .before .before .before .before .if1 .left)
+          (sym (c .before .before .before .before .before .tag .ensures) ∙ c .before .before .before .if2 .left ∙ c .before .before .before .before .tag2 .ensures)
+          (sym (c .before .before .value .ensures) ∙ c .if3 .left ∙ c .before .value2 .ensures),
+      c .before .before .before .before .before .before .before .before .loose-place .ensures ∙ ap loosePlace (f .ensures),
+    )
 
 pub on-walk-spec : {M : Type 1} → statement M
 on-walk-spec =
@@ -57,6 +76,7 @@ on-walk-spec =
     array-share-prefix-ring
     slice-aggregate-class-of
     class-of-requires
+    loose-place-requires
     is-loose-requires
     returns
     tag-requires

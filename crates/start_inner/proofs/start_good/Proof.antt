@@ -11,11 +11,17 @@ class-of-requires c κs = search needs
 is-loose-requires : tie.Need-is-loose-requires
 is-loose-requires c κs = search needs
 
+loose-place-requires : tie.Need-loose-place-requires
+loose-place-requires c κs = search needs
+
 empty-requires : tie.Need-empty-requires
 empty-requires c κs = search needs
 
 returns : tie.Need-returns
-returns c = (start-off (c .before .before .before .before .before .args .s .now) (c .before .before .before .before .before .args .k) (c .before .before .before .class-of .result) (c .before .before .before .before .before .pre) (c .before .before .before .class-of .ensures) (sym (c .before .before .is-loose .ensures) ∙ c .before .if1 .taken), c .empty .ensures)
+returns c =
+    let a = c .before .before .before .before .before .before .args in
+    let f = c .before .before .before .before .class-of in
+    (start-off (a .s .now) (a .k) (f .result) (c .before .before .before .before .before .before .pre) (f .ensures) (c .before .loose-place .result) (sym (c .before .before .before .is-loose .ensures) ∙ c .before .before .if1 .taken) (c .before .loose-place .ensures), c .empty .ensures)
 
 lay-out-requires : tie.Need-lay-out-requires
 lay-out-requires c κs = c .before .before .before .before .pre .0 .0 .0 .0 .0 .0 .1
@@ -29,6 +35,7 @@ start-good-spec =
     (tie.spec
     class-of-requires
     is-loose-requires
+    loose-place-requires
     empty-requires
     returns
     lay-out-requires
