@@ -5,20 +5,20 @@
 --     next-inside                                 the next record starts in the catalogue or at its end, past this one
 -- Assumes nothing.
 use Prim.Native.Nat.{ℕ, _+_, _<_, _≤_}
-use mathlib.Core.Path.{_≡_, refl, sym, _∙_}
+use mathlib.Core.Path.{_≡_, sym, _∙_}
 use mathlib.Core.Bool.{true}
-use mathlib.Core.List.{List, reverse}
+use mathlib.Core.List.{List}
 use native.Mathlib.Omega.{arith}
-use lib.ListN.{length, take, drop, length-drop, length-reverse}
+use lib.ListN.{length, take, drop, length-drop}
 use lib.Seq.{length-take-le, take-at, drop-at}
 use Rattle.rings.specs.Necklace.{necklace}
-use Rattle.rings.specs.Alike.{mirrored}
-use Rattle.home_laws.proofs.Home.{length-home, home-necklace}
+use Rattle.home_laws.proofs.Alike.{mirrored-necklace}
 use Rattle.catalogue_record.specs.declared.Kind.{Kind}
 use Rattle.catalogue_record.specs.declared.Kind.the-variants.{Front, Back}
 use Rattle.catalogue_record.specs.declared.Entry.the-variants.{Record}
 use Rattle.catalogue_record.specs.Layout.{nOf, sectorsOf, frontRing}
 use Rattle.catalogue_record.specs.Says.{ReadSays}
+use Rattle.catalogue_record.proofs.Laid.{length-front}
 
 -- a record that is not cut has n sectors
 pub length-sectors : (t : List ℕ) → 4 + nOf t ≤ length t → length (sectorsOf t) ≡ nOf t
@@ -26,17 +26,10 @@ length-sectors t h = length-take-le (nOf t) (drop 4 t) (simp length-drop (omega 
 
 -- ---- the front ring
 
--- it has as many sectors as are stored
-length-front : (x : Kind) (w : List ℕ) → 0 < length w → length (frontRing x w) ≡ length w
-unfolding mirrored
-length-front Front w z = refl
-length-front Back w z = length-home (reverse w) (rw length-reverse z) ∙ length-reverse w
-
 -- it is a necklace where they are
 necklace-front : (x : Kind) (w : List ℕ) → 0 < length w → necklace w ≡ true → necklace (frontRing x w) ≡ true
-unfolding mirrored
 necklace-front Front w z h = h
-necklace-front Back w z h = home-necklace (reverse w) (rw length-reverse z)
+necklace-front Back w z h = mirrored-necklace w z
 
 module _ (c : List ℕ) (s : ℕ) (b : List ℕ) (n k : ℕ) (x : Kind) (next : ℕ) (d : List ℕ) (h : ReadSays c s b (Record n k x next) d) where
   long : length (sectorsOf (drop s c)) ≡ n
@@ -46,7 +39,7 @@ module _ (c : List ℕ) (s : ℕ) (b : List ℕ) (n k : ℕ) (x : Kind) (next : 
   some = omega (arith, long, h .2 .sectors, h .2 .good .0 .0 .0 .0 .1 .0)
 
   front : length (frontRing x (sectorsOf (drop s c))) ≡ n
-  front = length-front x (sectorsOf (drop s c)) some ∙ long
+  front = length-front (sectorsOf (drop s c)) some x ∙ long
 
   -- the first n bytes of the output are the front ring
   pub output-front : take n d ≡ frontRing x (sectorsOf (drop s c))

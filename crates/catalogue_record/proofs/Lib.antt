@@ -1,7 +1,11 @@
--- What the reader's contract determines and gives: the order as a chain that computes (Chain), that reading has one answer (Unique), what it gives its
--- callers (Laws), what it looks at (Only), and records to check by hand (Cases).
+-- What the contracts of reading and writing determine and give: the reader's order as a chain that computes (Chain), that reading has one answer (Unique), a
+-- record's bytes (Laid), what reading gives its callers (Laws), what it looks at (Only); that writing has one answer (Wrote), that reading and writing undo one another
+-- (Rounds); and records to check by hand (Cases).
 pub mod Chain
 pub mod Unique
+pub mod Laid
 pub mod Laws
 pub mod Only
+pub mod Wrote
+pub mod Rounds
 pub mod Cases

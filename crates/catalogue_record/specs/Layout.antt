@@ -3,6 +3,7 @@
 --     secondByte x, Marked t x     the marks: 52 46 is a ring seen from the front, 52 42 one seen from the back (hexadecimal)
 --     nOf t, kOf t, sectorsOf t    what stands behind the mark
 --     frontRing x w                the ring as seen from the front, of stored sectors w under a mark of kind x
+--     storedRing x w               what a record of kind x stores of the ring of w, which is seen from the front
 --     isNecklace c                 a reading of class c is a necklace
 -- Assumes nothing.
 use Prim.Native.Nat.{ℕ}
@@ -12,6 +13,7 @@ use mathlib.Core.List.{List}
 use lib.ListN.{getD, take, drop}
 use Rattle.rings.specs.declared.Class.{Class}
 use Rattle.rings.specs.declared.Class.the-variants.{Loose, Opening, Repeating, Single}
+use Rattle.rings.specs.Home.{home}
 use Rattle.rings.specs.Alike.{mirrored}
 use Rattle.catalogue_record.specs.declared.Kind.{Kind}
 use Rattle.catalogue_record.specs.declared.Kind.the-variants.{Front, Back}
@@ -41,6 +43,11 @@ sectorsOf t = take (nOf t) (drop 4 t)
 abbrev pub frontRing : Kind → List ℕ → List ℕ
 frontRing Front w = w
 frontRing Back w = mirrored w
+
+-- what is stored of a ring, given by any of its readings from the front: its home reading, or that of the reversed ring
+abbrev pub storedRing : Kind → List ℕ → List ℕ
+storedRing Front w = home w
+storedRing Back w = mirrored w
 
 -- a reading of this class is a necklace: it is Repeating or Single
 abbrev pub isNecklace : Class → Bool

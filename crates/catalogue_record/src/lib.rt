@@ -1,4 +1,4 @@
-// A catalogue's record (01, 'Catalogue records'): its kind, and what reading it answers. The call is `catalogue`'s.
+// A catalogue's record (01, 'Catalogue records'): its kind, and what reading and writing it answer. The calls are those of `catalogue` and `writer`.
 
 use refusal::Refusal;
 
@@ -27,5 +27,11 @@ pub enum Entry {
         next: usize,
     },
     End,
+    Refused(Refusal),
+}
+
+// What writing a record answers: the place after it; the record itself is written to the buffer.
+pub enum Written {
+    After(usize),
     Refused(Refusal),
 }

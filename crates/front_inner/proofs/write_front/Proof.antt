@@ -1,8 +1,6 @@
 -- `front_inner::write_front` meets its contract: a necklace brought home stays as it is, and a back record's sectors are turned over.
 -- Assumes nothing.
-use native.Mathlib.Omega.{arith}
 use borrow.Author.Needs.{needs}
-use lib.ListN.{length-take}
 use Rattle.front_inner.proofs.Fronts.{front-written}
 use Rattle.front_inner.proofs.write_front.Statement.{statement}
 use Rattle.front_inner.proofs.write_front.Tie as tie
@@ -16,14 +14,8 @@ bring-home-requires c κs = search needs
 enum-told-2 : tie.Need-enum-told-2
 enum-told-2 c = search needs
 
-array-borrow-prefix-back : tie.Need-array-borrow-prefix-back
-array-borrow-prefix-back c = search needs
-
-slice-aggregate-turn-over : tie.Need-slice-aggregate-turn-over
-slice-aggregate-turn-over c = let h = c .before .before .before .before .before .pre .0 .0 .0 .0 .0 .0 .0 .1 in simp length-take (omega arith)
-
 turn-over-requires : tie.Need-turn-over-requires
-turn-over-requires c κs = let h = c .before .before .before .before .before .before .pre .0 .0 .0 .0 .0 .0 .0 .1 in (c .before .before .before .before .before .before .pre .0, simp length-take (omega arith))
+turn-over-requires c κs = search needs
 
 same-length : tie.Need-same-length
 same-length c = search needs
@@ -35,7 +27,7 @@ same-length-2 : tie.Need-same-length-2
 same-length-2 c = search needs
 
 returns-2 : tie.Need-returns-2
-returns-2 c = rw (c .before .before .before .before .before .before .enum-told2 .given .1) (c .before .before .before .turn-over .ensures)
+returns-2 c = rw (c .before .before .before .before .enum-told2 .given .1) (c .before .before .turn-over .ensures)
 
 pub write-front-spec : {M : Type 1} → statement M
 write-front-spec =
@@ -44,8 +36,6 @@ write-front-spec =
     enum-told
     bring-home-requires
     enum-told-2
-    array-borrow-prefix-back
-    slice-aggregate-turn-over
     turn-over-requires
     same-length
     returns

@@ -1,0 +1,80 @@
+-- Writing a record has one answer, and leaves the lent buffer in one way.
+--     recordOf x k w              the bytes of the record of kind x of the ring of w in k shades
+--     placed-bytes, bytes-placed  the part that begins at the place is those bytes and what was behind them; and a part that is so holds the record
+--     wrote-bytes                 the whole buffer
+--     one-write                   no two answers satisfy the contract, the buffer included
+-- Assumes nothing.
+use Prim.Native.Nat.{ℕ, _+_, _<_, _≤_}
+use mathlib.Core.Path.{_≡_, refl, sym, ap, _∙_}
+use mathlib.Core.List.{List, _++_}
+use native.Mathlib.Omega.{arith}
+use lib.ListN.{length, take, drop, length-take, length-drop, take-append-drop}
+use lib.Seq.{drop-at}
+use Rattle.refusal.specs.declared.Refusal.{Refusal}
+use Rattle.refusal.specs.Order.{Passed}
+use Rattle.refusal.specs.Calls.{oneReading}
+use Rattle.refusal.proofs.Unique.{one-refusal, never-both}
+use Rattle.catalogue_record.specs.declared.Kind.{Kind}
+use Rattle.catalogue_record.specs.declared.Written.{Written}
+use Rattle.catalogue_record.specs.declared.Written.the-variants.{After, Refused}
+use Rattle.catalogue_record.specs.Layout.{nOf, kOf, sectorsOf, storedRing}
+use Rattle.catalogue_record.specs.Writes.{Unwritten, Placed, Wrote, WriteSays}
+use Rattle.catalogue_record.specs.Writes.Unwritten.{reading, cut}
+use Rattle.catalogue_record.proofs.Laid.{length-stored, bytes, laid-sectors, whole}
+
+-- the record of a reading
+abbrev pub recordOf : Kind → ℕ → List ℕ → List ℕ
+recordOf x k w = bytes x (length w) k (storedRing x w)
+
+module _ (w : List ℕ) (k : ℕ) (x : Kind) (z : 0 < length w) where
+  pub length-record : length (recordOf x k w) ≡ 4 + length w
+  length-record = omega (arith, length-stored w z x)
+
+  -- the part that begins at the place
+  pub placed-bytes : (t u : List ℕ) → Placed w k x t u → u ≡ recordOf x k w ++ drop (4 + length w) t
+  placed-bytes t u h =
+      whole x u (length w) k (storedRing x w) (omega (arith, long, length-take (nOf u) (drop 4 u), length-drop 4 u)) (h .marked) (h .sectors) (h .shades) (h .ring)
+      ∙ ap (λ (v : List ℕ). recordOf x k w ++ v) (h .behind)
+    where
+      long : length (sectorsOf u) ≡ length w
+      long = ap (λ (v : List ℕ). length v) (sym (h .ring)) ∙ length-stored w z x
+
+  -- the other way round
+  pub bytes-placed : (t u : List ℕ) → u ≡ recordOf x k w ++ drop (4 + length w) t → Placed w k x t u
+  bytes-placed t u e =
+      rw e
+      (record {
+        marked = (refl, refl);
+        sectors = refl;
+        shades = refl;
+        ring = sym (laid-sectors x (length w) k (storedRing x w) (drop (4 + length w) t) (length-stored w z x));
+        behind = drop-at (recordOf x k w) (drop (4 + length w) t) (4 + length w) length-record;
+      })
+
+  -- the whole buffer
+  pub wrote-bytes : (b : List ℕ) (p e : ℕ) (d : List ℕ) → Wrote w k x b p e d → d ≡ take p b ++ (recordOf x k w ++ drop (4 + length w) (drop p b))
+  wrote-bytes b p e d h =
+      sym (take-append-drop p d)
+      ∙ ap (λ (v : List ℕ). v ++ drop p d) (h .before)
+      ∙ ap (λ (v : List ℕ). take p b ++ v) (placed-bytes (drop p b) (drop p d) (h .here))
+
+module _ (w : List ℕ) (k : ℕ) (x : Kind) (b : List ℕ) (p : ℕ) where
+  -- never both written and refused
+  never : (e : ℕ) (d : List ℕ) (r : Refusal) → Wrote w k x b p e d → Unwritten w k (drop p b) p r → ⊥
+  never e d r h (reading g) = never-both (oneReading w k) r g (h .passed)
+  never e d r h (cut q g l) = omega (arith, h .fits)
+
+  -- at most one refusal
+  one : (r t : Refusal) → Unwritten w k (drop p b) p r → Unwritten w k (drop p b) p t → r ≡ t
+  one r t (reading g) (reading h) = one-refusal (oneReading w k) r t g h
+  one r t (reading g) (cut q h l) = absurd (never-both (oneReading w k) r g h)
+  one r t (cut q g l) (reading h) = absurd (never-both (oneReading w k) t h g)
+  one r t (cut q g l) (cut o h m) = q ∙ sym o
+
+  -- one answer, and one buffer after it
+  pub one-write : (r t : Written) (d f : List ℕ) → WriteSays w k x b p r d → WriteSays w k x b p t f → (r ≡ t) × (d ≡ f)
+  one-write (After e) (After a) d f g h =
+      (ap After (g .follows ∙ sym (h .follows)), wrote-bytes w k x (g .passed .0 .0 .0 .0 .0 .0 .0) b p e d g ∙ sym (wrote-bytes w k x (h .passed .0 .0 .0 .0 .0 .0 .0) b p a f h))
+  one-write (After e) (Refused t) d f g h = absurd (never e d t g (h .0))
+  one-write (Refused r) (After a) d f g h = absurd (never a f r h (g .0))
+  one-write (Refused r) (Refused t) d f g h = (ap Refused (one r t (g .0) (h .0)), g .1 ∙ sym (h .1))

@@ -1,0 +1,2 @@
+-- Laws that the proofs cite, over plain lists (Turning).
+pub mod Turning

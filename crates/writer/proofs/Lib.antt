@@ -1,0 +1,2 @@
+-- The record in its place in the buffer (Places).
+pub mod Places

@@ -1,0 +1,70 @@
+-- `writer::write_record` meets its contract: what the check of the reading answers, a cut buffer, or the record in its place. Assumes nothing.
+use Rattle.writer.proofs.Places.{wrote}
+use Rattle.catalogue_record.specs.Writes.Unwritten.{reading, cut}
+use lib.ListN.{length-take, length-drop}
+use native.Mathlib.Omega.{arith}
+use mathlib.Core.Path.{refl}
+use borrow.Author.Needs.{needs}
+use Rattle.writer.proofs.write_record.Statement.{statement}
+use Rattle.writer.proofs.write_record.Tie as tie
+
+check-reading-requires : tie.Need-check-reading-requires
+check-reading-requires c κs = search needs
+
+enum-known-r : tie.Need-enum-known-r
+enum-known-r c = search needs
+
+enum-told : tie.Need-enum-told
+enum-told c = search needs
+
+returns : tie.Need-returns
+returns c = let a = c .before .before .before .before .before .before .args in (cut refl (rw (c .before .enum-told .given .1) at (c .before .before .before .check-reading .ensures)) (omega (arith, c .if1 .taken, length-drop (a .at) (a .buffer .now))), refl)
+
+add-size : tie.Need-add-size
+add-size c = search needs
+
+returns-2 : tie.Need-returns-2
+returns-2 c = let a = c .before .before .before .before .before .before .before .args in (cut refl (rw (c .before .before .enum-told .given .1) at (c .before .before .before .before .check-reading .ensures)) (omega (arith, c .if2 .taken, c .before .if1 .left, length-drop (a .at) (a .buffer .now))), refl)
+
+sub-put-record : tie.Need-sub-put-record
+sub-put-record c = search needs
+
+part-put-record-start : tie.Need-part-put-record-start
+part-put-record-start c = search needs
+
+part-put-record-end : tie.Need-part-put-record-end
+part-put-record-end c = search needs
+
+put-record-requires : tie.Need-put-record-requires
+put-record-requires c κs = (rw (c .before .before .before .enum-told .given .1) at (c .before .before .before .before .before .check-reading .ensures), simp (length-take, length-drop) (omega (arith, c .before .if2 .left, c .before .before .if1 .left)))
+
+add-t13 : tie.Need-add-t13
+add-t13 c = search needs
+
+returns-3 : tie.Need-returns-3
+returns-3 c = (reading (rw (c .before .r .given .1) at (c .before .before .before .check-reading .ensures)), refl)
+
+same-length : tie.Need-same-length
+same-length c = search needs
+
+returns-4 : tie.Need-returns-4
+returns-4 c = let a = c .before .before .before .before .before .before .before .before .before .before .before .args in wrote (a .reading .now) (a .k) (a .kind) (a .buffer .now) (a .at) _ (rw (c .before .before .before .before .before .before .enum-told .given .1) at (c .before .before .before .before .before .before .before .before .check-reading .ensures)) (c .before .before .before .before .before .if1 .left) (c .before .before .before .before .if2 .left) (c .before .before .put-record .ensures)
+
+pub write-record-spec : {M : Type 1} → statement M
+write-record-spec =
+    tie.close
+    (tie.spec
+    check-reading-requires
+    enum-known-r
+    enum-told
+    returns
+    add-size
+    returns-2
+    sub-put-record
+    part-put-record-start
+    part-put-record-end
+    put-record-requires
+    add-t13
+    returns-3
+    same-length
+    returns-4)

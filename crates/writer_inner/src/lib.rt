@@ -1,0 +1,48 @@
+// A record written at the front of a part of a buffer, which has room for it: its head, and its sectors behind it. No public calls: `writer` checks what these
+// ask for.
+
+use catalogue_record::BACK_MARK;
+use catalogue_record::FRONT_MARK;
+use catalogue_record::HEAD;
+use catalogue_record::Kind;
+use catalogue_record::MARK;
+ghost use mathlib.Core.Path.{_≡_};
+ghost use Prim.Native.Nat.{_+_, _≤_};
+ghost use lib.ListN.{length};
+ghost use Rattle.refusal.specs.Order.{Passed};
+ghost use Rattle.refusal.specs.Calls.{oneReading};
+ghost use Rattle.catalogue_record.specs.Layout.{secondByte};
+ghost use Rattle.catalogue_record.specs.Writes.{Placed};
+ghost use Rattle.writer_inner.specs.Head.{headed};
+
+// Writes the record to the front of `rest`.
+pub fn put_record(reading: &[u8], k: usize, kind: Kind, rest: &mut [u8])
+    requires { ⌜ Passed (oneReading (now reading) k) × (4 + length (now reading) ≤ length (now rest)) ⌝ }
+    ensures { λ r. ⌜ Placed (now (reading .entry)) k kind (now (rest .entry)) (now (rest .exit)) ⌝ }
+{
+    let n = reading.len();
+    let e = HEAD + n;
+    put_head(rest, second_byte(kind), n, k);
+    stored_inner::put_sectors(reading, kind, &mut rest[HEAD..e]);
+}
+
+// Writes the head: the mark, n and k.
+fn put_head(rest: &mut [u8], second: u8, n: usize, k: usize)
+    requires { ⌜ (4 ≤ length (now rest)) × (n ≤ 64) × (k ≤ 16) ⌝ }
+    ensures { λ r. ⌜ now (rest .exit) ≡ headed (now (rest .entry)) second n k ⌝ }
+{
+    rest[0] = MARK;
+    rest[1] = second;
+    rest[2] = n as u8;
+    rest[3] = k as u8;
+}
+
+// The second byte of the mark.
+fn second_byte(kind: Kind) -> u8
+    ensures { λ r. ⌜ r ≡ secondByte kind ⌝ }
+{
+    match kind {
+        Kind::Front => FRONT_MARK,
+        Kind::Back => BACK_MARK,
+    }
+}
