@@ -1,6 +1,6 @@
 -- A record's bytes, as Layout finds them.
---     length-stored, stored-necklace, stored-reading    what a record stores of a ring is a necklace of as many sectors, of the same shades
---     front-stored, stored-front                        its front ring is the home reading; and a necklace's front ring is stored as that necklace
+--     front-stored, stored-front                        the front ring of what is stored is the home reading; a necklace's front ring is stored as that necklace
+--     length-stored, stored-necklace, stored-reading    what is stored is a necklace of as many sectors, of the same shades
 --     length-front, front-reading                       the front ring is as long as the sectors, and a reading of the same shades
 --     bytes x n k v                                     a mark of kind x, n, k and the sectors v
 --     laid-sectors                                      the sectors in those bytes are v
@@ -25,6 +25,11 @@ use Rattle.catalogue_record.specs.Layout.{secondByte, Marked, nOf, kOf, 
 -- ---- what is stored, and its front ring
 
 module _ (w : List ℕ) (z : 0 < length w) where
+  -- the front ring of what is stored is the home reading that was meant
+  pub front-stored : (x : Kind) → frontRing x (storedRing x w) ≡ home w
+  front-stored Front = refl
+  front-stored Back = mirrored-mirrored w z
+
   pub length-stored : (x : Kind) → length (storedRing x w) ≡ length w
   length-stored Front = length-home w z
   length-stored Back = length-mirrored w z
@@ -36,11 +41,6 @@ module _ (w : List ℕ) (z : 0 < length w) where
   pub stored-reading : (x : Kind) (n k : ℕ) → Reading n k w → Reading n k (storedRing x w)
   stored-reading Front n k r = home-reading w z n k r
   stored-reading Back n k r = mirrored-reading w z n k r
-
-  -- the front ring of what is stored is the home reading that was meant
-  pub front-stored : (x : Kind) → frontRing x (storedRing x w) ≡ home w
-  front-stored Front = refl
-  front-stored Back = mirrored-mirrored w z
 
   -- the front ring of a necklace is stored as that necklace
   pub stored-front : (x : Kind) → necklace w ≡ true → storedRing x (frontRing x w) ≡ w

@@ -29,7 +29,7 @@ use Rattle.catalogue_record.specs.Writes.{Wrote, WriteSays}
 use Rattle.catalogue_record.proofs.Unique.{one-read}
 use Rattle.catalogue_record.proofs.Laws.{length-sectors, output-front}
 use Rattle.catalogue_record.proofs.Laid.{length-stored, stored-necklace, stored-reading, front-stored, stored-front, length-front, front-reading, bytes, laid-sectors, whole}
-use Rattle.catalogue_record.proofs.Wrote.{recordOf, length-record, placed-bytes, bytes-placed, one-write}
+use Rattle.catalogue_record.proofs.Wrote.{recordBytes, length-record, placed-bytes, bytes-placed, one-write}
 
 -- ---- a reading of good numbers
 
@@ -39,7 +39,7 @@ reading-passed w k n z h r = ((((((rw (r .long) z, tt), h), λ i l. r .shades i 
 -- ---- written, and then read
 
 -- a record that stands at p, before any bytes z, is read
-reads-here : (w : List ℕ) (k : ℕ) (x : Kind) (z : List ℕ) (p : ℕ) (o : List ℕ) → Passed (oneReading w k) → Read (recordOf x k w ++ z) p o (length w) k x (p + 4 + length w) (home w ++ drop (length w) o)
+reads-here : (w : List ℕ) (k : ℕ) (x : Kind) (z : List ℕ) (p : ℕ) (o : List ℕ) → Passed (oneReading w k) → Read (recordBytes x k w ++ z) p o (length w) k x (p + 4 + length w) (home w ++ drop (length w) o)
 reads-here w k x z p o g =
     record {
       good = ((((((omega (arith, long), (x, (refl, refl))), g .0 .0 .0 .0 .0 .0), g .0 .0 .0 .0 .1), omega (arith, long)), below), home);
@@ -53,29 +53,29 @@ reads-here w k x z p o g =
     some : 0 < length w
     some = g .0 .0 .0 .0 .0 .0 .0
 
-    here : sectorsOf (recordOf x k w ++ z) ≡ storedRing x w
+    here : sectorsOf (recordBytes x k w ++ z) ≡ storedRing x w
     here = laid-sectors x (length w) k (storedRing x w) z (length-stored w some x)
 
-    long : length (recordOf x k w ++ z) ≡ 4 + length w + length z
-    long = omega (arith, length-append (recordOf x k w) z, length-record w k x some)
+    long : length (recordBytes x k w ++ z) ≡ 4 + length w + length z
+    long = omega (arith, length-append (recordBytes x k w) z, length-record w k x some)
 
-    below : Below (oneReading (sectorsOf (recordOf x k w ++ z)) k)
+    below : Below (oneReading (sectorsOf (recordBytes x k w ++ z)) k)
     below =
         subst (λ (v : List ℕ). Below (oneReading v k)) (sym here)
         (λ i l. stored-reading w some x (length w) k (record { long = refl; shades = g .0 .0 .0 .1 }) .shades i (omega (arith, length-stored w some x)))
 
-    home : necklace (sectorsOf (recordOf x k w ++ z)) ≡ true
+    home : necklace (sectorsOf (recordBytes x k w ++ z)) ≡ true
     home = ap necklace here ∙ stored-necklace w some x
 
 module _ (w : List ℕ) (k : ℕ) (x : Kind) (b : List ℕ) (p e : ℕ) (d : List ℕ) (h : Wrote w k x b p e d) where
   -- the record stands at p
-  here : drop p d ≡ recordOf x k w ++ drop (4 + length w) (drop p b)
+  here : drop p d ≡ recordBytes x k w ++ drop (4 + length w) (drop p b)
   here = placed-bytes w k x (h .passed .0 .0 .0 .0 .0 .0 .0) (drop p b) (drop p d) (h .here)
 
   -- p is in the buffer
   within : p < length d
   within =
-      let l : length (drop p d) ≡ length (recordOf x k w ++ drop (4 + length w) (drop p b)) = ap (λ (v : List ℕ). length v) here in
+      let l : length (drop p d) ≡ length (recordBytes x k w ++ drop (4 + length w) (drop p b)) = ap (λ (v : List ℕ). length v) here in
       omega (arith, l, length-drop p d)
 
   -- what the reader may answer
@@ -109,25 +109,25 @@ module _ (c : List ℕ) (s : ℕ) (b : List ℕ) (n k : ℕ) (x : Kind) (next : 
   someFront = omega (arith, length-answer, some, long)
 
   -- the catalogue from s on
-  split : drop s c ≡ recordOf x k (take n d) ++ drop (4 + length (take n d)) (drop s c)
+  split : drop s c ≡ recordBytes x k (take n d) ++ drop (4 + length (take n d)) (drop s c)
   split =
       whole x (drop s c) (length (take n d)) k (storedRing x (take n d)) (h .2 .good .0 .0 .0 .0 .0 .0) (h .2 .marked) (length-answer ∙ h .2 .sectors) (h .2 .shades)
       (ap (storedRing x) front ∙ stored-front body some x (h .2 .good .1))
 
   -- the record of what was answered has 4 + n bytes
-  length-again : length (recordOf x k (take n d)) ≡ 4 + n
+  length-again : length (recordBytes x k (take n d)) ≡ 4 + n
   length-again = length-record (take n d) k x someFront ∙ ap (λ (i : ℕ). 4 + i) length-answer
 
   -- the bytes that were read
-  pub same-bytes : recordOf x k (take n d) ≡ take (4 + n) (drop s c)
+  pub same-bytes : recordBytes x k (take n d) ≡ take (4 + n) (drop s c)
   same-bytes =
-      sym (ap (take (4 + n)) split ∙ take-at (recordOf x k (take n d)) (drop (4 + length (take n d)) (drop s c)) (4 + n) length-again)
+      sym (ap (take (4 + n)) split ∙ take-at (recordBytes x k (take n d)) (drop (4 + length (take n d)) (drop s c)) (4 + n) length-again)
 
   -- so that wherever it is written, the same bytes stand there
   pub copied : (v : List ℕ) (p e : ℕ) (f : List ℕ) → WriteSays (take n d) k x v p (After e) f → take (4 + n) (drop p f) ≡ take (4 + n) (drop s c)
   copied v p e f g =
       ap (take (4 + n)) (placed-bytes (take n d) k x someFront (drop p v) (drop p f) (g .here))
-      ∙ take-at (recordOf x k (take n d)) (drop (4 + length (take n d)) (drop p v)) (4 + n) length-again
+      ∙ take-at (recordBytes x k (take n d)) (drop (4 + length (take n d)) (drop p v)) (4 + n) length-again
       ∙ same-bytes
 
   -- what was answered passes the writer's checks

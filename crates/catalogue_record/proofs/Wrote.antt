@@ -1,5 +1,5 @@
 -- Writing a record has one answer, and leaves the lent buffer in one way.
---     recordOf x k w              the bytes of the record of kind x of the ring of w in k shades
+--     recordBytes x k w              the bytes of the record of kind x of the ring of w in k shades
 --     placed-bytes, bytes-placed  the part that begins at the place is those bytes and what was behind them; and a part that is so holds the record
 --     wrote-bytes                 the whole buffer
 --     one-write                   no two answers satisfy the contract, the buffer included
@@ -23,24 +23,24 @@ use Rattle.catalogue_record.specs.Writes.Unwritten.{reading, cut}
 use Rattle.catalogue_record.proofs.Laid.{length-stored, bytes, laid-sectors, whole}
 
 -- the record of a reading
-abbrev pub recordOf : Kind → ℕ → List ℕ → List ℕ
-recordOf x k w = bytes x (length w) k (storedRing x w)
+abbrev pub recordBytes : Kind → ℕ → List ℕ → List ℕ
+recordBytes x k w = bytes x (length w) k (storedRing x w)
 
 module _ (w : List ℕ) (k : ℕ) (x : Kind) (z : 0 < length w) where
-  pub length-record : length (recordOf x k w) ≡ 4 + length w
+  pub length-record : length (recordBytes x k w) ≡ 4 + length w
   length-record = omega (arith, length-stored w z x)
 
   -- the part that begins at the place
-  pub placed-bytes : (t u : List ℕ) → Placed w k x t u → u ≡ recordOf x k w ++ drop (4 + length w) t
+  pub placed-bytes : (t u : List ℕ) → Placed w k x t u → u ≡ recordBytes x k w ++ drop (4 + length w) t
   placed-bytes t u h =
       whole x u (length w) k (storedRing x w) (omega (arith, long, length-take (nOf u) (drop 4 u), length-drop 4 u)) (h .marked) (h .sectors) (h .shades) (h .ring)
-      ∙ ap (λ (v : List ℕ). recordOf x k w ++ v) (h .behind)
+      ∙ ap (λ (v : List ℕ). recordBytes x k w ++ v) (h .behind)
     where
       long : length (sectorsOf u) ≡ length w
       long = ap (λ (v : List ℕ). length v) (sym (h .ring)) ∙ length-stored w z x
 
   -- the other way round
-  pub bytes-placed : (t u : List ℕ) → u ≡ recordOf x k w ++ drop (4 + length w) t → Placed w k x t u
+  pub bytes-placed : (t u : List ℕ) → u ≡ recordBytes x k w ++ drop (4 + length w) t → Placed w k x t u
   bytes-placed t u e =
       rw e
       (record {
@@ -48,11 +48,11 @@ module _ (w : List ℕ) (k : ℕ) (x : Kind) (z : 0 < length w) where
         sectors = refl;
         shades = refl;
         ring = sym (laid-sectors x (length w) k (storedRing x w) (drop (4 + length w) t) (length-stored w z x));
-        behind = drop-at (recordOf x k w) (drop (4 + length w) t) (4 + length w) length-record;
+        behind = drop-at (recordBytes x k w) (drop (4 + length w) t) (4 + length w) length-record;
       })
 
   -- the whole buffer
-  pub wrote-bytes : (b : List ℕ) (p e : ℕ) (d : List ℕ) → Wrote w k x b p e d → d ≡ take p b ++ (recordOf x k w ++ drop (4 + length w) (drop p b))
+  pub wrote-bytes : (b : List ℕ) (p e : ℕ) (d : List ℕ) → Wrote w k x b p e d → d ≡ take p b ++ (recordBytes x k w ++ drop (4 + length w) (drop p b))
   wrote-bytes b p e d h =
       sym (take-append-drop p d)
       ∙ ap (λ (v : List ℕ). v ++ drop p d) (h .before)

@@ -1,8 +1,8 @@
 // Writing the records of a catalogue (02, a). A record and what is promised of writing it stand in `catalogue_record`.
 
+use catalogue_record::HEAD;
 pub use catalogue_record::Kind;
 pub use catalogue_record::Written;
-use catalogue_record::HEAD;
 use refusal::Checked;
 use refusal::Refusal;
 ghost use Rattle.catalogue_record.specs.Writes.{WriteSays};
