@@ -1,6 +1,7 @@
 -- `writer_inner::put_record` meets its contract: the head, and the sectors behind it. Assumes nothing.
 use Rattle.writer_inner.proofs.Heads.{placed}
 use mathlib.Core.Path.{refl}
+use native.Mathlib.Omega.{arith}
 use borrow.Author.Needs.{needs}
 use Rattle.writer_inner.proofs.put_record.Statement.{statement}
 use Rattle.writer_inner.proofs.put_record.Tie as tie
@@ -30,7 +31,7 @@ same-length : tie.Need-same-length
 same-length c = search needs
 
 returns : tie.Need-returns
-returns c = let a = c .before .before .before .before .before .before .before .before .before .before .before .args in placed (a .reading .now) (a .k) (a .kind) (a .rest .now) _ _ _ (c .before .before .before .before .before .before .before .second-byte .result) (c .before .before .before .before .before .before .before .before .before .before .before .pre .0 .0 .0 .0 .0 .0 .0 .0) (c .before .before .before .before .before .before .before .before .before .before .before .pre .1) (c .before .before .before .before .before .before .before .second-byte .ensures) (c .before .before .before .before .before .before .put-head .ensures) (c .before .before .put-sectors .ensures) refl
+returns c = let a = c .before .before .before .before .before .before .before .before .before .before .before .args in placed (a .reading .now) (a .k) (a .kind) (a .rest .now) _ _ _ (c .before .before .before .before .before .before .before .second-byte .result) (c .before .before .before .before .before .before .before .before .before .before .before .pre .0 .0 .0 .0 .0 .0 .0 .0) (omega (arith, c .before .before .before .before .before .before .before .before .before .before .before .pre .1)) (c .before .before .before .before .before .before .before .second-byte .ensures) (c .before .before .before .before .before .before .put-head .ensures) (c .before .before .put-sectors .ensures) refl
 
 pub put-record-spec : {M : Type 1} → statement M
 put-record-spec =
