@@ -3,8 +3,9 @@
 --     along-start                     before the first step
 --     along-fits, along-size, along-ready    the ring has 64 sectors, and a step may be made
 --     Came, came, stops               what a step's answer says: the ring that it came to, or that there is no ring more
---     came-size, came-rings, came-moves, came-room    that ring's sectors, its counts, and the room for its line
---     along-on, along-less, along-length    with that line one ring more, and less room
+--     line-short, line-room, line-further    of any ring's line, whatever its numbers: there is room for it, and it is not empty
+--     came-size, came-moves           that ring's sectors, and its counts
+--     along-on                        with that line, and no other, one ring more
 --     says-full, says-ended           what the loop promises where it ends
 -- Assumes nothing.
 use Prim.Native.Nat.{ℕ, suc, _+_, _*_, _^_, _<_, _≤_}
@@ -89,6 +90,20 @@ pub record Came (k : ℕ) (last ring : List ℕ) (m p : ℕ) : Type 0 where
   pub counted : m ≡ moves k last (some ring)
   pub repeats : p ≡ period ring
 
+-- a ring's line is never empty, and no line of at most 64 sectors and two machine words is longer than `lineRoom`
+pub line-some : (w : List ℕ) (m p : ℕ) → 0 < length (ringLine w m p)
+line-some w m p = omega (arith, length-ring w m p)
+
+pub line-short : (w : List ℕ) (m p : ℕ) → length w ≤ 64 → m < 2 ^ 64 → p < 2 ^ 64 → length (ringLine w m p) ≤ lineRoom
+line-short w m p l a b = omega (arith, length-ring w m p, length-decimal 19 m (omega arith), length-decimal 19 p (omega arith))
+
+-- so there is room for it, and it goes further
+pub line-room : (room at : ℕ) (w : List ℕ) (m p : ℕ) → at + lineRoom ≤ room → length w ≤ 64 → m < 2 ^ 64 → p < 2 ^ 64 → at + length (ringLine w m p) ≤ room
+line-room room at w m p h l x y = omega (arith, line-short w m p l x y)
+
+pub line-further : (b : List ℕ) (at : ℕ) (w : List ℕ) (m p at′ : ℕ) (b′ : List ℕ) → Placed b at (ringLine w m p) at′ b′ → (at < at′) × (length b′ ≡ length b)
+line-further b at w m p at′ b′ q = (omega (arith, q .next, line-some w m p), placed-length b at (ringLine w m p) at′ b′ q)
+
 -- a period is at most one more than the length
 pub period-le : (v : List ℕ) → period v ≤ suc (length v)
 unfolding period
@@ -166,17 +181,8 @@ module _ {n k : ℕ} {v tail : List ℕ} {rings₀ sum₀ : ℕ} {b : List ℕ} 
     line-fits : length (row k (a .last) v′) ≤ lineRoom
     unfolding row
     line-fits =
-        omega (
-          arith,
-          length-ring v′ (moves k (a .last) (some v′)) (period v′),
-          length-decimal 19 (moves k (a .last) (some v′)) (omega (arith, c .counted, came-moves)),
-          length-decimal 19 (period v′) (omega (arith, period-le v′, came-reading .long, a .numbers .sized)),
-          came-reading .long,
-          a .numbers .sized,
-        )
-
-    pub came-room : at + lineRoom ≤ length b′ → at + length (ringLine (take n (v′ ++ drop n ring)) m p′) ≤ length b′
-    came-room h = rw line-is (omega (arith, line-fits))
+        line-short v′ (moves k (a .last) (some v′)) (period v′) (omega (arith, came-reading .long, a .numbers .sized)) (omega (arith, c .counted, came-moves))
+        (omega (arith, period-le v′, came-reading .long, a .numbers .sized))
 
     module _ (at′ : ℕ) (b″ : List ℕ) (room : at + lineRoom ≤ length b′) (q : Placed b′ at (ringLine (take n (v′ ++ drop n ring)) m p′) at′ b″) where
       placed-line : Placed b′ at (row k (a .last) v′) at′ b″
@@ -207,13 +213,6 @@ module _ {n k : ℕ} {v tail : List ℕ} {rings₀ sum₀ : ℕ} {b : List ℕ} 
             inside = omega (arith, placed-line .next, line-fits, same-room);
             goes = goes-on;
           }
-
-      pub along-less : at < at′
-      unfolding row
-      along-less = omega (arith, placed-line .next, length-ring v′ (moves k (a .last) (some v′)) (period v′))
-
-      pub along-length : length b″ ≡ length b′
-      along-length = placed-length b′ at (row k (a .last) v′) at′ b″ placed-line
 
 -- ---- the end of the loop
 

@@ -6,7 +6,7 @@ use mathlib.Core.Bool.{true}
 use native.Mathlib.Omega.{arith}
 use lib.ListN.{length, take, drop, length-take}
 use borrow.Author.Needs.{needs}
-use Rattle.rows_inner.proofs.Loop.{Along, along-start, along-fits, along-size, along-ready, along-rings, came, came-size, came-moves, came-room, along-on, along-less, along-length, stops, keeps-length, says-full, says-ended}
+use Rattle.rows_inner.proofs.Loop.{Along, along-start, along-fits, along-size, along-ready, along-rings, came, came-size, came-moves, line-room, line-further, along-on, stops, keeps-length, says-full, says-ended}
 use Rattle.rows_inner.proofs.fill_rows.Statement.{statement}
 use Rattle.rows_inner.proofs.fill_rows.Tie as tie
 
@@ -54,13 +54,15 @@ slice-aggregate-place-ring c =
     let q = came a _ (o .0 .0) (w .result .period) (rw (o .1) at (w .ensures)) in
     simp length-take (omega (arith, along-fits a, came-size a _ (o .0 .0) (w .result .period) q))
 
+-- there is room for the line of any two numbers; that it is the ring's own line is asked in `loop-again`
 place-ring-requires : tie.Need-place-ring-requires Inv-loop μ-loop
 place-ring-requires c κs =
     let a = c .before .before .before .before .before .before .before .before .before .loop .inv .0 in
     let w = c .before .before .before .before .before .before .go-on in
     let o = c .before .before .before .outcome .given in
     let q = came a _ (o .0 .0) (w .result .period) (rw (o .1) at (w .ensures)) in
-    came-room a _ (o .0 .0) (w .result .period) q (omega (arith, c .before .before .before .before .before .before .before .before .loop-test .taken))
+    let h = c .before .before .before .before .before .before .before .before .loop-test .taken in
+    line-room _ _ _ _ _ (omega (arith, h)) (simp length-take (omega (arith, along-fits a))) (omega (arith, came-moves a _ (o .0 .0) (w .result .period) q)) (search needs)
 
 add-rings : tie.Need-add-rings Inv-loop μ-loop
 add-rings c = omega (arith, along-rings (c .before .before .before .before .before .before .before .before .before .before .before .before .loop .inv .0))
@@ -75,13 +77,8 @@ add-moves c =
 
 loop-less : tie.Need-loop-less Inv-loop μ-loop
 loop-less c =
-    let a = c .before .before .before .before .before .before .before .before .before .before .before .before .loop .inv .0 in
-    let w = c .before .before .before .before .before .before .before .before .before .go-on in
-    let o = c .before .before .before .before .before .before .outcome .given in
-    let q = came a _ (o .0 .0) (w .result .period) (rw (o .1) at (w .ensures)) in
     let h = c .before .before .before .before .before .before .before .before .before .before .before .loop-test .taken in
-    let p = c .before .before .place-ring .ensures in
-    omega (arith, h, along-less a _ (o .0 .0) (w .result .period) q _ _ (omega (arith, h)) p, along-length a _ (o .0 .0) (w .result .period) q _ _ (omega (arith, h)) p)
+    omega (arith, h, line-further _ _ _ _ _ _ _ (c .before .before .place-ring .ensures))
 
 loop-again : tie.Need-loop-again Inv-loop μ-loop
 loop-again c =
