@@ -3,7 +3,9 @@
 --     seek-start, seek-none, seek-asks          the loop starts; there is no place to raise; what repeating asks
 --     lastRaised n start ring                   the place that was raised last, or 0
 --     seek-right                                the place that is raised lies further right than that before: there are at most n rounds
---     seek-size, seek-run, seek-last, seek-falls, seek-few, seek-found, seek-on    what is raised is a ring, or the search goes on from there
+--     seek-few, seek-counts                     what was raised so far is counted, and is at most n
+--     seek-size, seek-run, seek-last, seek-falls, seek-found, seek-on    what is raised is a ring, or the search goes on from there
+--     answers-soon                              so whatever the answer, at most n places were raised
 --     above-opening, above-asks                 the reading is a prenecklace; what repeating asks where it is none
 --     above-size, above-run, above-found, above-on, above-answers    its longest beginning that is one is repeated: that is the ring, or the search goes on from there
 -- Assumes nothing.
@@ -13,10 +15,10 @@ use mathlib.Core.Bool.{true, false, true≢false}
 use mathlib.Core.Option.{some}
 use mathlib.Core.List.{List, _++_}
 use native.Mathlib.Omega.{arith}
-use lib.ListN.{length, take, drop, set, length-set, length-append, length-drop}
+use lib.ListN.{length, take, drop, set, length-set, length-append, length-drop, length-take}
 use lib.Seq.{take-at, length-take-le, getD-take, getD-set-same, getD-set-other}
 use Rattle.words.specs.Order.{before, upTo, same}
-use Rattle.words.proofs.Split.{lt, eq, gt, tri, clash}
+use Rattle.words.proofs.Split.{lt, eq, gt, tri, clash, test, passes, fails}
 use Rattle.words.proofs.Sequence.{sec}
 use Rattle.words.proofs.Lex.{same-refl, same-false, before-less, before-irrefl, before-upTo, upTo-refl, upTo-before-trans}
 use Rattle.rings.specs.Prenecklace.{lyn}
@@ -26,13 +28,16 @@ use Rattle.necklace_laws.proofs.Run.{Pre, Run, pre-shorter}
 use Rattle.necklace_laws.proofs.Raise.{raise-lyn}
 use Rattle.necklace_laws.proofs.Words.{pre-of}
 use Rattle.necklace_laws.proofs.Lyndon.{run-prenecklace, run-lyn}
+use Rattle.necklace_laws.proofs.FullWalk.{next-facts}
 use Rattle.counted_inner.specs.declared.Sought.{Sought}
 use Rattle.scan_inner.specs.Beginning.{Opened}
 use Rattle.counted_inner.specs.Runs.{Repeatable, Repeats}
 use Rattle.raising_inner.specs.Places.{Ring, Blocked, Begun, Placed}
 use Rattle.counted_inner.specs.Above.{Answers}
 use Rattle.raising_inner.specs.Ready.{Ready, Opening}
-use Rattle.counted_inner.proofs.Stepping.{Step, step-none, step-found, step-on, Further, further-right, Lifts, raise-step, Settles, settle-step}
+use Rattle.counted_inner.proofs.Stepping.{Step, step-none, step-found, step-on, Further, further-right, Lifts, raise-step, Settles, settles-keeps, settles-rises, settle-step}
+use Rattle.counted_inner.specs.Raised.{raisedTo}
+use Rattle.counted_inner.proofs.Raised.{raised-few, raised-none, raised-more, raised-settled, raised-from}
 
 -- ---- a new ring in the first n sectors
 
@@ -73,12 +78,14 @@ pub record Standing (cs : List ℕ) (n k : ℕ) (start ring : List ℕ) (p : ℕ
   pub size : length ring ≡ 64
   pub opening : Opening ring n k cs
   pub next : nextOf (countedNecklace cs) k (take n ring) ≡ nextOf (countedNecklace cs) k (take n start)
+  pub begun : length (take n start) ≡ n
   pub reached : upTo (take n start) (take n ring) ≡ true
   pub within : p ≤ n
+  pub fresh : p ≡ 0 → take n start ≡ take n ring
   pub further : 0 < p → Further cs n k (take n ring) p
 
 pub seek-start : (cs : List ℕ) (n k : ℕ) (start : List ℕ) → length start ≡ 64 → Opening start n k cs → Standing cs n k start start (lastRaised n start start)
-seek-start cs n k start size p = record { size = size; opening = p; next = refl; reached = upTo-refl (take n start); within = omega (arith, last-none n start); further = λ h. absurd (omega (arith, last-none n start)) }
+seek-start cs n k start size p = record { size = size; opening = p; next = refl; begun = p .ready .reading .long; reached = upTo-refl (take n start); within = omega (arith, last-none n start); fresh = λ h. refl; further = λ h. absurd (omega (arith, last-none n start)) }
 
 module _ (cs : List ℕ) (n k : ℕ) (start ring : List ℕ) (p : ℕ) (at : Standing cs n k start ring p) (i b : ℕ) (found : Placed ring n k cs (record { end = i; shade = b })) where
   long : length (take n ring) ≡ n
@@ -99,18 +106,31 @@ module _ (cs : List ℕ) (n k : ℕ) (start ring : List ℕ) (p : ℕ) (at : Sta
       found .blocked (d .at) (sec u (d .at)) (omega arith) (d .bound) (omega (arith, d .less, same-sector (d .at) (d .bound))) (r .reading .shades (d .at) (d .bound)) u r
       (λ m q. sym (d .agree m q) ∙ same-sector m (omega (arith, d .bound))) refl
 
-  -- no place can be raised; q were, one for each round
-  pub seek-none : i ≡ 0 → (q : ℕ) → q ≤ p → Answers start n k cs (record { some = false; ring = ring; raised = q })
-  seek-none z q few = record { ring = λ e. absurd (true≢false (sym e)); done = λ e. sym (at .next) ∙ step-none cs n k (take n ring) long (no-ring z); soon = omega (arith, at .within) }
+  -- where a place was raised before, this one lies further right
+  beyond : 0 < p → p < i
+  beyond h = further-right cs n k (take n ring) p i long (at .further h) (λ l c y q r x. still-blocked l c q (found .blocked l c y q (omega (arith, r, same-sector l q)) x))
+
+  -- where no place can be raised none was before
+  unraised : i ≡ 0 → raisedTo (take n start) (take n ring) ≡ 0
+  unraised z = raised-none (take n start) (take n ring) (at .fresh (elim (tri p 0) [ lt h ↦ absurd (omega arith) | eq h ↦ h | gt h ↦ absurd (omega (arith, beyond h)) ]))
+
+  -- no place can be raised; q were
+  pub seek-none : i ≡ 0 → (q : ℕ) → q ≡ raisedTo (take n start) (take n ring) → Answers start n k cs (record { some = false; ring = ring; raised = q })
+  seek-none z q counted = record {
+    ring = λ e. absurd (true≢false (sym e));
+    raised = λ e. absurd (true≢false (sym e));
+    done = λ e. sym (at .next) ∙ step-none cs n k (take n ring) long (no-ring z);
+    unraised = λ e. counted ∙ unraised z;
+  }
+
+  -- no more were raised than there are sectors
+  pub seek-few : (q : ℕ) → q ≡ raisedTo (take n start) (take n ring) → q ≤ n
+  seek-few q counted = omega (arith, raised-few (take n start) (take n ring), long)
 
   module _ (z : i ≡ 0 → ⊥) where
     -- the place lies further right than that before
     pub seek-right : p < i
-    seek-right = go p (at .further)
-      where
-        go : (p : ℕ) → (0 < p → Further cs n k (take n ring) p) → p < i
-        go zero f = omega arith
-        go (suc p) f = further-right cs n k (take n ring) (suc p) i long (f (omega arith)) (λ l c h q r y. still-blocked l c q (found .blocked l c h q (omega (arith, r, same-sector l q)) y))
+    seek-right = elim (tri p 0) [ lt h ↦ absurd (omega arith) | eq h ↦ omega arith | gt h ↦ beyond h ]
 
     inside : i - 1 < n
     inside = omega (arith, found .within)
@@ -188,16 +208,23 @@ module _ (cs : List ℕ) (n k : ℕ) (start ring : List ℕ) (p : ℕ) (at : Sta
       pub seek-falls : n - lastRaised n start (t ++ drop n (set ring (i - 1) b)) < n - p
       seek-falls = omega (arith, seek-last, seek-right, found .within)
 
-      -- one place more was raised, and there are no more than lie up to it
-      pub seek-few : (q : ℕ) → q ≤ p → q + 1 ≤ lastRaised n start (t ++ drop n (set ring (i - 1) b))
-      seek-few q few = omega (arith, seek-last, seek-right)
+      -- one place more was raised
+      pub seek-counts : (q : ℕ) → q ≡ raisedTo (take n start) (take n ring) → q + 1 ≡ raisedTo (take n start) (take n (t ++ drop n (set ring (i - 1) b)))
+      seek-counts q counted = rw (next-holds .front) (omega (arith, more))
+        where
+          more : raisedTo (take n start) t ≡ suc (raisedTo (take n start) (take n ring))
+          more =
+              raised-more (take n start) (take n ring) t (i - 1) p (long ∙ sym whole) (at .begun ∙ sym whole) (at .reached) (omega (arith, inside, whole)) (subst (λ (x : ℕ). Run (sec t) x (suc (i - 1))) (sym whole) (lifts .run)) (lifts .keeps)
+              (omega (arith, lifts .here, rises)) (at .fresh) (λ h. subst (λ (x : ℕ). Run (sec (take n ring)) x p) (sym long) (at .further h .run)) (omega (arith, seek-right))
 
       -- it is a ring of the counts
-      pub seek-found : true ≡ countedNecklace cs (take n (t ++ drop n (set ring (i - 1) b))) → (q : ℕ) → q ≤ p → Answers start n k cs (record { some = true; ring = t ++ drop n (set ring (i - 1) b); raised = q + 1 })
-      seek-found h q few = record {
+      pub seek-found : true ≡ countedNecklace cs (take n (t ++ drop n (set ring (i - 1) b))) → (q : ℕ) → q ≡ raisedTo (take n start) (take n ring) →
+          Answers start n k cs (record { some = true; ring = t ++ drop n (set ring (i - 1) b); raised = q + 1 })
+      seek-found h q counted = record {
         ring = λ e. rw (next-holds .front) (sym (at .next) ∙ step-found cs n k (take n ring) long t step (sym (rw (next-holds .front) at h)));
+        raised = λ e. seek-counts q counted;
         done = λ e. absurd (true≢false e);
-        soon = omega (arith, seek-right, found .within);
+        unraised = λ e. absurd (true≢false e);
       }
 
       -- it is none
@@ -206,21 +233,33 @@ module _ (cs : List ℕ) (n k : ℕ) (start ring : List ℕ) (p : ℕ) (at : Sta
         size = next-holds .size;
         opening = step-opening cs n k ring t (t ++ drop n (set ring (i - 1) b)) (at .opening .ready) step (next-holds .front);
         next = rw (next-holds .front) (sym (step-on cs n k (take n ring) long t step (sym (rw (next-holds .front) at h))) ∙ at .next);
-        further = λ y. rw (next-holds .front) (record { run = rw whole at (rep .run); other = sym (rw (next-holds .front) at h); ring = begun .ring; known = begun .known; agree = as-begun });
+        further = λ y. rw (next-holds .front) (record { run = rw whole at (rep .run); other = sym (rw (next-holds .front) at h); ring = other-ring .ring; known = other-ring .known; agree = as-begun });
         reached = before-upTo (take n start) (take n (t ++ drop n (set ring (i - 1) b))) risen;
         within = found .within;
+        begun = at .begun;
+        fresh = λ y. absurd (omega arith);
       })
         where
-          begun : Begun cs n k ring (i - 1) b
-          begun = found .begun (omega arith)
+          other-ring : Begun cs n k ring (i - 1) b
+          other-ring = found .begun (omega arith)
 
-          as-begun : (m : ℕ) → m < i → sec (begun .ring) m ≡ sec t m
+          as-begun : (m : ℕ) → m < i → sec (other-ring .ring) m ≡ sec t m
           as-begun m q =
               elim (tri m (i - 1)) [
-                | lt e ↦ begun .agree m e ∙ sym (same-sector m (omega (arith, inside))) ∙ sym (lifts .keeps m e)
-                | eq e ↦ ap (sec (begun .ring)) e ∙ begun .here ∙ sym (lifts .here) ∙ ap (sec t) (sym e)
+                | lt e ↦ other-ring .agree m e ∙ sym (same-sector m (omega (arith, inside))) ∙ sym (lifts .keeps m e)
+                | eq e ↦ ap (sec (other-ring .ring)) e ∙ other-ring .here ∙ sym (lifts .here) ∙ ap (sec t) (sym e)
                 | gt e ↦ absurd (omega arith)
               ]
+
+-- ---- how many places are raised
+
+-- at most n, whatever the answer
+pub answers-soon : (w : List ℕ) (n k : ℕ) (cs : List ℕ) (r : Sought) → Answers w n k cs r → r .raised ≤ n
+answers-soon w n k cs r a =
+    elim (test (r .some)) [
+      | passes e ↦ omega (arith, a .raised e, raised-few (take n w) (take n (r .ring)), length-take n (r .ring))
+      | fails e ↦ omega (arith, a .unraised e)
+    ]
 
 -- ---- where the search starts
 
@@ -251,7 +290,7 @@ module _ (cs : List ℕ) (n k : ℕ) (start : List ℕ) (size : length start ≡
     }
 
     settled : Step cs n k (take n start) t
-    settled = settle-step cs n k (take n start) t e p (ready .reading) settles
+    settled = settle-step n (take n start) t e p settles cs k (ready .reading)
 
     settled-holds : Holds t n (t ++ drop n start)
     settled-holds = holds t n start settled-long (ready .size) size
@@ -264,12 +303,26 @@ module _ (cs : List ℕ) (n k : ℕ) (start : List ℕ) (size : length start ≡
     pub above-run : Run (sec (take n (t ++ drop n start))) (length (take n (t ++ drop n start))) p
     above-run = rw (settled-holds .front) (rep .run)
 
+    -- no place was raised
+    settled-unraised : raisedTo (take n start) t ≡ 0
+    settled-unraised =
+        raised-settled (take n start) t e p (settled-long ∙ sym start-long) (rep .run) (settles .opening .fits) (omega (arith, settled-long, settles .inside)) (settles-keeps n (take n start) t e p settles)
+
+    -- and none more on the way to a greater ring
+    settled-counts : (u : List ℕ) → nextOf (countedNecklace cs) k t ≡ some u → raisedTo t u ≡ raisedTo (take n start) u
+    settled-counts u q =
+        let f = next-facts (countedNecklace cs) k t u q in
+        sym
+        (raised-from (take n start) t e p (settled-long ∙ sym start-long) (rep .run) (settles .opening .fits) (omega (arith, settled-long, settles .inside)) (settles-keeps n (take n start) t e p settles)
+        u (f .0 .long) (before-upTo t u (f .1)) (settles-rises n (take n start) t e p settles))
+
     -- it is a ring of the counts
     pub above-found : true ≡ countedNecklace cs (take n (t ++ drop n start)) → Answers start n k cs (record { some = true; ring = t ++ drop n start; raised = 0 })
     above-found h = record {
       ring = λ e. rw (settled-holds .front) (step-found cs n k (take n start) start-long t settled (sym (rw (settled-holds .front) at h)));
+      raised = λ e. rw (settled-holds .front) (sym settled-unraised);
       done = λ e. absurd (true≢false e);
-      soon = omega arith;
+      unraised = λ e. absurd (true≢false e);
     }
 
     -- it is none
@@ -278,7 +331,12 @@ module _ (cs : List ℕ) (n k : ℕ) (start : List ℕ) (size : length start ≡
       above-on = step-opening cs n k start t (t ++ drop n start) ready settled (settled-holds .front)
 
       pub above-answers : (r : Sought) → Answers (t ++ drop n start) n k cs r → Answers start n k cs r
-      above-answers r a = record { ring = λ q. on ∙ a .ring q; done = λ q. on ∙ a .done q; soon = a .soon }
+      above-answers r a = record {
+        ring = λ q. on ∙ a .ring q;
+        raised = λ q. rw (settled-holds .front) at (a .raised q) ∙ settled-counts (take n (r .ring)) (rw (settled-holds .front) at (a .ring q));
+        done = λ q. on ∙ a .done q;
+        unraised = a .unraised;
+      }
         where
           on : nextOf (countedNecklace cs) k (take n start) ≡ nextOf (countedNecklace cs) k (take n (t ++ drop n start))
           on = rw (settled-holds .front) (step-on cs n k (take n start) start-long t settled (sym (rw (settled-holds .front) at h)))

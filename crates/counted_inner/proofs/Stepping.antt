@@ -4,7 +4,7 @@
 --     Further, further-right            some ring begins as w does up to a place; the place that is raised next lies further right
 --     repeat-floor, repeat-shades       a prenecklace that begins like a repetition is not below it; the shades of a repetition
 --     Lifts, raise-step                 a place is raised, and what stands before it is repeated
---     Settles, settle-step              the longest beginning that is a prenecklace is repeated
+--     Settles, settles-within, settles-keeps, settles-rises, settle-step    the longest beginning that is a prenecklace is repeated
 -- Assumes nothing.
 use Prim.Native.Nat.{ℕ, suc, _-_, _%_, _<_, _≤_}
 use mathlib.Core.Path.{_≡_, refl, sym, _∙_, subst}
@@ -199,18 +199,23 @@ pub record Settles (n : ℕ) (w t : List ℕ) (e p : ℕ) : Type 0 where
   pub keeps : (m : ℕ) → m < p → sec t m ≡ sec w m
 
 -- the longest beginning that is a prenecklace is repeated
-pub settle-step : (cs : List ℕ) (n k : ℕ) (w t : List ℕ) (e p : ℕ) → Reading n k w → Settles n w t e p → Step cs n k w t
-settle-step cs n k w t e p reading s =
-    repeat-step cs n k p w t (reading .long) (s .long) (s .run) risen (λ m h. rw (s .keeps m h) (reading .shades m (omega (arith, s .opening .fits, s .inside))))
-    (λ v ring d h. repeat-floor (sec t) (sec v) n p (s .run) (ring-pre cs n k v ring) (λ m q. sym (d .agree m (omega (arith, s .opening .fits))) ∙ sym (s .keeps m q)))
-  where
-    same : (m : ℕ) → m < e → sec t m ≡ sec w m
-    same m h = run-rep (sec t) n p (s .run) m (omega (arith, s .inside)) ∙ s .keeps (m % p) (mod-lt m (s .opening .pos)) ∙ sym (run-rep (sec w) e p (s .opening) m h)
+module _ (n : ℕ) (w t : List ℕ) (e p : ℕ) (s : Settles n w t e p) where
+  pub settles-within : p ≤ e
+  settles-within = s .opening .fits
 
-    risen : Less (sec w) (sec t) n
-    risen = record {
-      at = e;
-      bound = s .inside;
-      agree = λ m h. sym (same m h);
-      less = omega (arith, s .breaks, same (e - p) (omega (arith, s .opening .pos, s .opening .fits)), s .run .again e (e - p) (omega (arith, s .opening .fits)) (s .inside));
-    }
+  -- below place e nothing changes, and there a greater shade stands
+  pub settles-keeps : (m : ℕ) → m < e → sec t m ≡ sec w m
+  settles-keeps m h = run-rep (sec t) n p (s .run) m (omega (arith, s .inside)) ∙ s .keeps (m % p) (mod-lt m (s .opening .pos)) ∙ sym (run-rep (sec w) e p (s .opening) m h)
+
+  pub settles-rises : sec w e < sec t e
+  settles-rises =
+      omega (arith, s .breaks, settles-keeps (e - p) (omega (arith, s .opening .pos, s .opening .fits)), s .run .again e (e - p) (omega (arith, s .opening .fits)) (s .inside))
+
+  settles-risen : Less (sec w) (sec t) n
+  settles-risen = record { at = e; bound = s .inside; agree = λ m h. sym (settles-keeps m h); less = settles-rises }
+
+  pub settle-step : (cs : List ℕ) (k : ℕ) → Reading n k w → Step cs n k w t
+  unfolding settles-risen
+  settle-step cs k reading =
+      repeat-step cs n k p w t (reading .long) (s .long) (s .run) settles-risen (λ m h. rw (s .keeps m h) (reading .shades m (omega (arith, s .opening .fits, s .inside))))
+      (λ v ring d h. repeat-floor (sec t) (sec v) n p (s .run) (ring-pre cs n k v ring) (λ m q. sym (d .agree m (omega (arith, s .opening .fits))) ∙ sym (s .keeps m q)))

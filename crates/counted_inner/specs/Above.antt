@@ -1,7 +1,7 @@
 -- The next ring of given counts.
 --     Answers w n k cs r   r is the next ring of these counts above the first n sectors of w, where there is one
 -- Assumes nothing.
-use Prim.Native.Nat.{ℕ, _≤_}
+use Prim.Native.Nat.{ℕ}
 use mathlib.Core.Path.{_≡_}
 use mathlib.Core.Bool.{true, false}
 use mathlib.Core.Option.{none, some}
@@ -10,9 +10,12 @@ use lib.ListN.{take}
 use Rattle.rings.specs.Counts.{countedNecklace}
 use Rattle.rings.specs.Steps.{nextOf}
 use Rattle.counted_inner.specs.declared.Sought.{Sought}
+use Rattle.counted_inner.specs.Raised.{raisedTo}
 
--- the next ring of these counts above the first n sectors of w, or that there is none; either is known after raising at most n places
+-- the next ring of these counts above the first n sectors of w, or that there is none, and how many places were raised to find it: none where there is none. So at most n
+-- (proofs/Seeking, `answers-soon`).
 pub record Answers (w : List ℕ) (n k : ℕ) (cs : List ℕ) (r : Sought) : Type 0 where
   pub ring : r .some ≡ true → nextOf (countedNecklace cs) k (take n w) ≡ some (take n (r .ring))
+  pub raised : r .some ≡ true → r .raised ≡ raisedTo (take n w) (take n (r .ring))
   pub done : r .some ≡ false → nextOf (countedNecklace cs) k (take n w) ≡ none
-  pub soon : r .raised ≤ n
+  pub unraised : r .some ≡ false → r .raised ≡ 0

@@ -1,24 +1,26 @@
 -- `counted_inner::seek` meets its contract. The loop: the next ring above `ring` is that above `start`, and at each turn a place further right is raised:
--- no more were raised than lie up to the last, so at most n.
+-- those raised so far are counted by the words that end there (specs/Raised).
 -- Assumes nothing.
-use mathlib.Core.Path.{_∙_, sym}
+use mathlib.Core.Path.{_≡_, refl, _∙_, sym}
 use native.Mathlib.Omega.{arith}
 use borrow.Author.Needs.{needs}
-use lib.ListN.{length-set}
+use lib.ListN.{take, length-set}
 use lib.Seq.{length-take-le}
-use Prim.Native.Nat.{_≤_, _-_}
-use Rattle.counted_inner.proofs.Seeking.{Standing, lastRaised, seek-start, seek-none, seek-asks, seek-size, seek-run, seek-found, seek-on, seek-falls, seek-few}
+use Prim.Native.Nat.{_-_}
+use Rattle.counted_inner.proofs.Seeking.{Standing, lastRaised, seek-start, seek-none, seek-asks, seek-size, seek-run, seek-found, seek-on, seek-falls, seek-few, seek-counts}
+use Rattle.counted_inner.proofs.Raised.{raised-none}
+use Rattle.counted_inner.specs.Raised.{raisedTo}
 use Rattle.counted_inner.proofs.seek.Statement.{statement}
 use Rattle.counted_inner.proofs.seek.Tie as tie
 
 abbrev Inv-loop : tie.InvT-loop
-Inv-loop n k counts ring₀ raised₀ ring raised = Standing counts n k ring₀ ring (lastRaised n ring₀ ring) × (raised ≤ lastRaised n ring₀ ring)
+Inv-loop n k counts ring₀ raised₀ ring raised = Standing counts n k ring₀ ring (lastRaised n ring₀ ring) × (raised ≡ raisedTo (take n ring₀) (take n ring))
 
 abbrev μ-loop : tie.MeasureT-loop
 μ-loop n k counts ring₀ raised₀ ring raised = n - lastRaised n ring₀ ring
 
 loop-holds : tie.Need-loop-holds Inv-loop μ-loop
-loop-holds c = (seek-start _ _ _ _ (search needs) (c .before .pre), omega arith)
+loop-holds c = (seek-start _ _ _ _ (search needs) (c .before .pre), sym (raised-none _ _ refl))
 
 find-requires : tie.Need-find-requires Inv-loop μ-loop
 find-requires c κs = c .loop .inv .0 .opening
@@ -45,7 +47,7 @@ repeat-requires : tie.Need-repeat-requires Inv-loop μ-loop
 repeat-requires c κs = let l = c .before .before .before .before .loop in let a = c .before .before .before .before .before .before .args in let r = c .before .before .before .find .result in seek-asks (a .counts .now) (a .n) (a .k) (a .start) (l .ring) _ (l .inv .0) (r .end) (r .shade) (c .before .before .before .find .ensures) (c .before .before .if1 .left)
 
 add-raised : tie.Need-add-raised Inv-loop μ-loop
-add-raised c = let l = c .before .before .before .before .before .before .loop in omega (arith, l .inv .0 .within, l .inv .1, c .before .before .before .before .before .before .before .before .pre .ready .size)
+add-raised c = let l = c .before .before .before .before .before .before .loop in let a = c .before .before .before .before .before .before .before .before .args in let r = c .before .before .before .before .before .find .result in omega (arith, seek-few (a .counts .now) (a .n) (a .k) (a .start) (l .ring) _ (l .inv .0) (r .end) (r .shade) (c .before .before .before .before .before .find .ensures) (l .raised) (l .inv .1), c .before .before .before .before .before .before .before .before .pre .ready .size)
 
 array-share-prefix-ring : tie.Need-array-share-prefix-ring Inv-loop μ-loop
 array-share-prefix-ring c = let l = c .before .before .before .before .before .before .loop in let a = c .before .before .before .before .before .before .before .before .args in let r = c .before .before .before .before .before .find .result in omega (arith, seek-size (a .counts .now) (a .n) (a .k) (a .start) (l .ring) _ (l .inv .0) (r .end) (r .shade) (c .before .before .before .before .before .find .ensures) (c .before .before .before .before .if1 .left) _ (c .before .repeat .ensures), c .before .before .before .before .before .before .before .before .pre .ready .size)
@@ -63,7 +65,7 @@ loop-less : tie.Need-loop-less Inv-loop μ-loop
 loop-less c = let l = c .before .before .before .before .before .before .before .before .before .loop in let a = c .before .before .before .before .before .before .before .before .before .before .before .args in let r = c .before .before .before .before .before .before .before .before .find .result in seek-falls (a .counts .now) (a .n) (a .k) (a .start) (l .ring) _ (l .inv .0) (r .end) (r .shade) (c .before .before .before .before .before .before .before .before .find .ensures) (c .before .before .before .before .before .before .before .if1 .left) _ (c .before .before .before .before .repeat .ensures)
 
 loop-again : tie.Need-loop-again Inv-loop μ-loop
-loop-again c = let l = c .before .before .before .before .before .before .before .before .before .loop in let a = c .before .before .before .before .before .before .before .before .before .before .before .args in let r = c .before .before .before .before .before .before .before .before .find .result in (seek-on (a .counts .now) (a .n) (a .k) (a .start) (l .ring) _ (l .inv .0) (r .end) (r .shade) (c .before .before .before .before .before .before .before .before .find .ensures) (c .before .before .before .before .before .before .before .if1 .left) _ (c .before .before .before .before .repeat .ensures) (sym (c .if2 .left) ∙ c .before .is-counted .ensures), seek-few (a .counts .now) (a .n) (a .k) (a .start) (l .ring) _ (l .inv .0) (r .end) (r .shade) (c .before .before .before .before .before .before .before .before .find .ensures) (c .before .before .before .before .before .before .before .if1 .left) _ (c .before .before .before .before .repeat .ensures) (l .raised) (l .inv .1))
+loop-again c = let l = c .before .before .before .before .before .before .before .before .before .loop in let a = c .before .before .before .before .before .before .before .before .before .before .before .args in let r = c .before .before .before .before .before .before .before .before .find .result in (seek-on (a .counts .now) (a .n) (a .k) (a .start) (l .ring) _ (l .inv .0) (r .end) (r .shade) (c .before .before .before .before .before .before .before .before .find .ensures) (c .before .before .before .before .before .before .before .if1 .left) _ (c .before .before .before .before .repeat .ensures) (sym (c .if2 .left) ∙ c .before .is-counted .ensures), seek-counts (a .counts .now) (a .n) (a .k) (a .start) (l .ring) _ (l .inv .0) (r .end) (r .shade) (c .before .before .before .before .before .before .before .before .find .ensures) (c .before .before .before .before .before .before .before .if1 .left) _ (c .before .before .before .before .repeat .ensures) (l .raised) (l .inv .1))
 
 pub seek-spec : {M : Type 1} → statement M
 seek-spec =
