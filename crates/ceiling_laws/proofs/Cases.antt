@@ -6,7 +6,7 @@ use mathlib.Core.Path.{_≡_, refl}
 use mathlib.Core.List.{List, [], _∷_}
 use Rattle.rings.specs.Necklace.{necklace, lyndon}
 use Rattle.rings.specs.Open.{open-all}
-use Rattle.rings.proofs.Cases.{digits, ring}
+use Rattle.rings.specs.Cases.{digits, ring}
 use Rattle.ceiling_laws.specs.Ceiling.{stepMoves, lyndonCeiling, necklaceCeiling}
 use Rattle.ceiling_laws.specs.Notched.{notch, notched, lyndonStart, necklaceStart}
 

@@ -1,12 +1,11 @@
--- Every reading has one ring (02, request n), of the rings that `walk::start` and `walk::next_necklace` hand out one after another until Done.
---     HandedOut              such a start, and the steps from it
+-- Every reading has one ring (02, request n), of the rings that `walk::start` and `walk::next_necklace` hand out one after another until Done (specs/HandedOut).
 --     start-zeros            the ring that the start hands out is the all-zero ring
 --     steps-one-ring         each reading is a turn of exactly one ring handed out
 --     steps-period-sum       the periods of the rings handed out add up to k to the power n
 --     walk-steps             steps from a record do what the full walk from its ring does
 --     steps-end              so from every record that a start hands out they come to Done
 --     handed-out             for every n and k of the page there is what the two sentences speak of
--- The calls are spoken of by their contracts, which no two answers satisfy (`walk`, proofs/Unique): so the answers here are the code's. Assumes nothing.
+-- Assumes nothing.
 use Prim.Native.Nat.{ℕ, _+_, _<_}
 use mathlib.Core.Path.{_≡_, refl, sym, subst, ap, _∙_}
 use mathlib.Core.Bool.{Bool, true}
@@ -28,16 +27,7 @@ use Rattle.walk_record.specs.Record.{ringOf, walkOf}
 use Rattle.walk_record.specs.Says.{StartSays}
 use Rattle.walk_record.proofs.Good.{ring-of, walk-good}
 use Rattle.walk_record.proofs.Sums.{Steps, ends, goes, steps-walk}
-
--- a start from the all-zero ring of n sectors and k shades, and the steps by necklaces from it until Done, as their contracts tell them
-pub record HandedOut (n k : ℕ) : Type 0 where
-  -- the record that the start hands out
-  pub first : Walk
-  pub started : StartSays (zeros n) k first C.Good
-  -- the rings of the records that the steps hand out, and the sum of their moves
-  pub rings : List (List ℕ)
-  pub sum : ℕ
-  pub steps : Steps necklace first rings sum
+use Rattle.walk_laws.specs.HandedOut.{HandedOut, OneRingHandedOut, PeriodsHandedOut}
 
 -- ---- the two sentences
 
@@ -58,11 +48,11 @@ module _ (n k : ℕ) (out : HandedOut n k) where
   walked = rw (ap (λ (x : Walk). x .k) (out .started .1), start-zeros) at (steps-walk _ (out .steps))
 
   -- each reading of n and k is a turn of exactly one ring handed out
-  pub steps-one-ring : OneRingEach n k (ringOf (out .first)) (out .rings)
+  pub steps-one-ring : OneRingHandedOut n k out
   steps-one-ring = subst (λ (u : List ℕ). OneRingEach n k u (out .rings)) (sym start-zeros) (one-ring n k long many (out .rings) (out .sum) walked)
 
   -- the periods of the rings handed out add up to k to the power n
-  pub steps-period-sum : PeriodsAddUp n k (ringOf (out .first)) (out .rings)
+  pub steps-period-sum : PeriodsHandedOut n k out
   steps-period-sum = subst (λ (u : List ℕ). PeriodsAddUp n k u (out .rings)) (sym start-zeros) (period-sum n k long many (out .rings) (out .sum) walked)
 
 -- ---- steps come to Done

@@ -1,17 +1,16 @@
--- Turns and small walks, computed: one table, one claim. A row's readings are decimal numerals, as in the table of `rings`.
+-- Turns and small walks: one table, one claim, which proofs/Table computes. A row's readings are decimal numerals, as in the table of `rings`.
 -- A row for a walk shows three things of the rings that it names: they are those of the full walk from the all-zero ring; each reading, in increasing
 -- order, is a turn of 1 of them, the all-zero ring included; and the periods of them all add up to k ^ n.
 -- Assumes nothing.
 use Prim.Native.Nat.{ℕ, _^_}
-use mathlib.Core.Path.{_≡_, refl}
+use mathlib.Core.Path.{_≡_}
 use mathlib.Core.Bool.{Bool, true, false}
 use mathlib.Core.List.{List, [], _∷_, map}
 use lib.ListN.{replicate}
 use Rattle.words.specs.Readings.{readings}
 use Rattle.rings.specs.Necklace.{necklace}
-use Rattle.rings.specs.Steps.{FullWalk, done, step}
-use Rattle.rings.specs.Open.{open-all}
-use Rattle.rings.proofs.Cases.{digits, ring}
+use Rattle.rings.specs.Steps.{FullWalk}
+use Rattle.rings.specs.Cases.{ring}
 use Rattle.necklace_laws.proofs.FullWalk.{zeros}
 use Rattle.counting_laws.specs.Turns.{isTurn}
 use Rattle.counting_laws.specs.OneRing.{ringsOf, PeriodsAddUp}
@@ -48,29 +47,3 @@ table =
     walked 2 3 (01 ∷ 02 ∷ 11 ∷ 12 ∷ 22 ∷ []) ∷
     walked 4 2 (0001 ∷ 0011 ∷ 0101 ∷ 0111 ∷ 1111 ∷ []) ∷
     []
-
--- the one claim
-pub cases : Hold table
-unfolding digits ring isTurn Holds Hold table open-all
-cases = (
-  refl,
-  (
-    refl,
-    (
-      refl,
-      (
-        refl,
-        (
-          ((_, step refl (done refl)), refl, refl),
-          (
-            ((_, step refl (step refl (step refl (done refl)))), refl, refl),
-            (
-              ((_, step refl (step refl (step refl (step refl (step refl (done refl)))))), refl, refl),
-              (((_, step refl (step refl (step refl (step refl (step refl (done refl)))))), refl, refl), tt),
-            ),
-          ),
-        ),
-      ),
-    ),
-  ),
-)

@@ -1,9 +1,9 @@
--- The rings that the client checked by hand (01, 'Rings to check by hand'), proved of the definitions themselves: one table, one claim.
+-- The rings that the client checked by hand (01, 'Rings to check by hand'), of the definitions themselves: one table, one claim. Its proof: proofs/Table.
 -- A row's reading is a decimal numeral with the number of its sectors before it: `classed 9 001010010 (Opening 5)`. Leading zeros count.
 -- The first part of the table is the page's starred cases, in its order; the second has a row for each definition that no starred case computes.
 -- Assumes nothing.
 use Prim.Native.Nat.{ℕ, zero, suc, _/_, _%_}
-use mathlib.Core.Path.{_≡_, refl}
+use mathlib.Core.Path.{_≡_}
 use mathlib.Core.Bool.{Bool, true, false}
 use mathlib.Core.Option.{none, some}
 use mathlib.Core.List.{List, [], _∷_}
@@ -17,7 +17,6 @@ use Rattle.rings.specs.Alike.{evenHanded, sameRing, apart, mirrored}
 use Rattle.rings.specs.Next.{nextPrenecklace}
 use Rattle.rings.specs.Counts.{countedNecklace}
 use Rattle.rings.specs.Steps.{firstOf, nextOf, moves}
-use Rattle.rings.specs.Open.{open-all}
 
 -- the n decimal digits of a numeral, in front of the sectors that follow
 unfoldable pub digits : ℕ → ℕ → List ℕ → List ℕ
@@ -118,44 +117,3 @@ table =
     counted-next 6 (3 ∷ 3 ∷ []) 001101 010101 ∷
     counted-done 6 (3 ∷ 3 ∷ []) 010101 ∷
     []
-
--- the one claim
-pub cases : Hold table
-unfolding digits ring Holds Hold table open-all
-cases = (
-  refl,
-  (
-    refl,
-    (
-      refl,
-      (
-        refl,
-        (
-          refl,
-          (
-            refl,
-            (
-              (refl, refl, refl),
-              (
-                (refl, refl, refl),
-                (
-                  (refl, refl),
-                  (
-                    (refl, refl),
-                    (
-                      (refl, refl),
-                      (
-                        (refl, refl, refl, refl),
-                        (refl, (refl, (refl, (refl, ((refl, refl), (refl, (refl, (refl, (refl, ((refl, refl), ((refl, refl), (refl, (refl, (refl, (refl, (refl, (refl, (refl, tt)))))))))))))))))),
-                      ),
-                    ),
-                  ),
-                ),
-              ),
-            ),
-          ),
-        ),
-      ),
-    ),
-  ),
-)

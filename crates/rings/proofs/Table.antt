@@ -1,0 +1,45 @@
+-- Every row of the table of specs/Cases holds, by computing the definitions. Assumes nothing.
+use mathlib.Core.Path.{refl}
+use Rattle.rings.specs.Open.{open-all}
+use Rattle.rings.specs.Cases.{digits, ring, Holds, Hold, table}
+
+-- the one claim
+pub cases : Hold table
+unfolding digits ring Holds Hold table open-all
+cases = (
+  refl,
+  (
+    refl,
+    (
+      refl,
+      (
+        refl,
+        (
+          refl,
+          (
+            refl,
+            (
+              (refl, refl, refl),
+              (
+                (refl, refl, refl),
+                (
+                  (refl, refl),
+                  (
+                    (refl, refl),
+                    (
+                      (refl, refl),
+                      (
+                        (refl, refl, refl, refl),
+                        (refl, (refl, (refl, (refl, ((refl, refl), (refl, (refl, (refl, (refl, ((refl, refl), ((refl, refl), (refl, (refl, (refl, (refl, (refl, (refl, (refl, tt)))))))))))))))))),
+                      ),
+                    ),
+                  ),
+                ),
+              ),
+            ),
+          ),
+        ),
+      ),
+    ),
+  ),
+)

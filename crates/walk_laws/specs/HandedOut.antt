@@ -1,0 +1,34 @@
+-- Every reading has one ring (02, request n), said of the rings that `walk::start` and `walk::next_necklace` hand out one after another until Done.
+--     HandedOut n k             such a start, and the steps from it
+--     OneRingHandedOut          each reading is a turn of exactly one ring handed out
+--     PeriodsHandedOut          the periods of the rings handed out add up to k to the power n
+-- The calls are spoken of by their contracts, which no two answers satisfy (`walk_record`, proofs/Unique): so the answers here are the code's. That the two sentences hold, and
+-- that there is such a start and such steps for every n and k of the page: proofs/OneRing. Assumes nothing.
+use Prim.Native.Nat.{ℕ}
+use mathlib.Core.List.{List}
+use Rattle.rings.specs.Necklace.{necklace}
+use Rattle.necklace_laws.proofs.FullWalk.{zeros}
+use Rattle.counting_laws.specs.OneRing.{OneRingEach, PeriodsAddUp}
+use Rattle.refusal.specs.declared.Checked.the-variants as C
+use Rattle.walk_record.specs.declared.Walk.{Walk}
+use Rattle.walk_record.specs.Record.{ringOf}
+use Rattle.walk_record.specs.Says.{StartSays}
+use Rattle.walk_record.proofs.Sums.{Steps}
+
+-- a start from the all-zero ring of n sectors and k shades, and the steps by necklaces from it until Done, as their contracts tell them
+pub record HandedOut (n k : ℕ) : Type 0 where
+  -- the record that the start hands out
+  pub first : Walk
+  pub started : StartSays (zeros n) k first C.Good
+  -- the rings of the records that the steps hand out, and the sum of their moves
+  pub rings : List (List ℕ)
+  pub sum : ℕ
+  pub steps : Steps necklace first rings sum
+
+-- each reading of n and k is a turn of exactly one ring handed out
+abbrev pub OneRingHandedOut : (n k : ℕ) → HandedOut n k → Type 0
+OneRingHandedOut n k out = OneRingEach n k (ringOf (out .first)) (out .rings)
+
+-- the periods of the rings handed out add up to k to the power n
+abbrev pub PeriodsHandedOut : (n k : ℕ) → HandedOut n k → Type 0
+PeriodsHandedOut n k out = PeriodsAddUp n k (ringOf (out .first)) (out .rings)
