@@ -11,7 +11,7 @@ pub fn completable(al: &[u8], rem: &[usize]) -> bool
     let mut len = [1usize; 64];
     let l = fill_inner::fill(&mut w, rem);
     if l == 0 {
-        return true;
+        return true; // nothing is to be added
     }
     let mut t = l;
     loop {

@@ -40,8 +40,8 @@ placed-paged P b r b′ t q h p =
     record { text = t; says = p; fits = h; long = q .next ∙ e; bytes = q .bytes ∙ rw e at (sets-eq t b 0 (omega arith)) }
 
 -- a number's line has room
-pub refused-room : (x room : ℕ) → x < 10 ^ 20 → lineRoom ≤ room → 0 + length (refusedLine x) ≤ room
-refused-room x room h l = omega (arith, length-refused x, length-decimal 19 x h)
+pub refused-room : (at x room : ℕ) → at ≤ 64 → x < 10 ^ 20 → lineRoom ≤ room → at + length (refusedLine x) ≤ room
+refused-room at x room near h l = omega (arith, length-refused x, length-decimal 19 x h)
 
 -- the line of the refusal's own number
 pub refused-says : (r : Refusal) (x : ℕ) → x ≡ numberOf r → (b : List ℕ) (p : Page) (b′ : List ℕ) → Placed b 0 (refusedLine x) (p .length) b′ → p .state ≡ emptyState → RefusedSays r b p b′

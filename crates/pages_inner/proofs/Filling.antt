@@ -93,9 +93,11 @@ module _ (k n : ℕ) (l : Listable most k n) where
   ring-is : take n (zeroRing 64) ≡ zeroRing n
   ring-is = zeros-part n 64 (omega (arith, l .sized))
 
-  -- the state at the all-zero ring
-  pub start-good : Good (startState k n)
-  start-good = stands-good (startState k n) (record { numbers = l; counted = rw ring-is (counted-start n k l) })
+  -- a state at the all-zero ring, whatever it counts
+  pub start-good : (rings sum : ℕ) → rings ≤ most → sum ≤ most → Good (record { k = k; n = n; ring = zeroRing 64; rings = rings; moves = sum })
+  start-good rings sum few short =
+      let g = stands-good (startState k n) (record { numbers = l; counted = rw ring-is (counted-start n k l) }) in
+      record { numbers = l; reading = g .reading; member = g .member; rings = few; moves = short }
 
   module _ (b : List ℕ) (room : lineRoom ≤ length b) where
     pub open-first : 0 + length (firstLine k n) ≤ length b

@@ -5,7 +5,7 @@
 --     placed-short, placed-two, room-short, room-two    a number of one or two digits
 --     length-two, length-first, length-last, length-refused, length-ring, ring-two     how long the lines are, and of which pieces
 --     zero-line, zero-room, placed-zero      the line of a ring that comes with 0 moves and has period 1
---     room-moves, room-period, room-end, placed-ring        a ring's line piece after piece
+--     room-first, room-moves, room-second, room-period, room-end, placed-ring        a ring's line piece after piece
 -- Assumes nothing.
 use Prim.Native.Nat.{ℕ, zero, suc, _+_, _/_, _%_, _<_, _≤_}
 use mathlib.Core.Path.{_≡_, refl, sym, ap, _∙_}
@@ -140,42 +140,50 @@ module _ (b : List ℕ) (at : ℕ) (w : List ℕ) (fits : at + length (ringLine 
   pub placed-zero : (r : ℕ) (b″ : List ℕ) → Placed b′ a (ascii " 0 1\n") r b″ → Placed b at (ringLine w 0 1) r b″
   placed-zero r b″ q = rw (zero-line w) at (placed-append b at (map hexOf w) a b′ (ascii " 0 1\n") r b″ sectors q)
 
--- A ring's line piece after piece: a, c and d are the places behind the sectors, the moves and the period.
-module _ (b : List ℕ) (at : ℕ) (w : List ℕ) (moves p : ℕ) (fits : at + length (ringLine w moves p) ≤ length b) (a : ℕ) (b₁ : List ℕ) (sectors : Placed b at (map hexOf w) a b₁) where
+-- A ring's line piece after piece: a, c and d are the places behind the sectors, the first number and the second. There is room for a number wherever the whole line has room for
+-- it, whichever it is; that the first is the moves and the second the period is said by what the pieces are together (`placed-ring`).
+module _ (b : List ℕ) (at : ℕ) (w : List ℕ) (a : ℕ) (b₁ : List ℕ) (sectors : Placed b at (map hexOf w) a b₁) where
   first : Placed b at (map hexOf w ++ (32 ∷ [])) (a + 1) (set b₁ a 32)
   first = placed-on b at (map hexOf w) a b₁ 32 sectors
 
-  -- there is room for the rest
-  pub room-moves : (a < length b) × (a < length b₁) × (a + 1 + length (decimal moves) ≤ length (set b₁ a 32))
-  room-moves =
-      let l = placed-length b at (map hexOf w ++ (32 ∷ [])) (a + 1) (set b₁ a 32) first in
-      let k = length-set b₁ a 32 in
-      let m : a + 1 + length (decimal moves) < length b = omega (arith, length-ring w moves p, sectors .next, length-map w hexOf) in
-      (omega arith, omega arith, omega arith)
+  first-length : length (set b₁ a 32) ≡ length b
+  first-length = placed-length b at (map hexOf w ++ (32 ∷ [])) (a + 1) (set b₁ a 32) first
 
-  module _ (c : ℕ) (b₂ : List ℕ) (moved : Placed (set b₁ a 32) (a + 1) (decimal moves) c b₂) where
-    second : Placed b at (map hexOf w ++ (32 ∷ []) ++ decimal moves ++ (32 ∷ [])) (c + 1) (set b₂ c 32)
+  -- for a space, and for the first number behind it
+  pub room-first : at + length w < length b → (a < length b) × (a < length b₁)
+  room-first h = (omega (arith, sectors .next, length-map w hexOf), omega (arith, sectors .next, length-map w hexOf, length-set b₁ a 32, first-length))
+
+  pub room-moves : (x : ℕ) → at + length w + 1 + length (decimal x) ≤ length b → a + 1 + length (decimal x) ≤ length (set b₁ a 32)
+  room-moves x h = omega (arith, sectors .next, length-map w hexOf, first-length)
+
+  module _ (x c : ℕ) (b₂ : List ℕ) (moved : Placed (set b₁ a 32) (a + 1) (decimal x) c b₂) where
+    second : Placed b at (map hexOf w ++ (32 ∷ []) ++ decimal x ++ (32 ∷ [])) (c + 1) (set b₂ c 32)
     second =
-        placed-on b at (map hexOf w ++ (32 ∷ []) ++ decimal moves) c b₂ 32
-        (placed-append b at (map hexOf w ++ (32 ∷ [])) (a + 1) (set b₁ a 32) (decimal moves) c b₂ first moved)
+        placed-on b at (map hexOf w ++ (32 ∷ []) ++ decimal x) c b₂ 32
+        (placed-append b at (map hexOf w ++ (32 ∷ [])) (a + 1) (set b₁ a 32) (decimal x) c b₂ first moved)
 
-    pub room-period : (c < length b) × (c < length b₂) × (c + 1 + length (decimal p) ≤ length (set b₂ c 32))
-    room-period =
-        let l = placed-length b at (map hexOf w ++ (32 ∷ []) ++ decimal moves ++ (32 ∷ [])) (c + 1) (set b₂ c 32) second in
-        let k = length-set b₂ c 32 in
-        let m : c + 1 + length (decimal p) < length b = omega (arith, length-ring w moves p, sectors .next, moved .next, length-map w hexOf) in
-        (omega arith, omega arith, omega arith)
+    second-length : length (set b₂ c 32) ≡ length b
+    second-length = placed-length b at (map hexOf w ++ (32 ∷ []) ++ decimal x ++ (32 ∷ [])) (c + 1) (set b₂ c 32) second
 
-    module _ (d : ℕ) (b₃ : List ℕ) (period : Placed (set b₂ c 32) (c + 1) (decimal p) d b₃) where
-      third : Placed b at (map hexOf w ++ (32 ∷ []) ++ decimal moves ++ (32 ∷ []) ++ decimal p) d b₃
-      third = placed-append b at (map hexOf w ++ (32 ∷ []) ++ decimal moves ++ (32 ∷ [])) (c + 1) (set b₂ c 32) (decimal p) d b₃ second period
+    -- for another space, and for the second number behind it
+    pub room-second : at + length w + 1 + length (decimal x) < length b → (c < length b) × (c < length b₂)
+    room-second h =
+        (omega (arith, sectors .next, moved .next, length-map w hexOf), omega (arith, sectors .next, moved .next, length-map w hexOf, length-set b₂ c 32, second-length))
 
-      pub room-end : (d < length b) × (d < length b₃)
-      room-end =
-          let l = placed-length b at (map hexOf w ++ (32 ∷ []) ++ decimal moves ++ (32 ∷ []) ++ decimal p) d b₃ third in
-          let m : d < length b = omega (arith, length-ring w moves p, sectors .next, moved .next, period .next, length-map w hexOf) in
+    pub room-period : (y : ℕ) → at + length w + 2 + length (decimal x) + length (decimal y) ≤ length b → c + 1 + length (decimal y) ≤ length (set b₂ c 32)
+    room-period y h = omega (arith, sectors .next, moved .next, length-map w hexOf, second-length)
+
+    module _ (y d : ℕ) (b₃ : List ℕ) (period : Placed (set b₂ c 32) (c + 1) (decimal y) d b₃) where
+      third : Placed b at (map hexOf w ++ (32 ∷ []) ++ decimal x ++ (32 ∷ []) ++ decimal y) d b₃
+      third = placed-append b at (map hexOf w ++ (32 ∷ []) ++ decimal x ++ (32 ∷ [])) (c + 1) (set b₂ c 32) (decimal y) d b₃ second period
+
+      -- for the newline
+      pub room-end : at + length w + 2 + length (decimal x) + length (decimal y) < length b → (d < length b) × (d < length b₃)
+      room-end h =
+          let l = placed-length b at (map hexOf w ++ (32 ∷ []) ++ decimal x ++ (32 ∷ []) ++ decimal y) d b₃ third in
+          let m : d < length b = omega (arith, sectors .next, moved .next, period .next, length-map w hexOf) in
           (m, omega arith)
 
-      pub placed-ring : Placed b at (ringLine w moves p) (d + 1) (set b₃ d 10)
+      pub placed-ring : Placed b at (ringLine w x y) (d + 1) (set b₃ d 10)
       unfolding ringLine
-      placed-ring = placed-on b at (map hexOf w ++ (32 ∷ []) ++ decimal moves ++ (32 ∷ []) ++ decimal p) d b₃ 10 third
+      placed-ring = placed-on b at (map hexOf w ++ (32 ∷ []) ++ decimal x ++ (32 ∷ []) ++ decimal y) d b₃ 10 third

@@ -67,7 +67,7 @@ mul-moved : tie.Need-mul-moved Inv-loop μ-loop
 mul-moved c = let l = c .before .before .before .before .before .before .before .loop in let a = c .before .before .before .before .before .before .before .before .before .before .before .before .before .before .args in omega (arith, test-room (a .al .now) (a .rem .now) _ (l .t) (l .len) (l .w) (l .inv) _ (c .before .leading .ensures) (c .if3 .left), l .inv .few)
 
 moved-requires : tie.Need-moved-requires Inv-loop μ-loop
-moved-requires c κs = let l = c .before .before .before .before .before .before .before .loop in let a = c .before .before .before .before .before .before .before .before .before .before .before .before .before .before .args in (test-room (a .al .now) (a .rem .now) _ (l .t) (l .len) (l .w) (l .inv) _ (c .before .leading .ensures) (c .if3 .left), l .inv .few)
+moved-requires c κs = let l = c .before .before .before .before .before .before .before .loop in let a = c .before .before .before .before .before .before .before .before .before .before .before .before .before .before .args in (omega (arith, test-room (a .al .now) (a .rem .now) _ (l .t) (l .len) (l .w) (l .inv) _ (c .before .leading .ensures) (c .if3 .left)), l .inv .few)
 
 add-len : tie.Need-add-len Inv-loop μ-loop
 add-len c = let l = c .before .before .before .before .before .before .before .before .loop in let a = c .before .before .before .before .before .before .before .before .before .before .before .before .before .before .before .args in omega (arith, test-sum (a .al .now) (a .rem .now) _ (l .t) (l .len) (l .w) (l .inv) _ (c .before .before .leading .ensures) (c .before .if3 .left))

@@ -1,4 +1,5 @@
 -- `listing::refused_page` meets its contract. Assumes nothing.
+use native.Mathlib.Omega.{arith}
 use borrow.Author.Needs.{needs}
 use Rattle.listing.proofs.Making.{refused-room, refused-says}
 use Rattle.listing.proofs.refused_page.Statement.{statement}
@@ -8,7 +9,7 @@ number-requires : tie.Need-number-requires
 number-requires c κs = search needs
 
 place-refused-requires : tie.Need-place-refused-requires
-place-refused-requires c κs = refused-room _ _ (search needs) (c .before .before .before .pre)
+place-refused-requires c κs = refused-room _ _ _ (omega arith) (search needs) (c .before .before .before .pre)
 
 empty-state-requires : tie.Need-empty-state-requires
 empty-state-requires c κs = search needs

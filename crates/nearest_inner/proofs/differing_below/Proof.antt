@@ -14,7 +14,7 @@ use Rattle.nearest_inner.proofs.differing_below.Statement.{statement}
 use Rattle.nearest_inner.proofs.differing_below.Tie as tie
 
 abbrev Inv-loop : tie.InvT-loop
-Inv-loop a i b limit d₀ m₀ d m = (m ≤ length a) × (d ≤ m) × (d ≤ limit) × (d + differing (drop m (turn i a)) (drop m b) ≡ differing (turn i a) b)
+Inv-loop a i b limit d₀ m₀ d m = (d + differing (drop m (turn i a)) (drop m b) ≡ differing (turn i a) b) × (m ≤ length a) × (d ≤ m) × (d ≤ limit)
 
 abbrev μ-loop : tie.MeasureT-loop
 μ-loop a i b limit d₀ m₀ d m = length a - m
@@ -23,7 +23,7 @@ loop-holds : tie.Need-loop-holds Inv-loop μ-loop
 loop-holds c = omega arith
 
 returns : tie.Need-returns Inv-loop μ-loop
-returns c = omega (arith, c .before .before .loop .inv .3, c .if1 .taken)
+returns c = omega (arith, c .before .before .loop .inv .0, c .if1 .taken)
 
 sector-requires : tie.Need-sector-requires Inv-loop μ-loop
 sector-requires c κs = search needs
@@ -47,13 +47,13 @@ loop-again c =
     let l = c .before .before .before .before .before .loop in
     let v = turn (a .i) (a .a .now) in
     let w = a .b .now in (
+      ⊎-elim
+          (λ e. rw (e .1) (differing-one v w (length (a .a .now)) (l .m) (c .before .before .sector .result) (getD w (l .m) 0) (length-turn (a .i) (a .a .now) (p .1)) (sym (p .0)) (c .before .before .before .before .loop-test .taken) (c .before .before .sector .ensures) refl (l .d) (l .inv .0) (e .0 .taken)))
+          (λ e. rw (e .1) (differing-on v w (length (a .a .now)) (l .m) (c .before .before .sector .result) (getD w (l .m) 0) (length-turn (a .i) (a .a .now) (p .1)) (sym (p .0)) (c .before .before .before .before .loop-test .taken) (c .before .before .sector .ensures) refl (l .d) (l .inv .0) (e .0 .left)))
+          (c .if2 .came),
       omega arith,
       ⊎-elim (λ e. omega arith) (λ e. omega arith) (c .if2 .came),
       ⊎-elim (λ e. omega (arith, c .before .before .before .if1 .left)) (λ e. omega arith) (c .if2 .came),
-      ⊎-elim
-          (λ e. rw (e .1) (differing-one v w (length (a .a .now)) (l .m) (c .before .before .sector .result) (getD w (l .m) 0) (length-turn (a .i) (a .a .now) (p .1)) (sym (p .0)) (c .before .before .before .before .loop-test .taken) (c .before .before .sector .ensures) refl (l .d) (l .inv .3) (e .0 .taken)))
-          (λ e. rw (e .1) (differing-on v w (length (a .a .now)) (l .m) (c .before .before .sector .result) (getD w (l .m) 0) (length-turn (a .i) (a .a .now) (p .1)) (sym (p .0)) (c .before .before .before .before .loop-test .taken) (c .before .before .sector .ensures) refl (l .d) (l .inv .3) (e .0 .left)))
-          (c .if2 .came),
     )
 
 returns-2 : tie.Need-returns-2 Inv-loop μ-loop
@@ -61,7 +61,7 @@ returns-2 c =
     let a = c .before .before .before .before .args in
     let p = c .before .before .before .before .pre in
     let l = c .before .loop in
-    let e = differing-end (turn (a .i) (a .a .now)) (a .b .now) (length (a .a .now)) (l .m) (length-turn (a .i) (a .a .now) (p .1)) (sym (p .0)) (c .loop-test .left) (l .d) (l .inv .3) in
+    let e = differing-end (turn (a .i) (a .a .now)) (a .b .now) (length (a .a .now)) (l .m) (length-turn (a .i) (a .a .now) (p .1)) (sym (p .0)) (c .loop-test .left) (l .d) (l .inv .0) in
     omega arith
 
 pub differing-below-spec : {M : Type 1} → statement M

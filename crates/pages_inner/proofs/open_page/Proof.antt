@@ -19,7 +19,7 @@ place-zero-ring-requires : tie.Need-place-zero-ring-requires
 place-zero-ring-requires c κs = let g = c .before .before .before .before .before .before .before in let a = g .args in open-ring (a .k) (a .n) (g .pre .0) (a .buf .now) (g .pre .1) _ _ (c .before .before .before .before .place-first .ensures)
 
 fill-page-requires : tie.Need-fill-page-requires
-fill-page-requires c κs = let g = c .before .before .before .before .before .before .before .before .before .before .before in let a = g .args in (start-good (a .k) (a .n) (g .pre .0), open-inside (a .k) (a .n) (g .pre .0) (a .buf .now) (g .pre .1) _ _ (c .before .before .before .before .before .before .before .before .place-first .ensures) _ _ (c .before .before .before .place-zero-ring .ensures))
+fill-page-requires c κs = let g = c .before .before .before .before .before .before .before .before .before .before .before in let a = g .args in (start-good (a .k) (a .n) (g .pre .0) _ _ (omega arith) (omega arith), open-inside (a .k) (a .n) (g .pre .0) (a .buf .now) (g .pre .1) _ _ (c .before .before .before .before .before .before .before .before .place-first .ensures) _ _ (c .before .before .before .place-zero-ring .ensures))
 
 same-length : tie.Need-same-length
 same-length c = search needs

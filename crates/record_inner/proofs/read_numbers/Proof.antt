@@ -18,8 +18,9 @@ cast-n c = omega (arith, c .shared-slice-known2 .given 2)
 shared-slice-read-k : tie.Need-shared-slice-read-k
 shared-slice-read-k c = search needs
 
+-- a byte, whichever of the two: that k is the second is said where the answer is
 cast-k : tie.Need-cast-k
-cast-k c = omega (arith, c .shared-slice-known3 .given 3)
+cast-k c = omega (arith, c .shared-slice-known3 .given 2, c .shared-slice-known3 .given 3)
 
 check-numbers-requires : tie.Need-check-numbers-requires
 check-numbers-requires c κs = search needs

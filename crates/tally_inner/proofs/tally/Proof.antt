@@ -12,13 +12,13 @@ use Rattle.tally_inner.proofs.tally.Statement.{statement}
 use Rattle.tally_inner.proofs.tally.Tie as tie
 
 abbrev Inv-loop : tie.InvT-loop
-Inv-loop s b x₀ i₀ x i = (i ≤ length s) × (x ≤ i) × (x ≡ occurs b (take i s))
+Inv-loop s b x₀ i₀ x i = (x ≡ occurs b (take i s)) × (i ≤ length s) × (x ≤ i)
 
 abbrev μ-loop : tie.MeasureT-loop
 μ-loop s b x₀ i₀ x i = length s - i
 
 loop-holds : tie.Need-loop-holds Inv-loop μ-loop
-loop-holds c = (omega arith, omega arith, sym (occurs-none (c .args .b)))
+loop-holds c = (sym (occurs-none (c .args .b)), omega arith, omega arith)
 
 shared-slice-read-if1 : tie.Need-shared-slice-read-if1 Inv-loop μ-loop
 shared-slice-read-if1 c = search needs
@@ -36,10 +36,10 @@ loop-less : tie.Need-loop-less Inv-loop μ-loop
 loop-less c = search needs
 
 loop-again : tie.Need-loop-again Inv-loop μ-loop
-loop-again c = let l = c .before .before .before .loop in let a = c .before .before .before .before .args in ⊎-elim (λ m. rw (m .1) (omega arith, omega arith, tally-hit (a .b) (a .s .now) (l .i) (l .x) (c .before .before .loop-test .taken) (l .inv .2) (m .0 .taken))) (λ m. rw (m .1) (omega arith, omega arith, tally-miss (a .b) (a .s .now) (l .i) (l .x) (c .before .before .loop-test .taken) (l .inv .2) (m .0 .left))) (c .if1 .came)
+loop-again c = let l = c .before .before .before .loop in let a = c .before .before .before .before .args in ⊎-elim (λ m. rw (m .1) (tally-hit (a .b) (a .s .now) (l .i) (l .x) (c .before .before .loop-test .taken) (l .inv .0) (m .0 .taken), omega arith, omega arith)) (λ m. rw (m .1) (tally-miss (a .b) (a .s .now) (l .i) (l .x) (c .before .before .loop-test .taken) (l .inv .0) (m .0 .left), omega arith, omega arith)) (c .if1 .came)
 
 returns : tie.Need-returns Inv-loop μ-loop
-returns c = tally-end _ _ _ _ (c .loop-test .left) (c .before .loop .inv .2)
+returns c = tally-end _ _ _ _ (c .loop-test .left) (c .before .loop .inv .0)
 
 pub tally-spec : {M : Type 1} → statement M
 tally-spec =

@@ -1,7 +1,7 @@
 -- `text_inner::place_ring` meets its contract: each piece stands behind the one before it, and there is room for all.
 -- Assumes nothing.
 use native.Mathlib.Omega.{arith}
-use Rattle.text.proofs.Put.{length-ring, placed-length, room-moves, room-period, room-end, placed-ring}
+use Rattle.text.proofs.Put.{length-ring, placed-length, room-first, room-moves, room-second, room-period, room-end, placed-ring}
 use Rattle.text_inner.proofs.place_ring.Statement.{statement}
 use Rattle.text_inner.proofs.place_ring.Tie as tie
 
@@ -15,61 +15,67 @@ slice-write-buf : tie.Need-slice-write-buf
 slice-write-buf c =
     let g = c .before .before .before .before .before .before in
     let a = g .args in
-    room-moves (a .buf .now) (a .at) (a .ring .now) (a .moves) (a .period) (g .pre) _ _ (c .before .before .place-sectors .ensures) .1
+    let l = length-ring (a .ring .now) (a .moves) (a .period) in
+    room-first _ _ (a .ring .now) _ _ (c .before .before .place-sectors .ensures) (omega (arith, g .pre, l)) .1
 
 add-place-decimal : tie.Need-add-place-decimal
 add-place-decimal c =
     let g = c .before .before .before .before .before .before .before in
     let a = g .args in
-    omega (arith, room-moves (a .buf .now) (a .at) (a .ring .now) (a .moves) (a .period) (g .pre) _ _ (c .before .before .before .place-sectors .ensures) .0)
+    let l = length-ring (a .ring .now) (a .moves) (a .period) in
+    omega (arith, room-first _ _ (a .ring .now) _ _ (c .before .before .before .place-sectors .ensures) (omega (arith, g .pre, l)) .0)
 
 place-decimal-requires : tie.Need-place-decimal-requires
 place-decimal-requires c κs =
     let g = c .before .before .before .before .before .before .before in
     let a = g .args in
-    room-moves (a .buf .now) (a .at) (a .ring .now) (a .moves) (a .period) (g .pre) _ _ (c .before .before .before .place-sectors .ensures) .2
+    let l = length-ring (a .ring .now) (a .moves) (a .period) in
+    room-moves _ _ (a .ring .now) _ _ (c .before .before .before .place-sectors .ensures) _ (omega (arith, g .pre, l))
 
 slice-write-buf-2 : tie.Need-slice-write-buf-2
 slice-write-buf-2 c =
     let g = c .before .before .before .before .before .before .before .before .before .before in
     let a = g .args in
-    room-period (a .buf .now) (a .at) (a .ring .now) (a .moves) (a .period) (g .pre) _ _ (c .before .before .before .before .before .before .place-sectors .ensures) _ _ (c .before .before .place-decimal .ensures) .1
+    let l = length-ring (a .ring .now) (a .moves) (a .period) in
+    room-second _ _ (a .ring .now) _ _ (c .before .before .before .before .before .before .place-sectors .ensures) _ _ _ (c .before .before .place-decimal .ensures) (omega (arith, g .pre, l)) .1
 
 add-place-decimal-2 : tie.Need-add-place-decimal-2
 add-place-decimal-2 c =
     let g = c .before .before .before .before .before .before .before .before .before .before .before in
     let a = g .args in
-    omega (arith, room-period (a .buf .now) (a .at) (a .ring .now) (a .moves) (a .period) (g .pre) _ _ (c .before .before .before .before .before .before .before .place-sectors .ensures) _ _ (c .before .before .before .place-decimal .ensures) .0)
+    let l = length-ring (a .ring .now) (a .moves) (a .period) in
+    omega (arith, room-second _ _ (a .ring .now) _ _ (c .before .before .before .before .before .before .before .place-sectors .ensures) _ _ _ (c .before .before .before .place-decimal .ensures) (omega (arith, g .pre, l)) .0)
 
 place-decimal-requires-2 : tie.Need-place-decimal-requires-2
 place-decimal-requires-2 c κs =
     let g = c .before .before .before .before .before .before .before .before .before .before .before in
     let a = g .args in
-    room-period (a .buf .now) (a .at) (a .ring .now) (a .moves) (a .period) (g .pre) _ _ (c .before .before .before .before .before .before .before .place-sectors .ensures) _ _ (c .before .before .before .place-decimal .ensures) .2
+    let l = length-ring (a .ring .now) (a .moves) (a .period) in
+    room-period _ _ (a .ring .now) _ _ (c .before .before .before .before .before .before .before .place-sectors .ensures) _ _ _ (c .before .before .before .place-decimal .ensures) _ (omega (arith, g .pre, l))
 
 slice-write-buf-3 : tie.Need-slice-write-buf-3
 slice-write-buf-3 c =
     let g = c .before .before .before .before .before .before .before .before .before .before .before .before .before .before in
     let a = g .args in
-    room-end (a .buf .now) (a .at) (a .ring .now) (a .moves) (a .period) (g .pre) _ _ (c .before .before .before .before .before .before .before .before .before .before .place-sectors .ensures) _ _ (c .before .before .before .before .before .before .place-decimal .ensures) _ _ (c .before .before .place-decimal2 .ensures) .1
+    let l = length-ring (a .ring .now) (a .moves) (a .period) in
+    room-end _ _ (a .ring .now) _ _ (c .before .before .before .before .before .before .before .before .before .before .place-sectors .ensures) _ _ _ (c .before .before .before .before .before .before .place-decimal .ensures) _ _ _ (c .before .before .place-decimal2 .ensures) (omega (arith, g .pre, l)) .1
 
 add-result : tie.Need-add-result
 add-result c =
     let g = c .before .before .before .before .before .before .before .before .before .before .before .before .before .before in
     let a = g .args in
-    omega (arith, room-end (a .buf .now) (a .at) (a .ring .now) (a .moves) (a .period) (g .pre) _ _ (c .before .before .before .before .before .before .before .before .before .before .place-sectors .ensures) _ _ (c .before .before .before .before .before .before .place-decimal .ensures) _ _ (c .before .before .place-decimal2 .ensures) .0)
+    let l = length-ring (a .ring .now) (a .moves) (a .period) in
+    omega (arith, room-end _ _ (a .ring .now) _ _ (c .before .before .before .before .before .before .before .before .before .before .place-sectors .ensures) _ _ _ (c .before .before .before .before .before .before .place-decimal .ensures) _ _ _ (c .before .before .place-decimal2 .ensures) (omega (arith, g .pre, l)) .0)
 
 same-length : tie.Need-same-length
 same-length c =
-    let g = c .before .before .before .before .before .before .before .before .before .before .before .before .before .before in
-    let a = g .args in
-    placed-length _ _ _ _ _ (placed-ring (a .buf .now) (a .at) (a .ring .now) (a .moves) (a .period) (g .pre) _ _ (c .before .before .before .before .before .before .before .before .before .before .place-sectors .ensures) _ _ (c .before .before .before .before .before .before .place-decimal .ensures) _ _ (c .before .before .place-decimal2 .ensures))
+    let a = c .before .before .before .before .before .before .before .before .before .before .before .before .before .before .args in
+    placed-length _ _ _ _ _ (placed-ring _ _ (a .ring .now) _ _ (c .before .before .before .before .before .before .before .before .before .before .place-sectors .ensures) _ _ _ (c .before .before .before .before .before .before .place-decimal .ensures) _ _ _ (c .before .before .place-decimal2 .ensures))
 
 returns : tie.Need-returns
 returns c =
-    let g = c .before .before .before .before .before .before .before .before .before .before .before .before .before .before in
-    let a = g .args in
-    placed-ring (a .buf .now) (a .at) (a .ring .now) (a .moves) (a .period) (g .pre) _ _ (c .before .before .before .before .before .before .before .before .before .before .place-sectors .ensures) _ _ (c .before .before .before .before .before .before .place-decimal .ensures) _ _ (c .before .before .place-decimal2 .ensures)
+    let a = c .before .before .before .before .before .before .before .before .before .before .before .before .before .before .args in
+    placed-ring _ _ (a .ring .now) _ _ (c .before .before .before .before .before .before .before .before .before .before .place-sectors .ensures) _ _ _ (c .before .before .before .before .before .before .place-decimal .ensures) _ _ _ (c .before .before .place-decimal2 .ensures)
 
 pub place-ring-spec : {M : Type 1} → statement M
 place-ring-spec =
