@@ -1,35 +1,35 @@
 // Reading the cases of the programs that run the vectors: lines of words, one space between two words, so that an empty reading is an empty word.
 // No public calls: nothing here is part of the catalogue.
-ghost use Prim.Native.Nat.{_≤_};
-ghost use lib.ListN.{length};
 ghost use Rattle.io.specs.Counts.{Counts};
-ghost use Rattle.cases.specs.Words.{Onward, Inside};
 
-// Where the line that begins at `at` ends: at its newline, or at the end.
-pub fn line_end(s: &[u8], at: usize) -> usize
-    requires { ⌜ at ≤ length (now s) ⌝ }
-    ensures { λ r. ⌜ Onward (now (s .entry)) at r ⌝ }
+// No program has as many cases as this.
+pub const MANY: usize = 1000;
+
+// The next byte of standard input; a newline where none is left.
+fn byte() -> u8 {
+    let mut b = [b'\n'; 1];
+    io::read_full(libc::STDIN_FILENO, &mut b);
+    b[0]
+}
+
+// The next line of standard input, written from the front of `line` on; how many bytes it has. It is 0 where no case is left: none is empty.
+pub fn next(line: &mut [u8]) -> usize
+    ensures { λ r. ⌜ Counts r (now (line .exit)) ⌝ }
 {
-    let mut i = at;
-    while i < s.len() {
-        if s[i] == b'\n' {
+    let mut i = 0;
+    while i < line.len() {
+        let b = byte();
+        if b == b'\n' {
             return i;
         }
+        line[i] = b;
         i += 1;
     }
     i
 }
 
-// The places from which and up to which a word stands.
-pub struct Span {
-    pub from: usize,
-    pub to: usize,
-}
-
 // The word of a line that has `before` words before it; an empty one where there is none.
-pub fn word(line: &[u8], before: usize) -> Span
-    ensures { λ r. ⌜ Inside (now (line .entry)) r ⌝ }
-{
+pub fn word(line: &[u8], before: usize) -> &[u8] {
     let mut left = before;
     let mut from = 0;
     let mut i = 0;
@@ -39,16 +39,25 @@ pub fn word(line: &[u8], before: usize) -> Span
             continue;
         }
         if left == 0 {
-            return Span { from: from, to: i };
+            return &line[from..i];
         }
         left -= 1;
         i += 1;
         from = i;
     }
     if left == 0 {
-        return Span { from: from, to: i };
+        return &line[from..];
     }
-    Span { from: i, to: i }
+    &line[i..]
+}
+
+// That word's first letter; 0 of an empty one.
+pub fn letter(line: &[u8], before: usize) -> u8 {
+    let w = word(line, before);
+    if w.len() < 1 {
+        return 0;
+    }
+    w[0]
 }
 
 // The digit's value; one from b'a' on is 10 and more.
@@ -72,10 +81,7 @@ fn decimal(digits: &[u8]) -> usize {
 
 // That word as a decimal number.
 pub fn number(line: &[u8], before: usize) -> usize {
-    let w = word(line, before);
-    let from = w.from;
-    let to = w.to;
-    decimal(&line[from..to])
+    decimal(word(line, before))
 }
 
 // The sectors of these digits, written from the front of out on; how many they are.
@@ -97,10 +103,12 @@ fn spell(digits: &[u8], out: &mut [u8]) -> usize
 pub fn sectors(line: &[u8], before: usize, out: &mut [u8]) -> usize
     ensures { λ r. ⌜ Counts r (now (out .exit)) ⌝ }
 {
-    let w = word(line, before);
-    let from = w.from;
-    let to = w.to;
-    spell(&line[from..to], out)
+    spell(word(line, before), out)
+}
+
+// The byte of two hexadecimal digits.
+fn paired(high: u8, low: u8) -> u8 {
+    digit(high) % 16 * 16 + digit(low) % 16
 }
 
 // The bytes of these hexadecimal digits, two for each, written from the front of out on; how many they are.
@@ -113,9 +121,7 @@ fn spell_bytes(digits: &[u8], out: &mut [u8]) -> usize
         if digits.len() - j < 2 {
             return i;
         }
-        let high = digit(digits[j]) as usize;
-        let low = digit(digits[j + 1]) as usize;
-        out[i] = ((high * 16 + low) % 256) as u8;
+        out[i] = paired(digits[j], digits[j + 1]);
         i += 1;
         j += 2;
     }
@@ -126,10 +132,7 @@ fn spell_bytes(digits: &[u8], out: &mut [u8]) -> usize
 pub fn bytes(line: &[u8], before: usize, out: &mut [u8]) -> usize
     ensures { λ r. ⌜ Counts r (now (out .exit)) ⌝ }
 {
-    let w = word(line, before);
-    let from = w.from;
-    let to = w.to;
-    spell_bytes(&line[from..to], out)
+    spell_bytes(word(line, before), out)
 }
 
 // That word says how many numbers follow it: those, written from the front of out on; how many they are.

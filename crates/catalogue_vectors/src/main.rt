@@ -13,43 +13,38 @@ fn print_kind(x: Kind) {
     }
 }
 
-fn print_numbers(n: usize, k: usize, next: usize) {
-    show::text(b" n ");
-    show::number(n);
-    show::text(b" k ");
-    show::number(k);
-    show::text(b" next ");
-    show::number(next);
+fn print_record(n: usize, k: usize, kind: Kind, next: usize) {
+    print_kind(kind);
+    show::named(b" n ", n);
+    show::named(b" k ", k);
+    show::named(b" next ", next);
 }
 
 // Prints the answer at a start; where the next record starts, or the same start.
 fn answer(r: Entry, start: usize) -> usize {
     match r {
         Entry::Record { n, k, kind, next } => {
-            print_kind(kind);
-            print_numbers(n, k, next);
-            next
+            print_record(n, k, kind, next);
+            return next;
         }
-        Entry::End => {
-            show::text(b"end");
-            start
-        }
-        Entry::Refused(r) => {
-            show::refused(r);
-            start
-        }
+        Entry::End => show::text(b"end"),
+        Entry::Refused(r) => show::refused(r),
     }
+    start
+}
+
+fn heading(start: usize) {
+    show::named(b"at ", start);
+    show::text(b": ");
 }
 
 // The answer at a start, and what the output holds after it.
 fn at(c: &[u8], start: usize, out: &mut [u8]) -> usize {
-    show::text(b"at ");
-    show::number(start);
-    show::text(b": ");
+    heading(start);
     let next = answer(catalogue::read_record(c, start, out), start);
-    show::text(b", output ");
-    show::sectors(out);
-    show::text(b"\n");
+    show::text(b",");
+    show::output(out);
+    show::newline();
     next
 }
 
@@ -74,55 +69,59 @@ fn each(c: &[u8]) {
 
 // ---- the lines
 
-fn line_of_at(line: &[u8]) {
-    let mut c = [0u8; 128];
-    let n = cases::bytes(line, 2, &mut c);
-    full(&c[..n], cases::number(line, 1));
-}
-
-fn line_of_into(line: &[u8]) {
-    let mut c = [0u8; 128];
+fn into(c: &[u8], line: &[u8]) {
     let mut out = [0u8; 65];
     let m = cases::sectors(line, 2, &mut out);
-    let n = cases::bytes(line, 3, &mut c);
-    at(&c[..n], cases::number(line, 1), &mut out[..m]);
+    at(c, cases::number(line, 1), &mut out[..m]);
 }
 
-fn line_of_each(line: &[u8]) {
-    let mut c = [0u8; 128];
-    let n = cases::bytes(line, 1, &mut c);
-    each(&c[..n]);
+// A case, by the first letter, and its catalogue.
+fn read(what: u8, c: &[u8], line: &[u8]) {
+    if what == b'e' {
+        each(c);
+        return;
+    }
+    if what == b'i' {
+        into(c, line);
+        return;
+    }
+    full(c, cases::number(line, 1));
 }
 
-// One line; the first letter tells what to do.
+// Which word the catalogue is: the last one.
+fn last(what: u8) -> usize {
+    if what == b'e' {
+        return 1;
+    }
+    if what == b'i' {
+        return 3;
+    }
+    2
+}
+
+// One line: a heading or a case.
 fn run(line: &[u8]) {
     if line.len() < 4 {
         return;
     }
     let what = line[0];
-    if what == b'a' {
-        line_of_at(line);
-    } else if what == b'i' {
-        line_of_into(line);
-    } else if what == b'e' {
-        line_of_each(line);
-    } else {
+    if what == b's' {
         show::text(&line[4..]);
-        show::text(b"\n");
+        show::newline();
+        return;
     }
-}
-
-fn lines(s: &[u8]) {
-    let mut at = 0;
-    while at < s.len() {
-        let end = cases::line_end(s, at);
-        run(&s[at..end]);
-        at = end + 1;
-    }
+    let mut c = [0u8; 128];
+    let n = cases::bytes(line, last(what), &mut c);
+    read(what, &c[..n], line);
 }
 
 fn main() {
-    let mut input = io::large_buffer();
-    let got = io::read_full(libc::STDIN_FILENO, &mut input);
-    lines(&input[..got]);
+    let mut line = [0u8; 512];
+    for _ in 0..cases::MANY {
+        let n = cases::next(&mut line);
+        if n == 0 {
+            break;
+        }
+        run(&line[..n]);
+    }
 }

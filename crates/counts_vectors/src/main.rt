@@ -5,27 +5,29 @@
 use shades::FirstAnswer;
 use shades::NextAnswer;
 
-fn left(out: &[u8]) {
-    show::text(b" output ");
-    show::sectors(out);
-    show::text(b"\n");
-}
-
-fn first(k: usize, counts: &[usize], out: &mut [u8]) {
-    match shades::first_ring(k, counts, out) {
+fn print_first(r: FirstAnswer) {
+    match r {
         FirstAnswer::Ring => show::text(b"ring"),
         FirstAnswer::Refused(r) => show::refused(r),
     }
-    left(out);
 }
 
-fn next(s: &[u8], k: usize, counts: &[usize], out: &mut [u8]) {
-    match shades::next_ring(s, k, counts, out) {
+fn print_next(r: NextAnswer) {
+    match r {
         NextAnswer::Ring => show::text(b"ring"),
         NextAnswer::Done => show::text(b"done"),
         NextAnswer::Refused(r) => show::refused(r),
     }
-    left(out);
+}
+
+fn first(k: usize, counts: &[usize], out: &mut [u8]) {
+    print_first(shades::first_ring(k, counts, out));
+    show::output(out);
+}
+
+fn next(s: &[u8], k: usize, counts: &[usize], out: &mut [u8]) {
+    print_next(shades::next_ring(s, k, counts, out));
+    show::output(out);
 }
 
 // ---- the lines
@@ -46,30 +48,24 @@ fn line_of_next(line: &[u8], counts: &[usize]) {
 
 // One line; the first letter tells what to do.
 fn run(line: &[u8]) {
-    if line.len() < 1 {
-        return;
-    }
     let mut counts = [0usize; 20];
-    if line[0] == b'f' {
+    if cases::letter(line, 0) == b'f' {
         let m = cases::numbers(line, 3, &mut counts);
         line_of_first(line, &counts[..m]);
-        return;
+    } else {
+        let m = cases::numbers(line, 4, &mut counts);
+        line_of_next(line, &counts[..m]);
     }
-    let m = cases::numbers(line, 4, &mut counts);
-    line_of_next(line, &counts[..m]);
-}
-
-fn lines(s: &[u8]) {
-    let mut at = 0;
-    while at < s.len() {
-        let end = cases::line_end(s, at);
-        run(&s[at..end]);
-        at = end + 1;
-    }
+    show::newline();
 }
 
 fn main() {
-    let mut input = io::buffer();
-    let got = io::read_full(libc::STDIN_FILENO, &mut input);
-    lines(&input[..got]);
+    let mut line = [0u8; 256];
+    for _ in 0..cases::MANY {
+        let n = cases::next(&mut line);
+        if n == 0 {
+            break;
+        }
+        run(&line[..n]);
+    }
 }

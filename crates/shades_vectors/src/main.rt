@@ -1,47 +1,40 @@
 // The two calls of `shades` run and compared: the cases of documents 01 and 002, calls at n = 64 that plain backtracking could not answer, and refusals.
-// The cases are the lines of stdin: `list` or `count`, the number of sectors, how many shade counts there are, and those; or `after`, a reading, k, and the
-// counts likewise. The expected text, stdout, is written from those documents. A ring is a line of one hexadecimal digit a sector.
+// The cases are the lines of stdin: what to do, a reading, k, how many shade counts there are, and those. `list` and `count` go from the first ring on to the last, of
+// as many sectors as the reading has; `after` has the ring that follows the reading. The expected text, stdout, is written from those documents. A ring is a line
+// of one hexadecimal digit a sector.
 
-use refusal::Refusal;
 use shades::FirstAnswer;
 use shades::NextAnswer;
 
 // The ring's line.
 fn print_ring(ring: &[u8]) {
     show::sectors(ring);
-    show::text(b"\n");
-}
-
-// A refusal's line.
-fn print_refusal(r: Refusal) {
-    show::text(b"refused ");
-    show::number(refusal::number(r));
-    show::text(b"\n");
+    show::newline();
 }
 
 // The line of an answer of `next_ring`, which has left its ring in `out`.
 fn print_answer(answer: NextAnswer, out: &[u8]) {
     match answer {
-        NextAnswer::Ring => print_ring(out),
-        NextAnswer::Done => show::text(b"done\n"),
-        NextAnswer::Refused(r) => print_refusal(r),
+        NextAnswer::Ring => show::sectors(out),
+        NextAnswer::Done => show::text(b"done"),
+        NextAnswer::Refused(r) => show::refused(r),
     }
+    show::newline();
 }
 
 // Whether `first_ring` gives a ring; a refusal is printed.
-fn begins(counts: &[usize], ring: &mut [u8]) -> bool {
-    match shades::first_ring(counts.len(), counts, ring) {
-        FirstAnswer::Ring => true,
-        FirstAnswer::Refused(r) => {
-            print_refusal(r);
-            false
-        }
-    }
+fn begins(k: usize, counts: &[usize], ring: &mut [u8]) -> bool {
+    let FirstAnswer::Refused(r) = shades::first_ring(k, counts, ring) else {
+        return true;
+    };
+    show::refused(r);
+    show::newline();
+    false
 }
 
 // Whether there is a next ring, which is then in `ring`; what else is answered is printed.
-fn goes_on(counts: &[usize], ring: &mut [u8], next: &mut [u8]) -> bool {
-    let answer = shades::next_ring(ring, counts.len(), counts, next);
+fn goes_on(k: usize, counts: &[usize], ring: &mut [u8], next: &mut [u8]) -> bool {
+    let answer = shades::next_ring(ring, k, counts, next);
     let NextAnswer::Ring = answer else {
         print_answer(answer, next);
         return false;
@@ -53,9 +46,9 @@ fn goes_on(counts: &[usize], ring: &mut [u8], next: &mut [u8]) -> bool {
 }
 
 // How many rings there are with these counts, from the first on until there is no other; each one's line is printed where they are listed.
-fn walk(counts: &[usize], ring: &mut [u8], next: &mut [u8], listed: bool) -> usize {
+fn walk(k: usize, counts: &[usize], ring: &mut [u8], next: &mut [u8], listed: bool) -> usize {
     let mut rings: usize = 0;
-    let mut more = begins(counts, ring);
+    let mut more = begins(k, counts, ring);
     while more {
         if 20000 <= rings {
             return rings;
@@ -64,66 +57,46 @@ fn walk(counts: &[usize], ring: &mut [u8], next: &mut [u8], listed: bool) -> usi
         if listed {
             print_ring(ring);
         }
-        more = goes_on(counts, ring, next);
+        more = goes_on(k, counts, ring, next);
     }
     rings
 }
 
-// The rings of n sectors with these counts, and their number.
-fn rings(counts: &[usize], n: usize, listed: bool) {
-    if 64 < n {
-        return;
-    }
-    let mut ring = [0u8; 64];
-    let mut next = [0u8; 64];
-    let many = walk(counts, &mut ring[..n], &mut next[..n], listed);
-    show::text(b"rings ");
-    show::number(many);
-    show::text(b"\n");
-}
-
-// One call of `next_ring` after a reading.
-fn after(s: &[u8], k: usize, counts: &[usize], out: &mut [u8]) {
-    print_answer(shades::next_ring(s, k, counts, out), out);
-}
-
 // ---- the lines
 
-fn line_of_after(line: &[u8], counts: &[usize]) {
-    let mut s = [0u8; 64];
-    let mut out = [0u8; 64];
-    let n = cases::sectors(line, 1, &mut s);
-    let m = cases::sectors(line, 1, &mut out);
-    after(&s[..n], cases::number(line, 2), counts, &mut out[..m]);
-}
-
-// One line; the first letter tells what to do.
-fn run(line: &[u8]) {
-    if line.len() < 1 {
-        return;
-    }
-    let what = line[0];
-    let mut counts = [0usize; 16];
+// A case with its counts, its reading and an output; the first letter tells what to do.
+fn answer(line: &[u8], counts: &[usize], ring: &mut [u8], next: &mut [u8]) {
+    let what = cases::letter(line, 0);
+    let k = cases::number(line, 2);
     if what == b'a' {
-        let m = cases::numbers(line, 3, &mut counts);
-        line_of_after(line, &counts[..m]);
+        print_answer(shades::next_ring(ring, k, counts, next), next);
         return;
     }
-    let m = cases::numbers(line, 2, &mut counts);
-    rings(&counts[..m], cases::number(line, 1), what == b'l');
+    show::named(b"rings ", walk(k, counts, ring, next, what == b'l'));
+    show::newline();
 }
 
-fn lines(s: &[u8]) {
-    let mut at = 0;
-    while at < s.len() {
-        let end = cases::line_end(s, at);
-        run(&s[at..end]);
-        at = end + 1;
-    }
+fn line_of(line: &[u8], counts: &[usize]) {
+    let mut ring = [0u8; 64];
+    let mut next = [0u8; 64];
+    let n = cases::sectors(line, 1, &mut ring);
+    let m = cases::sectors(line, 1, &mut next);
+    answer(line, counts, &mut ring[..n], &mut next[..m]);
+}
+
+fn run(line: &[u8]) {
+    let mut counts = [0usize; 16];
+    let m = cases::numbers(line, 3, &mut counts);
+    line_of(line, &counts[..m]);
 }
 
 fn main() {
-    let mut input = io::buffer();
-    let got = io::read_full(libc::STDIN_FILENO, &mut input);
-    lines(&input[..got]);
+    let mut line = [0u8; 256];
+    for _ in 0..cases::MANY {
+        let n = cases::next(&mut line);
+        if n == 0 {
+            break;
+        }
+        run(&line[..n]);
+    }
 }

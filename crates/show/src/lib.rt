@@ -5,16 +5,29 @@ pub mod made;
 use libc::STDOUT_FILENO;
 use refusal::Refusal;
 use rings::Class;
-use rings::MOST_SECTORS;
 
 // A piece of text.
 pub fn text(s: &[u8]) {
     io::write_all(STDOUT_FILENO, s);
 }
 
+pub fn space() {
+    text(b" ");
+}
+
+pub fn newline() {
+    text(b"\n");
+}
+
 // A number in decimal.
 pub fn number(x: usize) {
     io::print_decimal(STDOUT_FILENO, x as u64);
+}
+
+// A number behind its name.
+pub fn named(name: &[u8], x: usize) {
+    text(name);
+    number(x);
 }
 
 fn digit(x: u8) -> u8 {
@@ -27,44 +40,33 @@ fn digit(x: u8) -> u8 {
     b'?'
 }
 
-// The sectors of a reading of at most 64, one lower-case hexadecimal digit each; '?' for a byte that is no shade.
+// Bytes as a reading, one lower-case hexadecimal digit for each sector; '?' for a byte that is no shade.
 pub fn sectors(s: &[u8]) {
-    let mut row = [b'?'; 64];
-    let n = s.len();
-    if MOST_SECTORS < n {
-        return;
-    }
     let mut i = 0;
-    while i < n {
-        row[i] = digit(s[i]);
+    while i < s.len() {
+        text(&[digit(s[i])]);
         i += 1;
     }
-    io::write_all(STDOUT_FILENO, &row[..n]);
+}
+
+// What an output holds after a call.
+pub fn output(out: &[u8]) {
+    text(b" output ");
+    sectors(out);
 }
 
 // A class by its name, with its place, lyn or period.
 pub fn class(c: Class) {
     match c {
-        Class::Loose(p) => {
-            text(b"Loose ");
-            number(p);
-        }
-        Class::Opening(p) => {
-            text(b"Opening ");
-            number(p);
-        }
-        Class::Repeating(p) => {
-            text(b"Repeating ");
-            number(p);
-        }
+        Class::Loose(p) => named(b"Loose ", p),
+        Class::Opening(p) => named(b"Opening ", p),
+        Class::Repeating(p) => named(b"Repeating ", p),
         Class::Single => text(b"Single"),
     }
 }
 
 // A refusal by its number and place.
 pub fn refused(r: Refusal) {
-    text(b"refused ");
-    number(refusal::number(r));
-    text(b" at ");
-    number(refusal::place(r));
+    named(b"refused ", refusal::number(r));
+    named(b" at ", refusal::place(r));
 }

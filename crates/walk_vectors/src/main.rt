@@ -6,7 +6,6 @@
 // is the same of those alone that have as many sectors 1 as others. Classes: 0 Loose, 1 Opening, 2 Repeating, 3 Single.
 
 use refusal::Checked;
-use refusal::Refusal;
 use rings::Class;
 use walk::Outcome;
 use walk::Stepped;
@@ -20,18 +19,22 @@ fn print_ring(w: Walk) {
     }
 }
 
-fn print_mark(c: Class, marks: usize) {
-    match c {
-        Class::Loose(_) => show::text(b" loose"),
-        Class::Opening(_) => mark(marks, 1, b" *"),
-        Class::Repeating(_) => mark(marks, 2, b" N"),
-        Class::Single => mark(marks, 2, b" N L"),
+// A space and a mark, where the marks asked for are `these`.
+fn mark(marks: usize, these: usize, m: u8) {
+    if marks == these {
+        show::text(&[b' ', m]);
     }
 }
 
-fn mark(marks: usize, these: usize, s: &[u8]) {
-    if marks == these {
-        show::text(s);
+fn print_mark(c: Class, marks: usize) {
+    match c {
+        Class::Loose(_) => mark(marks, marks, b'?'),
+        Class::Opening(_) => mark(marks, 1, b'*'),
+        Class::Repeating(_) => mark(marks, 2, b'N'),
+        Class::Single => {
+            mark(marks, 2, b'N');
+            mark(marks, 2, b'L');
+        }
     }
 }
 
@@ -60,7 +63,7 @@ fn print_line(w: Walk, marks: usize) {
     print_ring(w);
     let c = w.class;
     print_mark(c, marks % 10);
-    show::text(b"\n");
+    show::newline();
 }
 
 // One of the three steps, by the first letter of its kind.
@@ -119,52 +122,35 @@ fn count_rings(start: Walk, kind: u8) {
 
 fn print_count(count: usize, sum: usize) {
     show::number(count);
-    show::text(b" moves ");
-    show::number(sum);
-    show::text(b"\n");
+    show::named(b" moves ", sum);
+    show::newline();
 }
 
 fn print_class(w: Walk) {
     let c = w.class;
-    show::text(b" ");
+    show::space();
     show::class(c);
 }
 
-fn print_done(m: usize) {
-    show::text(b"done moves ");
-    show::number(m);
-}
-
+// The ring that a step came to, its class, and the moves.
 fn print_moved(w: Walk, m: usize) {
     print_ring(w);
     print_class(w);
-    show::text(b" moves ");
-    show::number(m);
+    show::named(b" moves ", m);
 }
 
-fn print_outcome(s: Stepped) {
-    let o = s.outcome;
+fn print_outcome(o: Outcome, w: Walk) {
     match o {
-        Outcome::Moved(m) => print_moved(s.walk, m),
-        Outcome::Done(m) => print_done(m),
+        Outcome::Moved(m) => print_moved(w, m),
+        Outcome::Done(m) => show::named(b"done moves ", m),
         Outcome::Refused(r) => show::refused(r),
     }
-    show::text(b"\n");
 }
 
 fn print_record(w: Walk) {
-    show::text(b" record ");
-    show::number(w.n);
-    show::text(b" ");
+    show::named(b" record ", w.n);
+    show::space();
     show::number(w.k);
-}
-
-fn print_refused_start(r: Refusal, w: Walk) {
-    show::text(b"start ");
-    show::refused(r);
-    print_record(w);
-    print_class(w);
-    show::text(b"\n");
 }
 
 fn print_answer(o: Outcome) {
@@ -173,15 +159,6 @@ fn print_answer(o: Outcome) {
         Outcome::Done(_) => show::text(b"done"),
         Outcome::Refused(r) => show::refused(r),
     }
-}
-
-// A record that no walk has made: the answer, and the record's n and k as they come back.
-fn bad(w: Walk) {
-    let s = walk::next_necklace(w);
-    let o = s.outcome;
-    print_answer(o);
-    print_record(s.walk);
-    show::text(b"\n");
 }
 
 fn class_of(case: usize, p: usize) -> Class {
@@ -197,104 +174,100 @@ fn class_of(case: usize, p: usize) -> Class {
     Class::Single
 }
 
-// The ring 0011 with a sector changed, in a record of these numbers and this class.
-fn made(n: usize, k: usize, at: usize, sector: u8, class: Class) {
+// The ring 0011 with a sector changed.
+fn ring_of(at: usize, sector: u8) -> [u8; 64] {
     let mut ring = [0u8; 64];
     ring[2] = 1;
     ring[3] = 1;
     if at < 64 {
         ring[at] = sector;
     }
-    bad(Walk {
-        n: n,
-        k: k,
-        ring: ring,
-        class: class,
-    });
+    ring
 }
 
 // ---- the lines
 
-// That word of the line, and a space.
-fn echo(line: &[u8], before: usize) {
-    let w = cases::word(line, before);
-    let from = w.from;
-    let to = w.to;
-    show::text(&line[from..to]);
-    show::text(b" ");
+// A record that no walk has made: the answer, and the record's n and k as they come back.
+fn made(line: &[u8]) {
+    let s = walk::next_necklace(Walk {
+        n: cases::number(line, 1),
+        k: cases::number(line, 2),
+        ring: ring_of(cases::number(line, 3), (cases::number(line, 4) % 256) as u8),
+        class: class_of(cases::number(line, 5), cases::number(line, 6)),
+    });
+    let o = s.outcome;
+    print_answer(o);
+    print_record(s.walk);
 }
 
-// That word's first letter.
-fn letter(line: &[u8], before: usize) -> u8 {
-    let w = cases::word(line, before);
-    let from = w.from;
-    if from < line.len() {
-        return line[from];
-    }
-    0
+// That word of the line, and a space.
+fn echo(line: &[u8], before: usize) {
+    show::text(cases::word(line, before));
+    show::space();
 }
 
 // A start that went well: `list`, `from`, `count`, `step`.
 fn started(line: &[u8], w: Walk) {
-    let what = letter(line, 0);
-    let kind = letter(line, 3);
+    let what = cases::letter(line, 0);
+    let number = cases::number(line, 3);
+    let kind = cases::letter(line, 3);
     if what == b'l' {
-        print_line(w, cases::number(line, 3));
-        follow(w, cases::number(line, 3), 100);
-    } else if what == b'f' {
-        follow(w, 1, cases::number(line, 3));
-    } else if what == b'c' {
+        print_line(w, number);
+        follow(w, number, 100);
+        return;
+    }
+    if what == b'f' {
+        follow(w, 1, number);
+        return;
+    }
+    if what == b'c' {
         echo(line, 2);
         echo(line, 4);
         echo(line, 3);
         count_rings(w, kind);
-    } else {
-        echo(line, 1);
-        echo(line, 3);
-        print_outcome(step(w, kind));
+        return;
     }
+    echo(line, 1);
+    echo(line, 3);
+    let s = step(w, kind);
+    let o = s.outcome;
+    print_outcome(o, s.walk);
+    show::newline();
 }
 
 // A line that starts from a reading.
-fn line_of_start(line: &[u8]) {
+fn start(line: &[u8]) {
     let mut s = [0u8; 65];
     let n = cases::sectors(line, 1, &mut s);
     let r = walk::start(&s[..n], cases::number(line, 2));
     let a = r.answer;
-    match a {
-        Checked::Good => started(line, r.walk),
-        Checked::Refused(x) => print_refused_start(x, r.walk),
-    }
-}
-
-fn line_of_made(line: &[u8]) {
-    let n = cases::number(line, 1);
-    let k = cases::number(line, 2);
-    let at = cases::number(line, 3);
-    let sector = (cases::number(line, 4) % 256) as u8;
-    let class = class_of(cases::number(line, 5), cases::number(line, 6));
-    made(n, k, at, sector, class);
-}
-
-fn lines(s: &[u8]) {
-    let mut at = 0;
-    while at < s.len() {
-        let end = cases::line_end(s, at);
-        run(&s[at..end]);
-        at = end + 1;
-    }
+    let Checked::Refused(x) = a else {
+        started(line, r.walk);
+        return;
+    };
+    show::text(b"start ");
+    show::refused(x);
+    print_record(r.walk);
+    print_class(r.walk);
+    show::newline();
 }
 
 fn run(line: &[u8]) {
-    if letter(line, 0) == b'm' {
-        line_of_made(line);
+    if cases::letter(line, 0) == b'm' {
+        made(line);
+        show::newline();
         return;
     }
-    line_of_start(line);
+    start(line);
 }
 
 fn main() {
-    let mut input = io::buffer();
-    let got = io::read_full(libc::STDIN_FILENO, &mut input);
-    lines(&input[..got]);
+    let mut line = [0u8; 128];
+    for _ in 0..cases::MANY {
+        let n = cases::next(&mut line);
+        if n == 0 {
+            break;
+        }
+        run(&line[..n]);
+    }
 }

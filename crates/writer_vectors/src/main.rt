@@ -35,12 +35,9 @@ fn print_kind(x: Kind) {
 }
 
 fn print_numbers(n: usize, k: usize, next: usize) {
-    show::text(b" n ");
-    show::number(n);
-    show::text(b" k ");
-    show::number(k);
-    show::text(b" next ");
-    show::number(next);
+    show::named(b" n ", n);
+    show::named(b" k ", k);
+    show::named(b" next ", next);
 }
 
 fn print_entry(r: Entry) {
@@ -60,7 +57,7 @@ fn print_entry(r: Entry) {
 fn read_back(buffer: &[u8], at: usize) {
     let mut out = [9u8; 64];
     print_entry(catalogue::read_record(buffer, at, &mut out));
-    show::text(b" ");
+    show::space();
     show::sectors(&out);
 }
 
@@ -68,8 +65,7 @@ fn read_back(buffer: &[u8], at: usize) {
 fn print_written(r: Written, buffer: &[u8], at: usize) {
     match r {
         Written::After(e) => {
-            show::text(b"after ");
-            show::number(e);
+            show::named(b"after ", e);
             show::text(b": ");
             print_bytes(buffer);
             read_back(buffer, at);
@@ -80,7 +76,7 @@ fn print_written(r: Written, buffer: &[u8], at: usize) {
             print_bytes(buffer);
         }
     }
-    show::text(b"\n");
+    show::newline();
 }
 
 fn put(reading: &[u8], k: usize, kind: Kind, buffer: &mut [u8], at: usize) {
@@ -102,7 +98,7 @@ fn run(line: &[u8]) {
     }
     if line[0] == b's' {
         show::text(&line[4..]);
-        show::text(b"\n");
+        show::newline();
         return;
     }
     let mut reading = [0u8; 65];
@@ -118,17 +114,13 @@ fn run(line: &[u8]) {
     );
 }
 
-fn lines(s: &[u8]) {
-    let mut at = 0;
-    while at < s.len() {
-        let end = cases::line_end(s, at);
-        run(&s[at..end]);
-        at = end + 1;
-    }
-}
-
 fn main() {
-    let mut input = io::large_buffer();
-    let got = io::read_full(libc::STDIN_FILENO, &mut input);
-    lines(&input[..got]);
+    let mut line = [0u8; 512];
+    for _ in 0..cases::MANY {
+        let n = cases::next(&mut line);
+        if n == 0 {
+            break;
+        }
+        run(&line[..n]);
+    }
 }

@@ -26,35 +26,17 @@ same-length c = search needs
 returns : tie.Need-returns Inv-loop μ-loop
 returns c = let l = c .before .before .loop in (omega arith, sym (length-take-le (l .i) (l .out) (omega arith)))
 
-shared-slice-read-digit : tie.Need-shared-slice-read-digit Inv-loop μ-loop
-shared-slice-read-digit c = search needs
+shared-slice-read-paired : tie.Need-shared-slice-read-paired Inv-loop μ-loop
+shared-slice-read-paired c = search needs
 
-digit-requires : tie.Need-digit-requires Inv-loop μ-loop
-digit-requires c κs = search needs
+add-paired : tie.Need-add-paired Inv-loop μ-loop
+add-paired c = search needs
 
-cast-high : tie.Need-cast-high Inv-loop μ-loop
-cast-high c = search needs
+shared-slice-read-paired-2 : tie.Need-shared-slice-read-paired-2 Inv-loop μ-loop
+shared-slice-read-paired-2 c = search needs
 
-add-digit : tie.Need-add-digit Inv-loop μ-loop
-add-digit c = search needs
-
-shared-slice-read-digit-2 : tie.Need-shared-slice-read-digit-2 Inv-loop μ-loop
-shared-slice-read-digit-2 c = search needs
-
-digit-requires-2 : tie.Need-digit-requires-2 Inv-loop μ-loop
-digit-requires-2 c κs = search needs
-
-cast-low : tie.Need-cast-low Inv-loop μ-loop
-cast-low c = search needs
-
-mul-out : tie.Need-mul-out Inv-loop μ-loop
-mul-out c = search needs
-
-add-out : tie.Need-add-out Inv-loop μ-loop
-add-out c = search needs
-
-cast-out : tie.Need-cast-out Inv-loop μ-loop
-cast-out c = search needs
+paired-requires : tie.Need-paired-requires Inv-loop μ-loop
+paired-requires c κs = search needs
 
 slice-write-out : tie.Need-slice-write-out Inv-loop μ-loop
 slice-write-out c = search needs
@@ -87,16 +69,10 @@ spell-bytes-spec =
     sub-if1
     same-length
     returns
-    shared-slice-read-digit
-    digit-requires
-    cast-high
-    add-digit
-    shared-slice-read-digit-2
-    digit-requires-2
-    cast-low
-    mul-out
-    add-out
-    cast-out
+    shared-slice-read-paired
+    add-paired
+    shared-slice-read-paired-2
+    paired-requires
     slice-write-out
     add-i
     add-j

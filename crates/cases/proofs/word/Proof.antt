@@ -1,4 +1,4 @@
--- `cases::word` meets its contract. The loop's invariant: the word begins inside and not past the place. Assumes nothing.
+-- `cases::word` is safe and ends. The loop's invariant: the word begins inside and not past the place. Assumes nothing.
 use Prim.Native.Nat.{_≤_, _-_}
 use lib.ListN.{length}
 use borrow.Author.Needs.{needs}
@@ -26,6 +26,15 @@ loop-less c = search needs
 loop-again : tie.Need-loop-again Inv-loop μ-loop
 loop-again c = search needs
 
+sub-result : tie.Need-sub-result Inv-loop μ-loop
+sub-result c = search needs
+
+part-result-start : tie.Need-part-result-start Inv-loop μ-loop
+part-result-start c = search needs
+
+part-result-end : tie.Need-part-result-end Inv-loop μ-loop
+part-result-end c = search needs
+
 returns : tie.Need-returns Inv-loop μ-loop
 returns c = search needs
 
@@ -41,8 +50,26 @@ loop-less-2 c = search needs
 loop-again-2 : tie.Need-loop-again-2 Inv-loop μ-loop
 loop-again-2 c = search needs
 
+sub-result-2 : tie.Need-sub-result-2 Inv-loop μ-loop
+sub-result-2 c = search needs
+
+part-result-start-2 : tie.Need-part-result-start-2 Inv-loop μ-loop
+part-result-start-2 c = search needs
+
+part-result-end-2 : tie.Need-part-result-end-2 Inv-loop μ-loop
+part-result-end-2 c = search needs
+
 returns-2 : tie.Need-returns-2 Inv-loop μ-loop
 returns-2 c = search needs
+
+sub-result-3 : tie.Need-sub-result-3 Inv-loop μ-loop
+sub-result-3 c = search needs
+
+part-result-start-3 : tie.Need-part-result-start-3 Inv-loop μ-loop
+part-result-start-3 c = search needs
+
+part-result-end-3 : tie.Need-part-result-end-3 Inv-loop μ-loop
+part-result-end-3 c = search needs
 
 returns-3 : tie.Need-returns-3 Inv-loop μ-loop
 returns-3 c = search needs
@@ -58,10 +85,19 @@ word-spec =
     add-i
     loop-less
     loop-again
+    sub-result
+    part-result-start
+    part-result-end
     returns
     sub-left
     add-i-2
     loop-less-2
     loop-again-2
+    sub-result-2
+    part-result-start-2
+    part-result-end-2
     returns-2
+    sub-result-3
+    part-result-start-3
+    part-result-end-3
     returns-3)

@@ -7,10 +7,10 @@ use Rattle.shades_vectors.proofs.walk.Statement.{statement}
 use Rattle.shades_vectors.proofs.walk.Tie as tie
 
 abbrev Inv-loop : tie.InvT-loop
-Inv-loop counts ring₀ next₀ listed rings₀ more₀ ring next rings more = (rings ≤ 20000) × (length ring ≡ length ring₀) × (length next ≡ length next₀)
+Inv-loop k counts ring₀ next₀ listed rings₀ more₀ ring next rings more = (rings ≤ 20000) × (length ring ≡ length ring₀) × (length next ≡ length next₀)
 
 abbrev μ-loop : tie.MeasureT-loop
-μ-loop counts ring₀ next₀ listed rings₀ more₀ ring next rings more = 20000 - rings
+μ-loop k counts ring₀ next₀ listed rings₀ more₀ ring next rings more = 20000 - rings
 
 begins-requires : tie.Need-begins-requires Inv-loop μ-loop
 begins-requires c κs = search needs

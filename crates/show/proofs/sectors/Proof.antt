@@ -1,20 +1,15 @@
--- `show::sectors` meets its contract. The loop's invariant: the row keeps its 64 places. Assumes nothing.
+-- `show::sectors` is safe and ends: the place stays inside. Assumes nothing.
 use Prim.Native.Nat.{_≤_, _-_}
-use mathlib.Core.Path.{_≡_}
-use native.Mathlib.Omega.{arith}
-use lib.ListN.{length, length-set, length-take}
+use lib.ListN.{length}
 use borrow.Author.Needs.{needs}
 use Rattle.show.proofs.sectors.Statement.{statement}
 use Rattle.show.proofs.sectors.Tie as tie
 
 abbrev Inv-loop : tie.InvT-loop
-Inv-loop s row₀ n i₀ row i = (length row ≡ 64) × (i ≤ n)
+Inv-loop s i₀ i = i ≤ length s
 
 abbrev μ-loop : tie.MeasureT-loop
-μ-loop s row₀ n i₀ row i = n - i
-
-returns : tie.Need-returns Inv-loop μ-loop
-returns c = search needs
+μ-loop s i₀ i = length s - i
 
 loop-holds : tie.Need-loop-holds Inv-loop μ-loop
 loop-holds c = search needs
@@ -25,8 +20,11 @@ shared-slice-read-digit c = search needs
 digit-requires : tie.Need-digit-requires Inv-loop μ-loop
 digit-requires c κs = search needs
 
-array-write-row : tie.Need-array-write-row Inv-loop μ-loop
-array-write-row c = search needs
+slice-aggregate-text : tie.Need-slice-aggregate-text Inv-loop μ-loop
+slice-aggregate-text c = search needs
+
+text-requires : tie.Need-text-requires Inv-loop μ-loop
+text-requires c κs = search needs
 
 add-i : tie.Need-add-i Inv-loop μ-loop
 add-i c = search needs
@@ -35,19 +33,10 @@ loop-less : tie.Need-loop-less Inv-loop μ-loop
 loop-less c = search needs
 
 loop-again : tie.Need-loop-again Inv-loop μ-loop
-loop-again c = simp length-set (search needs)
+loop-again c = search needs
 
-array-share-prefix-row : tie.Need-array-share-prefix-row Inv-loop μ-loop
-array-share-prefix-row c = search needs
-
-slice-aggregate-write-all : tie.Need-slice-aggregate-write-all Inv-loop μ-loop
-slice-aggregate-write-all c = simp length-take (omega arith)
-
-write-all-requires : tie.Need-write-all-requires Inv-loop μ-loop
-write-all-requires c κs = search needs
-
-returns-2 : tie.Need-returns-2 Inv-loop μ-loop
-returns-2 c = search needs
+returns : tie.Need-returns Inv-loop μ-loop
+returns c = search needs
 
 pub sectors-spec : {M : Type 1} → statement M
 sectors-spec =
@@ -55,15 +44,12 @@ sectors-spec =
     (tie.spec
     Inv-loop
     μ-loop
-    returns
     loop-holds
     shared-slice-read-digit
     digit-requires
-    array-write-row
+    slice-aggregate-text
+    text-requires
     add-i
     loop-less
     loop-again
-    array-share-prefix-row
-    slice-aggregate-write-all
-    write-all-requires
-    returns-2)
+    returns)

@@ -1,2 +1,0 @@
--- What reading a line promises (Words).
-pub mod Words
