@@ -1,13 +1,13 @@
 // How far apart rings are, run and compared: each ring of 1 to 6 sectors and 2 shades against each, in both orders, and rings of 64 sectors. A row is a ring and
-// its distances from all rings of as many sectors, in increasing order. The expected text, stdout, is made from the definition.
+// its distances from all rings of as many sectors, in increasing order. The expected text, stdout, is made from the definition. The cases are the lines of stdin:
+// `all`, two readings of as many sectors, and how many readings of 2 shades there are; `pair`, two readings, and k.
 
 use home::Distance;
 use home::Homed;
 use show::made;
 
-fn distance(a: &[u8], b: &[u8], k: usize) {
-    let r = home::apart(a, b, k);
-    show::text(b" ");
+fn print_distance(r: Distance) {
+    show::space();
     match r {
         Distance::Apart(d) => show::number(d),
         Distance::Refused(r) => show::refused(r),
@@ -16,11 +16,10 @@ fn distance(a: &[u8], b: &[u8], k: usize) {
 
 // Whether a reading is at home.
 fn at_home(s: &[u8], out: &mut [u8]) -> bool {
-    let r = home::bring_home(s, 2, out);
-    match r {
-        Homed::Home { shift, period } => shift < 1,
-        Homed::Refused(r) => false,
-    }
+    let Homed::Home { shift, .. } = home::bring_home(s, 2, out) else {
+        return false;
+    };
+    shift < 1
 }
 
 // The distances of a from every ring, of which the readings are `many`.
@@ -31,10 +30,10 @@ fn row(a: &[u8], b: &mut [u8], out: &mut [u8], many: usize) {
         made::digits(b, y);
         y += 1;
         if at_home(b, out) {
-            distance(a, b, 2);
+            print_distance(home::apart(a, b, 2));
         }
     }
-    show::text(b"\n");
+    show::newline();
 }
 
 fn square(a: &mut [u8], b: &mut [u8], out: &mut [u8], many: usize) {
@@ -48,50 +47,43 @@ fn square(a: &mut [u8], b: &mut [u8], out: &mut [u8], many: usize) {
     }
 }
 
-// Sectors of one shade, but for another one at some places (`show::made`).
-struct Spots {
-    shade: u8,
-    spot: u8,
-    first: usize,
-    gap: u8,
+// Two rings, in both orders.
+fn pair(a: &[u8], b: &[u8], k: usize) {
+    show::number(a.len());
+    show::text(b":");
+    print_distance(home::apart(a, b, k));
+    print_distance(home::apart(b, a, k));
+    show::newline();
 }
 
-fn ring(shade: u8, spot: u8, first: usize, gap: u8) -> Spots {
-    Spots {
-        shade: shade,
-        spot: spot,
-        first: first,
-        gap: gap,
+// ---- the lines
+
+fn answer(line: &[u8], a: &mut [u8], b: &mut [u8], out: &mut [u8]) {
+    let number = cases::number(line, 3);
+    if cases::letter(line, 0) == b'a' {
+        square(a, b, out, number);
+        return;
     }
+    pair(a, b, number);
 }
 
-// Two rings of 64 sectors, in both orders.
-fn pair(x: Spots, y: Spots, k: usize) {
+fn run(line: &[u8]) {
     let mut a = [0u8; 64];
     let mut b = [0u8; 64];
-    made::spotted(&mut a, x.shade, x.spot, x.first, x.gap);
-    made::spotted(&mut b, y.shade, y.spot, y.first, y.gap);
-    show::text(b"64:");
-    distance(&a, &b, k);
-    distance(&b, &a, k);
-    show::text(b"\n");
-}
-
-fn long() {
-    pair(ring(0, 1, 0, 63), ring(0, 1, 63, 63), 2);
-    pair(ring(0, 1, 0, 63), ring(1, 1, 0, 63), 2);
-    pair(ring(0, 0, 0, 63), ring(1, 1, 0, 63), 2);
-    pair(ring(0, 1, 0, 1), ring(0, 1, 1, 1), 2);
-    pair(ring(0, 1, 0, 1), ring(0, 1, 0, 2), 2);
-    pair(ring(15, 0, 0, 2), ring(15, 0, 5, 3), 16);
+    let mut out = [0u8; 64];
+    let n = cases::sectors(line, 1, &mut a);
+    let m = cases::sectors(line, 2, &mut b);
+    let o = cases::sectors(line, 1, &mut out);
+    answer(line, &mut a[..n], &mut b[..m], &mut out[..o]);
 }
 
 fn main() {
-    square(&mut [0u8; 1], &mut [0u8; 1], &mut [0u8; 1], 2);
-    square(&mut [0u8; 2], &mut [0u8; 2], &mut [0u8; 2], 4);
-    square(&mut [0u8; 3], &mut [0u8; 3], &mut [0u8; 3], 8);
-    square(&mut [0u8; 4], &mut [0u8; 4], &mut [0u8; 4], 16);
-    square(&mut [0u8; 5], &mut [0u8; 5], &mut [0u8; 5], 32);
-    square(&mut [0u8; 6], &mut [0u8; 6], &mut [0u8; 6], 64);
-    long();
+    let mut line = [0u8; 256];
+    for _ in 0..cases::MANY {
+        let n = cases::next(&mut line);
+        if n == 0 {
+            break;
+        }
+        run(&line[..n]);
+    }
 }

@@ -1,24 +1,31 @@
 // Bringing home, run and compared: each reading of 1 to 6 sectors and 2 shades, and the readings of 64 sectors on which a search for the least turn has the
-// most to look at. A line is the reading, its shift, its period and its home reading. The expected text, stdout, is made from the definitions.
+// most to look at: all of one shade but one, at either end; the periods 2 and 32; all of one shade; and a ring whose turns agree for long. A line is the reading,
+// its shift, its period and its home reading. The expected text, stdout, is made from the definitions. The cases are the lines of stdin: `all`, a reading, an output,
+// and how many readings of as many sectors and 2 shades there are; `one`, a reading, an output, and k.
 
 use home::Homed;
 use show::made;
 
-fn bring(s: &[u8], k: usize, out: &mut [u8]) {
-    let r = home::bring_home(s, k, out);
-    show::sectors(s);
+fn print_numbers(shift: usize, period: usize) {
+    show::space();
+    show::number(shift);
+    show::space();
+    show::number(period);
+}
+
+fn print_home(r: Homed) {
     match r {
-        Homed::Home { shift, period } => {
-            show::text(b" ");
-            show::number(shift);
-            show::text(b" ");
-            show::number(period);
-        }
+        Homed::Home { shift, period } => print_numbers(shift, period),
         Homed::Refused(r) => show::refused(r),
     }
-    show::text(b" ");
+}
+
+fn bring(s: &[u8], k: usize, out: &mut [u8]) {
+    show::sectors(s);
+    print_home(home::bring_home(s, k, out));
+    show::space();
     show::sectors(out);
-    show::text(b"\n");
+    show::newline();
 }
 
 // Each reading of as many sectors and 2 shades: there are `many`.
@@ -31,36 +38,32 @@ fn each(s: &mut [u8], many: usize, out: &mut [u8]) {
     }
 }
 
-fn short() {
-    each(&mut [0u8; 1], 2, &mut [9u8; 1]);
-    each(&mut [0u8; 2], 4, &mut [9u8; 2]);
-    each(&mut [0u8; 3], 8, &mut [9u8; 3]);
-    each(&mut [0u8; 4], 16, &mut [9u8; 4]);
-    each(&mut [0u8; 5], 32, &mut [9u8; 5]);
-    each(&mut [0u8; 6], 64, &mut [9u8; 6]);
+// ---- the lines
+
+fn answer(line: &[u8], s: &mut [u8], out: &mut [u8]) {
+    let number = cases::number(line, 3);
+    if cases::letter(line, 0) == b'a' {
+        each(s, number, out);
+        return;
+    }
+    bring(s, number, out);
 }
 
-// Brings home 64 sectors of one shade with another at some places (`show::made`).
-fn spotted(shade: u8, spot: u8, first: usize, gap: u8, k: usize) {
+fn run(line: &[u8]) {
     let mut s = [0u8; 64];
-    made::spotted(&mut s, shade, spot, first, gap);
-    bring(&s, k, &mut [9u8; 64]);
-}
-
-// All of one shade but one, at either end; the periods 2 and 32; all of one shade; and a ring whose turns agree for long.
-fn long() {
-    spotted(0, 1, 0, 63, 2);
-    spotted(0, 1, 63, 63, 2);
-    spotted(1, 0, 0, 63, 2);
-    spotted(1, 0, 63, 63, 2);
-    spotted(0, 1, 0, 1, 2);
-    spotted(0, 1, 0, 31, 2);
-    spotted(1, 0, 31, 31, 2);
-    spotted(1, 1, 0, 63, 2);
-    spotted(15, 0, 0, 2, 16);
+    let mut out = [0u8; 64];
+    let n = cases::sectors(line, 1, &mut s);
+    let m = cases::sectors(line, 2, &mut out);
+    answer(line, &mut s[..n], &mut out[..m]);
 }
 
 fn main() {
-    short();
-    long();
+    let mut line = [0u8; 256];
+    for _ in 0..cases::MANY {
+        let n = cases::next(&mut line);
+        if n == 0 {
+            break;
+        }
+        run(&line[..n]);
+    }
 }

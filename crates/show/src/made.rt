@@ -10,17 +10,3 @@ pub fn digits(s: &mut [u8], x: usize) {
         rest /= 2;
     }
 }
-
-// Sectors of one shade, but for another one at the place `first` and at each that follows `gap` sectors behind.
-pub fn spotted(s: &mut [u8], shade: u8, spot: u8, first: usize, gap: u8) {
-    let mut i = 0;
-    while i < s.len() {
-        s[i] = shade;
-        i += 1;
-    }
-    let mut j = first;
-    while j < s.len() {
-        s[j] = spot;
-        j += 1 + gap as usize;
-    }
-}

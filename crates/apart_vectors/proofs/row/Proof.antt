@@ -1,4 +1,4 @@
--- `apart_vectors::row` meets its contract. The loop's invariant: the lengths stay. Assumes nothing.
+-- `apart_vectors::row` is safe and ends. The loop's invariant: the lengths stay. Assumes nothing.
 use Prim.Native.Nat.{_-_}
 use mathlib.Core.Path.{_≡_}
 use lib.ListN.{length}
@@ -7,10 +7,10 @@ use Rattle.apart_vectors.proofs.row.Statement.{statement}
 use Rattle.apart_vectors.proofs.row.Tie as tie
 
 abbrev Inv-loop : tie.InvT-loop
-Inv-loop a b₀ out₀ many y₀ t6 b out y = (length b ≡ length b₀) × (length out ≡ length out₀) × (length t6 ≡ 1)
+Inv-loop a b₀ out₀ many y₀ b out y = (length b ≡ length b₀) × (length out ≡ length out₀)
 
 abbrev μ-loop : tie.MeasureT-loop
-μ-loop a b₀ out₀ many y₀ t6 b out y = many - y
+μ-loop a b₀ out₀ many y₀ b out y = many - y
 
 sectors-requires : tie.Need-sectors-requires Inv-loop μ-loop
 sectors-requires c κs = search needs
@@ -27,8 +27,11 @@ add-y c = search needs
 at-home-requires : tie.Need-at-home-requires Inv-loop μ-loop
 at-home-requires c κs = search needs
 
-distance-requires : tie.Need-distance-requires Inv-loop μ-loop
-distance-requires c κs = search needs
+apart-requires : tie.Need-apart-requires Inv-loop μ-loop
+apart-requires c κs = search needs
+
+print-distance-requires : tie.Need-print-distance-requires Inv-loop μ-loop
+print-distance-requires c κs = search needs
 
 loop-less : tie.Need-loop-less Inv-loop μ-loop
 loop-less c = search needs
@@ -42,11 +45,8 @@ loop-less-2 c = search needs
 loop-again-2 : tie.Need-loop-again-2 Inv-loop μ-loop
 loop-again-2 c = search needs
 
-slice-aggregate-text : tie.Need-slice-aggregate-text Inv-loop μ-loop
-slice-aggregate-text c = search needs
-
-text-requires : tie.Need-text-requires Inv-loop μ-loop
-text-requires c κs = search needs
+newline-requires : tie.Need-newline-requires Inv-loop μ-loop
+newline-requires c κs = search needs
 
 same-length : tie.Need-same-length Inv-loop μ-loop
 same-length c = search needs
@@ -68,13 +68,13 @@ row-spec =
     digits-requires
     add-y
     at-home-requires
-    distance-requires
+    apart-requires
+    print-distance-requires
     loop-less
     loop-again
     loop-less-2
     loop-again-2
-    slice-aggregate-text
-    text-requires
+    newline-requires
     same-length
     same-length-2
     returns)
