@@ -1,5 +1,6 @@
 // The listing program's library run and compared: listings, every refusal, malformed lines, wide numbers, the limit of Too many, and pages. Standard input holds the
-// lines: cases with '#' between them, each a name, '=' and the line. The expected text, stdout, is written from document 01 and from an enumeration of all
+// lines: cases with '#' between them. With '=' a case is a name and a line that is listed, with '%' likewise by way of 107 bytes, the fewest, so that a listing has
+// many pages; with '@' it is a line and the limit of its plan. The expected text, stdout, is written from document 01 and from an enumeration of all
 // readings by its definitions.
 
 use libc::STDIN_FILENO;
@@ -7,8 +8,10 @@ use libc::STDOUT_FILENO;
 use pages::Page;
 use pages::State;
 use plan::Planned;
+use refusal::Refusal;
 ghost use Prim.Native.Nat.{_≤_};
 ghost use lib.ListN.{length};
+ghost use Rattle.pages.specs.Paging.{lineRoom};
 
 // The first place that holds the character, or the length.
 fn find(s: &[u8], character: u8) -> usize
@@ -24,19 +27,30 @@ fn find(s: &[u8], character: u8) -> usize
     i
 }
 
-// What the program writes for a line, by way of 4,096 bytes.
-fn print(line: &[u8]) {
-    let mut buf = io::buffer();
-    printing_inner::print_through(line, &mut buf);
-}
-
-// A case: its name, and what the program writes for the line.
-fn run(case: &[u8]) {
-    let at = find(case, b'=');
+// A name, and what the program writes for the line behind the mark.
+fn list(case: &[u8], mark: u8, buf: &mut [u8])
+    requires { ⌜ lineRoom ≤ length (now buf) ⌝ }
+{
+    let at = find(case, mark);
     if at < case.len() {
         show::text(&case[..at]);
-        print(&case[at + 1..]);
+        printing_inner::print_through(&case[at + 1..], buf);
     }
+}
+
+// A line, and its plan where a power above the limit behind the mark is Too many.
+fn limited(case: &[u8]) {
+    let at = find(case, b'@');
+    if at < case.len() {
+        plan(&case[..at], cases::number(&case[at + 1..], 0));
+    }
+}
+
+// A case by its mark.
+fn run(case: &[u8]) {
+    list(case, b'=', &mut io::buffer());
+    list(case, b'%', &mut [0u8; 107]);
+    limited(case);
 }
 
 // One case after another.
@@ -49,56 +63,32 @@ fn run_all(cases: &[u8]) {
     }
 }
 
-// What the program writes by way of 107 bytes, the fewest, so that a listing has many pages.
-fn run_paged(line: &[u8]) {
-    let mut small = [0u8; 107];
-    show::text(b"> 107 bytes at a time\n");
-    printing_inner::print_through(line, &mut small);
-}
-
 // ---- plans
 
 fn accepted(k: usize, n: usize) {
-    show::text(b": accepted ");
-    show::number(k);
-    show::text(b" ");
+    show::named(b": accepted ", k);
+    show::space();
     show::number(n);
+}
+
+fn refused(r: Refusal) {
+    show::text(b": ");
+    show::refused(r);
 }
 
 fn planned(p: Planned) {
     match p {
         Planned::Accepted(k, n) => accepted(k, n),
-        Planned::Refused(r) => {
-            show::text(b": ");
-            show::refused(r);
-        }
+        Planned::Refused(r) => refused(r),
     }
 }
 
 // The plan of a line, where a power above `limit` is Too many.
 fn plan(line: &[u8], limit: usize) {
     show::text(line);
-    show::text(b" within ");
-    show::number(limit);
+    show::named(b" within ", limit);
     planned(plan::plan_line(line, limit));
-    show::text(b"\n");
-}
-
-// The program's own limit, which its power may reach.
-fn own_limit() {
-    plan(b"2 24", 16777216);
-    plan(b"4 12", 16777216);
-    plan(b"8 8", 16777216);
-    plan(b"16 6", 16777216);
-    plan(b"3 15", 16777216);
-}
-
-fn other_limits() {
-    plan(b"2 5", 32);
-    plan(b"2 5", 31);
-    plan(b"2 32", 4294967296);
-    plan(b"2 33", 4294967296);
-    plan(b"2 64", 18446744073709551615);
+    show::newline();
 }
 
 // ---- pages from states made by hand
@@ -108,9 +98,8 @@ fn show_page(page: Page, buf: &[u8]) {
     let length = page.length;
     let n = page.state.n;
     show::number(length);
-    show::text(b" bytes, then n is ");
-    show::number(n);
-    show::text(b"\n");
+    show::named(b" bytes, then n is ", n);
+    show::newline();
     if length <= buf.len() {
         io::write_all(STDOUT_FILENO, &buf[..length]);
     }
@@ -161,11 +150,6 @@ fn main() {
     let mut cases = io::buffer();
     let got = io::read_full(STDIN_FILENO, &mut cases);
     run_all(&cases[..got]);
-    run_paged(b"3 4\n");
-    run_paged(b"2 1\n");
-    run_paged(b"\n");
-    own_limit();
-    other_limits();
     states();
     counts();
     first_without_room();

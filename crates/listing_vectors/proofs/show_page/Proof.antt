@@ -8,20 +8,14 @@ use Rattle.listing_vectors.proofs.show_page.Tie as tie
 number-requires : tie.Need-number-requires
 number-requires c κs = search needs
 
-slice-aggregate-text : tie.Need-slice-aggregate-text
-slice-aggregate-text c = search needs
+slice-aggregate-named : tie.Need-slice-aggregate-named
+slice-aggregate-named c = search needs
 
-text-requires : tie.Need-text-requires
-text-requires c κs = search needs
+named-requires : tie.Need-named-requires
+named-requires c κs = search needs
 
-number-requires-2 : tie.Need-number-requires-2
-number-requires-2 c κs = search needs
-
-slice-aggregate-text-2 : tie.Need-slice-aggregate-text-2
-slice-aggregate-text-2 c = search needs
-
-text-requires-2 : tie.Need-text-requires-2
-text-requires-2 c κs = search needs
+newline-requires : tie.Need-newline-requires
+newline-requires c κs = search needs
 
 slice-aggregate-write-all : tie.Need-slice-aggregate-write-all
 slice-aggregate-write-all c = simp length-take (omega arith)
@@ -40,11 +34,9 @@ show-page-spec =
     tie.close
     (tie.spec
     number-requires
-    slice-aggregate-text
-    text-requires
-    number-requires-2
-    slice-aggregate-text-2
-    text-requires-2
+    slice-aggregate-named
+    named-requires
+    newline-requires
     slice-aggregate-write-all
     write-all-requires
     returns
