@@ -26,9 +26,9 @@ fn print_step(s: Stepped, n: usize)
     let w = s.walk;
     let ring = w.ring;
     print_ring(ring, n);
-    show::text(b" ");
+    show::space();
     show::number(m);
-    show::text(b"\n");
+    show::newline();
 }
 
 // The shade top everywhere, but the one below it at the places 0 and p.

@@ -3,9 +3,8 @@
 pub fn six(what: &[u8], ring: [u8; 6], label: &[u8], x: usize) {
     show::text(what);
     show::sectors(&ring);
-    show::text(label);
-    show::number(x);
-    show::text(b"\n");
+    show::named(label, x);
+    show::newline();
 }
 
 // The same, from 64 places of which the first 6 are used.

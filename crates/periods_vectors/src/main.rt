@@ -17,17 +17,15 @@ fn period(w: Walk) -> usize {
     }
 }
 
-// A number and what stands behind it.
-fn print_field(x: usize, after: &[u8]) {
-    show::number(x);
-    show::text(after);
-}
-
 fn print_line(n: usize, k: usize, rings: usize, sum: usize) {
-    print_field(n, b" ");
-    print_field(k, b" ");
-    print_field(rings, b" ");
-    print_field(sum, b"\n");
+    show::number(n);
+    show::space();
+    show::number(k);
+    show::space();
+    show::number(rings);
+    show::space();
+    show::number(sum);
+    show::newline();
 }
 
 // One full walk. It is given up after 100,000 rings, which none of these pairs has.
