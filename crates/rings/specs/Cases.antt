@@ -13,7 +13,7 @@ use Rattle.rings.specs.Necklace.{necklace, lyndon, period, belowOtherTur
 use Rattle.rings.specs.Prenecklace.{prenecklace}
 use Rattle.rings.specs.Class.{classOf, lookAt}
 use Rattle.rings.specs.Home.{home, shift}
-use Rattle.rings.specs.Alike.{evenHanded, sameRing, apart, mirrored}
+use Rattle.rings.specs.Alike.{evenHanded, sameRing, apart, mirrored, bracelet, leastOfPair}
 use Rattle.rings.specs.Next.{nextPrenecklace}
 use Rattle.rings.specs.Counts.{countedNecklace}
 use Rattle.rings.specs.Steps.{firstOf, nextOf, moves}
@@ -50,6 +50,10 @@ pub data Case : Type 0 where
   compared : ℕ → ℕ → ℕ → Bool → ℕ → Case
   -- n, a ring and the ring seen from the other side
   other-side : ℕ → ℕ → ℕ → Case
+  -- n, a reading and whether it is the one of its mirror pair, in both forms
+  of-pair : ℕ → ℕ → Bool → Case
+  -- n, a reading, the next bracelet
+  then-bracelet : ℕ → ℕ → ℕ → Case
   -- n, a reading and whether it is below each of its other turns
   below-turns : ℕ → ℕ → Bool → Case
   -- n, the counts, the first ring that has them
@@ -72,6 +76,8 @@ Holds (page-next k n w v) = nextPrenecklace k (ring n w) ≡ ring n v
 Holds (handed n w b) = evenHanded (ring n w) ≡ b
 Holds (compared n v w b d) = (sameRing (ring n v) (ring n w) ≡ b) × (apart (ring n v) (ring n w) ≡ d)
 Holds (other-side n w v) = mirrored (ring n w) ≡ ring n v
+Holds (of-pair n w b) = (bracelet (ring n w) ≡ b) × (leastOfPair (ring n w) ≡ b)
+Holds (then-bracelet n w v) = nextOf bracelet 2 (ring n w) ≡ some (ring n v)
 Holds (below-turns n w b) = belowOtherTurns (ring n w) ≡ b
 Holds (counted-first n cs w) = firstOf (countedNecklace cs) n (lib.ListN.length cs) ≡ some (ring n w)
 Holds (counted-next n cs w v) = nextOf (countedNecklace cs) (lib.ListN.length cs) (ring n w) ≡ some (ring n v)
@@ -116,4 +122,9 @@ table =
     counted-first 2 (0 ∷ 2 ∷ 0 ∷ []) 11 ∷
     counted-next 6 (3 ∷ 3 ∷ []) 001101 010101 ∷
     counted-done 6 (3 ∷ 3 ∷ []) 010101 ∷
+    of-pair 6 001011 true ∷
+    of-pair 6 001101 false ∷
+    of-pair 6 001111 true ∷
+    of-pair 6 010110 false ∷
+    then-bracelet 6 001011 001111 ∷
     []

@@ -3,7 +3,7 @@
 --     Prenecklace    prenecklace, lyn, where a reading goes wrong
 --     Class          Loose, Opening, Repeating, Single
 --     Home           home reading, shift
---     Alike          even-handed, same ring, apart, the ring seen from the other side
+--     Alike          even-handed, same ring, apart, the ring seen from the other side, bracelets
 --     Next           the next prenecklace, as the page builds it
 --     Counts         shade counts
 --     Steps          the next reading of a kind, the moves to it, a full walk

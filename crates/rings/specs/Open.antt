@@ -9,11 +9,11 @@ use Rattle.rings.specs.Necklace.{notAboveTurn, necklace, repeatsBy, peri
 use Rattle.rings.specs.Prenecklace.{endingHolds, prenecklace, lyn, wrongAt, wrongPlace}
 use Rattle.rings.specs.Class.{necklaceClass, prenecklaceClass, classOf, lookAt}
 use Rattle.rings.specs.Home.{leastTurn, shift, home}
-use Rattle.rings.specs.Alike.{evenHanded, sameRing, differing, turnDiffers, apart, mirrored}
+use Rattle.rings.specs.Alike.{evenHanded, sameRing, differing, turnDiffers, apart, mirrored, bracelet, notAboveEither, leastOfPair}
 use Rattle.rings.specs.Next.{lowAt, lastLow, raised, repeated, nextPrenecklace}
 use Rattle.rings.specs.Counts.{occurs, countsOf, hasCounts, countedNecklace}
 use Rattle.rings.specs.Steps.{firstOf, aboveOf, nextOf, passed, moves, howMany, howManyTo}
 
 unfoldable pub open-all : ℕ
-unfolding allBelow someBelow least greatest tab before upTo same turn fan readings total first notAboveTurn necklace repeatsBy period lyndon belowOtherTurns endingHolds prenecklace lyn wrongAt wrongPlace necklaceClass prenecklaceClass classOf lookAt leastTurn shift home evenHanded sameRing differing turnDiffers apart mirrored lowAt lastLow raised repeated nextPrenecklace occurs countsOf hasCounts countedNecklace firstOf aboveOf nextOf passed moves howMany howManyTo
+unfolding allBelow someBelow least greatest tab before upTo same turn fan readings total first notAboveTurn necklace repeatsBy period lyndon belowOtherTurns endingHolds prenecklace lyn wrongAt wrongPlace necklaceClass prenecklaceClass classOf lookAt leastTurn shift home evenHanded sameRing differing turnDiffers apart mirrored bracelet notAboveEither leastOfPair lowAt lastLow raised repeated nextPrenecklace occurs countsOf hasCounts countedNecklace firstOf aboveOf nextOf passed moves howMany howManyTo
 open-all = 0
