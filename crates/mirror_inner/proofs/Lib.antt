@@ -1,0 +1,2 @@
+-- What the two scans rest on, over plain lists (Facing).
+pub mod Facing

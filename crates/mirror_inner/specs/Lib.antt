@@ -1,0 +1,1 @@
+-- The functions promise what `rings` says (`bracelet`); nothing is defined here.
