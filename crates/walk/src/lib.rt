@@ -1,5 +1,8 @@
-// Walks (01, 'Walks'): one record, a start and three steps. The record and what is promised of it stand in `walk_record`.
+// Walks (01, 'Walks'): one record, a start and three steps, and the step to the next bracelet (02, request c). The record and what is promised of it stand in
+// `walk_record`, what the last step promises in `bracelet_answers`.
 
+pub use bracelet_answers::Arrival;
+pub use bracelet_answers::Arrived;
 use moves_inner::Kind;
 use refusal::Checked;
 pub use walk_record::Outcome;
@@ -11,6 +14,7 @@ ghost use Rattle.rings.specs.Necklace.{necklace, lyndon};
 ghost use Rattle.rings.specs.Prenecklace.{prenecklace};
 ghost use Rattle.moves_inner.specs.Kinds.{kindOf};
 ghost use Rattle.walk_record.specs.Says.{StartSays, StepSays};
+ghost use Rattle.bracelet_answers.specs.Says.{ArrivalSays};
 
 // A walk from a lent prenecklace: its record, or 1, 2, 3, 5.
 pub fn start(s: &[u8], k: usize) -> Started
@@ -60,4 +64,20 @@ pub fn next_lyndon(w: Walk) -> Stepped
     ensures { λ r. ⌜ StepSays lyndon w (r .walk) (r .outcome) ⌝ }
 {
     step(w, Kind::Lyndon)
+}
+
+// ---- one ring from each mirror pair
+
+// To the least bracelet above: the least necklace above the present ring that is not above the home reading of its reverse. It reports no moves.
+pub fn next_bracelet(w: Walk) -> Arrived
+    ensures { λ r. ⌜ ArrivalSays w (r .walk) (r .arrival) ⌝ }
+{
+    let v = walk_checks_inner::check_walk(w);
+    match v {
+        Checked::Refused(r) => Arrived {
+            walk: w,
+            arrival: Arrival::Refused(r),
+        },
+        Checked::Good => bracelet_step_inner::step_good(w),
+    }
 }

@@ -1,0 +1,2 @@
+-- What the contract determines (Unique).
+pub mod Unique

@@ -1,0 +1,2 @@
+-- What the step to the next bracelet promises (Says).
+pub mod Says

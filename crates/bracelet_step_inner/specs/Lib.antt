@@ -1,0 +1,1 @@
+-- The step promises what `bracelet_answers` says; nothing is defined here.
