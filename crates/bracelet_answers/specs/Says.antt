@@ -26,7 +26,7 @@ pub record Onward (w v : Walk) : Type 0 where
 pub record Last (w v : Walk) : Type 0 where
   pub good : Passed (walkAsked w)
   pub next : nextOf bracelet (w .k) (ringOf w) ≡ none
-  pub handed : v ≡ w
+  pub kept : v ≡ w
 
 -- a step from the record w; refusals 1, 2, 3, 5
 abbrev pub ArrivalSays : Walk → Walk → Arrival → Type 0

@@ -1,11 +1,12 @@
 -- The search for the place to raise, and the shades behind it.
 --     Lifting k w s i      s is the first i sectors of w, filled up, and from place i on w is stuck
 --     lifting-start, lifting-full, lifting-stuck, lifting-none     the search from the end
---     lifting-settles, lifting-found                               the place is found: its least shade
---     led-settles, led-on, led-start, led-end                      the shades behind it, place by place
+--     lifting-below, lifting-settles, lifting-found                the place is found: its least shade
+--     led-settles, led-on                                          the least shade at a place behind it
+--     Leading k c m s i, leading-start, leading-settles, leading-on, leading-end    place by place, up to the end
 -- Assumes nothing.
 use Prim.Native.Nat.{ℕ, suc, _+_, _-_, _<_, _≤_}
-use mathlib.Core.Path.{_≡_, refl, _∙_}
+use mathlib.Core.Path.{_≡_, refl, ap, _∙_}
 use mathlib.Core.Bool.{true, false}
 use mathlib.Core.List.{List}
 use native.Mathlib.Omega.{arith}
@@ -49,6 +50,10 @@ module _ (k : ℕ) (w : List ℕ) (ready : ByteReading k w) where
         (getD-set-same s l b 0 (omega (arith, f .long, in-w)))
         (λ j h o. getD-set-other s l j b 0 (λ x. omega arith) ∙ f .high j (omega arith) o)
 
+    -- a shade searched for there leaves the length
+    pub lifting-long : (a : ℕ) (v : List ℕ) → Settled (set s l t) l a t v → length v ≡ length w
+    lifting-long a v d = ap length (d .is) ∙ length-set (set s l t) l (d .shade) ∙ length-set s l t ∙ f .long
+
     -- the highest shade cannot be raised
     pub lifting-full : getD s l 0 ≡ t → Lifting k w s l
     lifting-full h =
@@ -72,21 +77,22 @@ module _ (k : ℕ) (w : List ℕ) (ready : ByteReading k w) where
         }
 
     module _ (h : bracelet (set s l t) ≡ true) (n : getD s l 0 ≡ t → ⊥) where
-      below : getD s l 0 < t
-      below = omega (arith, f .low l (omega arith), ready .reading .shades l in-w)
+      pub lifting-below : getD s l 0 < t
+      lifting-below = omega (arith, f .low l (omega arith), ready .reading .shades l in-w)
 
-      -- else the least that does is above the sector that stood there
-      pub lifting-settles : Settles (set s l t) l (getD s l 0 + 1) t
-      lifting-settles =
+      -- else a search for the least that does finds one, from whatever shade on
+      pub lifting-settles : (a : ℕ) → a ≤ t → Settles (set s l t) l a t
+      lifting-settles a o =
           record {
             inside = omega (arith, length-set s l t, f .long, in-w);
-            order = omega (arith, below);
+            order = o;
             top = rw (set-set s l t t) h;
-            rises = λ x y g o b. rw (set-set s l t y, lifting-tried y) (tried-rises k l w x y (ready .reading) in-w (rw (set-set s l t x, lifting-tried x) at b) g (omega (arith, ready .some-shades)));
+            rises = λ x y g u b. rw (set-set s l t y, lifting-tried y) (tried-rises k l w x y (ready .reading) in-w (rw (set-set s l t x, lifting-tried x) at b) g (omega (arith, ready .some-shades)));
           }
 
-      pub lifting-found : (v : List ℕ) → Settled (set s l t) l (getD s l 0 + 1) t v → Lifted k w (l + 1) v
-      lifting-found v d = record { none-above = λ z. absurd (omega arith); leads = λ z. rw (add-one l, d .is, is (d .shade)) leads }
+      -- and what it finds from the shade after the present one on is the raised sector
+      pub lifting-found : (a : ℕ) → getD s l 0 < a → a ≤ getD s l 0 + 1 → (v : List ℕ) → Settled (set s l t) l a t v → Lifted k w (l + 1) v
+      lifting-found a above next v d = record { none-above = λ z. absurd (omega arith); leads = λ z. rw (add-one l, d .is, is (d .shade)) leads }
         where
           is : (b : ℕ) → set (set s l t) l b ≡ tried k w l b
           is b = set-set s l t b ∙ lifting-tried b
@@ -94,7 +100,7 @@ module _ (k : ℕ) (w : List ℕ) (ready : ByteReading k w) where
           leads : Leads k w (tried k w l (d .shade)) (suc l)
           leads =
               lead-start k w l (d .shade) (ready .reading) in-w (omega (arith, d .up, f .low l (omega arith))) (omega (arith, d .down, ready .some-shades)) (rw (is (d .shade)) at (d .whole))
-              (λ a g o. rw (is a) at (d .first a (omega (arith, f .low l (omega arith))) o)) past
+              (λ x g o. rw (is x) at (d .first x (omega (arith, f .low l (omega arith))) o)) past
 
   pub lifting-none : (s : List ℕ) (i : ℕ) → Lifting k w s i → i ≤ 0 → Lifted k w 0 s
   lifting-none s i f h = record { none-above = λ z. stuck-none k w (let e : i ≡ 0 = omega arith in rw e at (f .stuck)); leads = λ z. absurd (omega arith) }
@@ -109,20 +115,20 @@ module _ (k : ℕ) (w c : List ℕ) (m t : ℕ) (lead : Leads k w c m) (h : m < 
   led-reading = rw (lead .reading .long) (lead .reading)
 
   -- the highest shade can be taken, and a shade above one that can
-  pub led-settles : Settles c m 0 t
-  led-settles =
+  pub led-settles : (a : ℕ) → a ≤ t → Settles c m a t
+  led-settles a u =
       record {
         inside = h;
-        order = omega arith;
+        order = u;
         top = rw (lead-set k w c m lead t in-led, q) (lead-letter k w c m lead in-led);
         rises = λ x y g o b. rw (lead-set k w c m lead y in-led) (tried-rises k m c x y led-reading h (rw (lead-set k w c m lead x in-led) at b) g (omega (arith, lead .reading .shades m in-led)));
       }
 
-  -- the least that can leads on
-  pub led-on : (v : List ℕ) → Settled c m 0 t v → Leads k w v (m + 1)
-  led-on v d =
+  -- the least that can, from 0 on, leads on
+  pub led-on : (a : ℕ) → a ≤ 0 → (v : List ℕ) → Settled c m a t v → Leads k w v (m + 1)
+  led-on a z v d =
       rw (add-one m, d .is, is (d .shade))
-      (lead-on k w c m lead (d .shade) in-led (omega (arith, d .down, lead .reading .shades m in-led)) (rw (is (d .shade)) at (d .whole)) (λ a o. rw (is a) at (d .first a (omega arith) o)))
+      (lead-on k w c m lead (d .shade) in-led (omega (arith, d .down, lead .reading .shades m in-led)) (rw (is (d .shade)) at (d .whole)) (λ x o. rw (is x) at (d .first x (omega arith) o)))
     where
       is : (b : ℕ) → set c m b ≡ tried k c m b
       is b = lead-set k w c m lead b in-led
@@ -138,14 +144,14 @@ module _ (k : ℕ) (c : List ℕ) (m : ℕ) where
   leading-start d = record { some-led = d; each = λ w l. l; long = refl }
 
   module _ (s : List ℕ) (i t : ℕ) (f : Leading k c m s i) (h : i < length s) (q : t ≡ k - 1) where
-    pub leading-settles : Settles s i 0 t
-    leading-settles = led-settles k (f .some-led .0) s i t (f .some-led .1) h q
+    pub leading-settles : (a : ℕ) → a ≤ t → Settles s i a t
+    leading-settles a o = led-settles k (f .some-led .0) s i t (f .some-led .1) h q a o
 
-    pub leading-on : (v : List ℕ) → length v ≡ length s → Settled s i 0 t v → Leading k c m v (i + 1)
-    leading-on v e d =
+    pub leading-on : (a : ℕ) → a ≤ 0 → (v : List ℕ) → length v ≡ length s → Settled s i a t v → Leading k c m v (i + 1)
+    leading-on a z v e d =
         record {
-          some-led = (f .some-led .0, led-on k (f .some-led .0) s i t (f .some-led .1) h q v d);
-          each = λ w l. led-on k w s i t (f .each w l) h q v d;
+          some-led = (f .some-led .0, led-on k (f .some-led .0) s i t (f .some-led .1) h q a z v d);
+          each = λ w l. led-on k w s i t (f .each w l) h q a z v d;
           long = e ∙ f .long;
         }
 

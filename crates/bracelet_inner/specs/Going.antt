@@ -1,5 +1,5 @@
 -- What the functions of this crate ask for and come to. These words serve the code alone.
---     ByteReading k w               w is a reading of k shades, of one sector at least
+--     ByteReading k w         w is a reading of k shades, two or more that fit into a byte, of one sector at least
 --     Settles s m a t         s with the shade t at place m is a bracelet, and with a shade above one that makes it one it is one
 --     Settled s m a t v       v is s with the least shade from a on, at place m, that makes it a bracelet
 --     Lifted k w r v          the first r sectors of v lead to the next bracelet after w; where r is 0 there is none
@@ -17,10 +17,10 @@ use Rattle.rings.specs.Steps.{nextOf}
 use Rattle.rings.specs.Alike.{bracelet}
 use Rattle.bracelet_laws.proofs.Next.{Leads}
 
--- a reading of k shades that fit into a byte, of one sector at least
+-- a reading of k shades, two or more that fit into a byte, of one sector at least
 pub record ByteReading (k : ℕ) (w : List ℕ) : Type 0 where
   pub pos : 0 < length w
-  pub some-shades : 0 < k
+  pub some-shades : 1 < k
   pub shades : k < 256
   pub reading : Reading (length w) k w
 

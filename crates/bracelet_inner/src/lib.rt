@@ -49,7 +49,7 @@ fn lift(s: &mut [u8], k: usize) -> usize
 
 // Takes at each place from m on the least shade that keeps the beginning completable.
 fn complete(s: &mut [u8], m: usize, k: usize)
-    requires { ⌜ (0 < k) × (k < 256) × Led k (now s) m ⌝ }
+    requires { ⌜ (1 < k) × (k < 256) × Led k (now s) m ⌝ }
     ensures { λ r. ⌜ Completed k (now (s .entry)) m (now (s .exit)) ⌝ }
 {
     let top = (k - 1) as u8;

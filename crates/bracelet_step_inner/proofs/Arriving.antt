@@ -1,12 +1,13 @@
 -- The step to the next bracelet: what the checks give it, and that a start from the ring it comes to makes the record of that ring.
 --     good-reading                  the ring of a record that passed its checks is a reading from which the next bracelet can be sought
 --     arrived-long, arrived-ring    the ring that it comes to, laid over the first n sectors of the given one
---     arrived-passed, arrived-is    a start from it is not refused, and hands out its record
+--     arrived-passed, arrived       a start from it is not refused, and hands out its record, as a step that moved promises
+--     ended                         where there is no next bracelet the record is handed back
 -- Assumes nothing.
 use Prim.Native.Nat.{ℕ}
 use mathlib.Core.Path.{_≡_, refl, sym, ap, _∙_}
 use mathlib.Core.Bool.{true}
-use mathlib.Core.Option.{some}
+use mathlib.Core.Option.{none, some}
 use mathlib.Core.List.{List, _++_}
 use native.Mathlib.Omega.{arith}
 use lib.ListN.{length, take, drop}
@@ -28,6 +29,7 @@ use Rattle.walk_record.specs.Record.{ringOf, walkOf, walkAsked}
 use Rattle.walk_record.specs.Says.{StartSays}
 use Rattle.walk_record.proofs.Good.{good-ready, good-long}
 use Rattle.bracelet_inner.specs.Going.{ByteReading}
+use Rattle.bracelet_answers.specs.Says.{Onward, Last}
 
 module _ (w : Walk) (good : Passed (walkAsked w)) (size : length (w .ring) ≡ 64) where
   pub good-reading : ByteReading (w .k) (ringOf w)
@@ -54,9 +56,17 @@ module _ (w : Walk) (good : Passed (walkAsked w)) (size : length (w .ring) ≡ 6
         (((((((omega (arith, r .pos), omega (arith, r .fits)), tt), (r .shades, r .few)), λ i b. reading .shades i (omega arith)), tt), tt), refl)
 
     -- and is a prenecklace, so that a start from it hands out its record
-    pub arrived-is : (to : Walk) (answer : Checked) → StartSays v (w .k) to answer → to ≡ walkOf (w .k) v
+    arrived-is : (to : Walk) (answer : Checked) → StartSays v (w .k) to answer → to ≡ walkOf (w .k) v
     arrived-is to C.Good says = says .1
     arrived-is to (C.Refused r) says = absurd (never-both (walkStart v (w .k) (prenecklace v)) r (says .0) (arrived-passed .0, on))
       where
         on : prenecklace v ≡ true
         on = necklace-prenecklace v (bracelet-necklace v (next-facts bracelet (w .k) (ringOf w) v next .2))
+
+    -- what is promised of a step that moved
+    pub arrived : (to : Walk) (answer : Checked) → StartSays v (w .k) to answer → Onward w to
+    arrived to answer says = record { good = good; to = v; next = next; handed = arrived-is to answer says }
+
+-- what is promised of a step that is Done
+pub ended : (w : Walk) → Passed (walkAsked w) → nextOf bracelet (w .k) (ringOf w) ≡ none → Last w w
+ended w good next = record { good = good; next = next; kept = refl }

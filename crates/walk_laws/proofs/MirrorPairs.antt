@@ -107,7 +107,7 @@ module _ (n k : ℕ) (sized : Sized n) (shaded : Shaded k) where
   -- steps from the record of a prenecklace do what its full walk does
   pub walk-arrivals : {w : List ℕ} {rings : List (List ℕ)} {m : ℕ} → Reading n k w → prenecklace w ≡ true → FullWalk bracelet k w rings m → Arrivals (walkOf k w) rings
   walk-arrivals r p (done {w = w} e) =
-      ends {v = walkOf k w} (record { good = walk-good n k w sized shaded r p; next = rw (ring-of k w) e; handed = refl })
+      ends {v = walkOf k w} (record { good = walk-good n k w sized shaded r p; next = rw (ring-of k w) e; kept = refl })
   walk-arrivals r p (step {w = w} {v = v} {rings = rings} e f) =
       let g = next-facts bracelet k w v e in
       subst (λ (u : List ℕ). Arrivals (walkOf k w) (u ∷ rings)) (ring-of k v)

@@ -1,6 +1,7 @@
 -- `bracelet_inner::complete` meets its contract. The loop's invariant, `Leading`: the first i sectors lead on as the first m did. Assumes nothing.
 use Prim.Native.Nat.{_-_}
 use mathlib.Core.Path.{refl}
+use native.Mathlib.Omega.{arith}
 use lib.ListN.{length}
 use borrow.Author.Needs.{needs}
 use Rattle.bracelet_inner.proofs.Lifting.{Leading, leading-start, leading-settles, leading-on, leading-end}
@@ -23,7 +24,7 @@ loop-holds : tie.Need-loop-holds Inv-loop μ-loop
 loop-holds c = let g = c .before in leading-start (g .args .k) (g .args .s .now) (g .args .m) (g .pre .2)
 
 settle-requires : tie.Need-settle-requires Inv-loop μ-loop
-settle-requires c κs = let g = c .before .before .before .before in let a = g .args in let l = c .before .before .loop in leading-settles (a .k) (a .s .now) (a .m) (l .s) (l .i) (a .k - 1) (l .inv) (c .before .loop-test .taken) refl
+settle-requires c κs = let g = c .before .before .before .before in let a = g .args in let l = c .before .before .loop in leading-settles (a .k) (a .s .now) (a .m) (l .s) (l .i) (a .k - 1) (l .inv) (c .before .loop-test .taken) refl _ (omega (arith, g .pre .0))
 
 add-i : tie.Need-add-i Inv-loop μ-loop
 add-i c = search needs
@@ -32,7 +33,7 @@ loop-less : tie.Need-loop-less Inv-loop μ-loop
 loop-less c = search needs
 
 loop-again : tie.Need-loop-again Inv-loop μ-loop
-loop-again c = let g = c .before .before .before .before .before .before .before in let a = g .args in let l = c .before .before .before .before .before .loop in leading-on (a .k) (a .s .now) (a .m) (l .s) (l .i) (a .k - 1) (l .inv) (c .before .before .before .before .loop-test .taken) refl _ (search needs) (c .before .before .settle .ensures)
+loop-again c = let g = c .before .before .before .before .before .before .before in let a = g .args in let l = c .before .before .before .before .before .loop in leading-on (a .k) (a .s .now) (a .m) (l .s) (l .i) (a .k - 1) (l .inv) (c .before .before .before .before .loop-test .taken) refl _ (omega arith) _ (search needs) (c .before .before .settle .ensures)
 
 same-length : tie.Need-same-length Inv-loop μ-loop
 same-length c = search needs

@@ -4,7 +4,7 @@ use mathlib.Core.Path.{_∙_, sym, refl}
 use native.Mathlib.Omega.{arith}
 use lib.ListN.{length-set}
 use borrow.Author.Needs.{needs}
-use Rattle.bracelet_inner.proofs.Lifting.{Lifting, lifting-start, lifting-full, lifting-stuck, lifting-settles, lifting-found, lifting-none}
+use Rattle.bracelet_inner.proofs.Lifting.{Lifting, lifting-start, lifting-long, lifting-full, lifting-stuck, lifting-below, lifting-settles, lifting-found, lifting-none}
 use Rattle.bracelet_inner.proofs.lift.Statement.{statement}
 use Rattle.bracelet_inner.proofs.lift.Tie as tie
 
@@ -42,19 +42,37 @@ is-bracelet-requires : tie.Need-is-bracelet-requires Inv-loop μ-loop
 is-bracelet-requires c κs = simp length-set (omega (arith, c .before .before .before .before .loop .inv .long, c .before .before .before .before .before .before .pre .pos))
 
 add-settle : tie.Need-add-settle Inv-loop μ-loop
-add-settle c = let g = c .before .before .before .before .before .before .before .before .before in let a = g .args in let l = c .before .before .before .before .before .before .before .loop in omega (arith, g .pre .shades, lifting-settles (a .k) (a .s .now) (g .pre) (l .s) (l .i) (l .i - 1) (a .k - 1) (l .inv) (omega arith) refl (sym (c .before .before .is-bracelet .ensures) ∙ c .before .if2 .taken) (c .before .before .before .before .if1 .left) .order)
+add-settle c =
+    let g = c .before .before .before .before .before .before .before .before .before in
+    let a = g .args in
+    let l = c .before .before .before .before .before .before .before .loop in
+    omega (arith, g .pre .shades, lifting-below (a .k) (a .s .now) (g .pre) (l .s) (l .i) (l .i - 1) (a .k - 1) (l .inv) (omega arith) refl (sym (c .before .before .is-bracelet .ensures) ∙ c .before .if2 .taken) (c .before .before .before .before .if1 .left))
 
 settle-requires : tie.Need-settle-requires Inv-loop μ-loop
-settle-requires c κs = let g = c .before .before .before .before .before .before .before .before .before in let a = g .args in let l = c .before .before .before .before .before .before .before .loop in lifting-settles (a .k) (a .s .now) (g .pre) (l .s) (l .i) (l .i - 1) (a .k - 1) (l .inv) (omega arith) refl (sym (c .before .before .is-bracelet .ensures) ∙ c .before .if2 .taken) (c .before .before .before .before .if1 .left)
+settle-requires c κs =
+    let g = c .before .before .before .before .before .before .before .before .before in
+    let a = g .args in
+    let l = c .before .before .before .before .before .before .before .loop in
+    let is = sym (c .before .before .is-bracelet .ensures) ∙ c .before .if2 .taken in
+    let up = c .before .before .before .before .if1 .left in
+    lifting-settles (a .k) (a .s .now) (g .pre) (l .s) (l .i) (l .i - 1) (a .k - 1) (l .inv) (omega arith) refl is up _ (omega (arith, lifting-below (a .k) (a .s .now) (g .pre) (l .s) (l .i) (l .i - 1) (a .k - 1) (l .inv) (omega arith) refl is up))
 
 add-result : tie.Need-add-result Inv-loop μ-loop
 add-result c = search needs
 
 same-length : tie.Need-same-length Inv-loop μ-loop
-same-length c = let g = c .before .before .before .before .before .before .before .before .before .before .before .before in let a = g .args in let l = c .before .before .before .before .before .before .before .before .before .before .loop in lifting-found (a .k) (a .s .now) (g .pre) (l .s) (l .i) (l .i - 1) (a .k - 1) (l .inv) (omega arith) refl (sym (c .before .before .before .before .before .is-bracelet .ensures) ∙ c .before .before .before .before .if2 .taken) (c .before .before .before .before .before .before .before .if1 .left) _ (c .before .before .settle .ensures) .leads (omega arith) .reading .long
+same-length c =
+    let g = c .before .before .before .before .before .before .before .before .before .before .before .before in
+    let a = g .args in
+    let l = c .before .before .before .before .before .before .before .before .before .before .loop in
+    lifting-long (a .k) (a .s .now) (g .pre) (l .s) (l .i) (l .i - 1) (a .k - 1) (l .inv) (omega arith) refl _ _ (c .before .before .settle .ensures)
 
 returns : tie.Need-returns Inv-loop μ-loop
-returns c = let g = c .before .before .before .before .before .before .before .before .before .before .before .before in let a = g .args in let l = c .before .before .before .before .before .before .before .before .before .before .loop in lifting-found (a .k) (a .s .now) (g .pre) (l .s) (l .i) (l .i - 1) (a .k - 1) (l .inv) (omega arith) refl (sym (c .before .before .before .before .before .is-bracelet .ensures) ∙ c .before .before .before .before .if2 .taken) (c .before .before .before .before .before .before .before .if1 .left) _ (c .before .before .settle .ensures)
+returns c =
+    let g = c .before .before .before .before .before .before .before .before .before .before .before .before in
+    let a = g .args in
+    let l = c .before .before .before .before .before .before .before .before .before .before .loop in
+    lifting-found (a .k) (a .s .now) (g .pre) (l .s) (l .i) (l .i - 1) (a .k - 1) (l .inv) (omega arith) refl (sym (c .before .before .before .before .before .is-bracelet .ensures) ∙ c .before .before .before .before .if2 .taken) (c .before .before .before .before .before .before .before .if1 .left) _ (omega arith) (omega arith) _ (c .before .before .settle .ensures)
 
 loop-less-2 : tie.Need-loop-less-2 Inv-loop μ-loop
 loop-less-2 c = search needs

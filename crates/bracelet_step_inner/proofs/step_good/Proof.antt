@@ -1,5 +1,5 @@
 -- `bracelet_step_inner::step_good` meets its contract. What `next` came to is the next bracelet, and a start from it hands out its record. Assumes nothing.
-use mathlib.Core.Path.{_≡_, refl, sym}
+use mathlib.Core.Path.{_≡_, sym}
 use mathlib.Core.Option.{some}
 use native.Mathlib.Omega.{arith}
 use lib.ListN.{length, length-take, length-append, length-drop}
@@ -8,7 +8,7 @@ use Rattle.rings.specs.Alike.{bracelet}
 use Rattle.rings.specs.Steps.{nextOf}
 use Rattle.walk_record.specs.Record.{ringOf}
 use Rattle.walk_record.proofs.Good.{good-ready, good-long}
-use Rattle.bracelet_step_inner.proofs.Arriving.{good-reading, arrived-long, arrived-ring, arrived-passed, arrived-is}
+use Rattle.bracelet_step_inner.proofs.Arriving.{good-reading, arrived-long, arrived-ring, arrived-passed, arrived, ended}
 use Rattle.bracelet_step_inner.proofs.step_good.Statement.{statement}
 use Rattle.bracelet_step_inner.proofs.step_good.Tie as tie
 
@@ -68,17 +68,12 @@ returns c =
     let x = c .before .before .before .before .before .next in
     let s = c .before .start-good in
     let e : nextOf bracelet (w .k) (ringOf w) ≡ some (x .last .0) = rw (c .before .before .before .if1 .taken) at (x .ensures) in
-    record {
-      good = g .pre;
-      to = x .last .0;
-      next = e;
-      handed = arrived-is w (g .pre) l (x .last .0) e (s .result .walk) (s .result .answer) (rw (arrived-ring w (g .pre) l (x .last .0) e) at (s .ensures));
-    }
+    arrived w (g .pre) l (x .last .0) e (s .result .walk) (s .result .answer) (rw (arrived-ring w (g .pre) l (x .last .0) e) at (s .ensures))
 
 returns-2 : tie.Need-returns-2
 returns-2 c =
     let g = c .before .before .before .before .before in
-    record { good = g .pre; next = rw (c .if1 .left) at (c .before .before .next .ensures); handed = refl }
+    ended (g .args .w) (g .pre) (rw (c .if1 .left) at (c .before .before .next .ensures))
 
 pub step-good-spec : {M : Type 1} → statement M
 step-good-spec =

@@ -1,5 +1,6 @@
 -- `mirror_inner::is_bracelet` meets its contract. Assumes nothing.
 use mathlib.Core.Path.{sym}
+use native.Mathlib.Omega.{arith}
 use borrow.Author.Needs.{needs}
 use Rattle.mirror_inner.proofs.Facing.{scan-broken, scan-uneven, scan-whole}
 use Rattle.mirror_inner.proofs.is_bracelet.Statement.{statement}
@@ -12,7 +13,7 @@ returns : tie.Need-returns
 returns c = let w = c .before .before .before .before .args .s .now in let o = c .before .before .scan in sym (scan-broken w (o .result) (o .ensures) (c .if1 .taken))
 
 rem-if2 : tie.Need-rem-if2
-rem-if2 c = search needs
+rem-if2 c = let r = c .before .before .scan .ensures .run in omega (arith, r .pos, r .fits)
 
 returns-2 : tie.Need-returns-2
 returns-2 c = let w = c .before .before .before .before .before .args .s .now in let o = c .before .before .before .scan in sym (scan-uneven w (o .result) (o .ensures) (c .before .if1 .left) (c .if2 .taken))
