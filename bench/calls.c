@@ -1,5 +1,5 @@
 /* calls TIMES CALL K READING [COUNT..]: makes a call so many times and prints the ring that it gives and its answer. The reading is a hexadecimal digit a sector.
-   CALL is bring_home; start, next_prenecklace, next_necklace or next_lyndon, a step being made behind a start; or next_ring, which takes the counts.
+   CALL is bring_home; start, next_prenecklace, next_necklace, next_lyndon or next_bracelet, a step being made behind a start; or next_ring, which takes the counts.
    The printing costs the same whatever is printed, so that two runs differ by their calls alone. Written without headers, as fkm.c is. */
 typedef unsigned long size_t;
 typedef long ssize_t;
@@ -12,8 +12,8 @@ size_t bring_home(const unsigned char *, size_t, size_t, unsigned char *, size_t
 size_t walk_on(const unsigned char *, size_t, size_t, size_t, unsigned char *);
 size_t next_ring(const unsigned char *, size_t, size_t, const size_t *, size_t, unsigned char *, size_t);
 
-static const char *const names[] = {"start", "next_prenecklace", "next_necklace", "next_lyndon", "bring_home", "next_ring"};
-enum { BRING_HOME = 4, NEXT_RING = 5, CALLS = 6 };
+static const char *const names[] = {"start", "next_prenecklace", "next_necklace", "next_lyndon", "next_bracelet", "bring_home", "next_ring"};
+enum { BRING_HOME = 5, NEXT_RING = 6, CALLS = 7 };
 
 int main(int argc, char **argv)
 {

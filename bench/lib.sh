@@ -39,6 +39,7 @@ calls_source() {
     cat <<'RATTLE'
 use home::Homed;
 use shades::NextAnswer;
+use walk::Arrival;
 use walk::Outcome;
 use walk::Stepped;
 use walk::Walk;
@@ -78,6 +79,23 @@ fn moves(o: Outcome) -> usize {
     }
 }
 
+fn arrival(a: Arrival) -> usize {
+    match a {
+        Arrival::Moved => 1,
+        Arrival::Done => 0,
+        Arrival::Refused(_) => 255,
+    }
+}
+
+fn next_bracelet(w: Walk, out: &mut [u8; 64]) -> usize {
+    let arrived = walk::next_bracelet(w);
+    let v = arrived.walk;
+    let ring = v.ring;
+    *out = ring;
+    let a = arrived.arrival;
+    arrival(a)
+}
+
 // A start, and where the kind is not 0 a step behind it.
 #[no_mangle]
 pub extern "C" fn walk_on(s: &[u8], k: usize, kind: usize, out: &mut [u8; 64]) -> usize {
@@ -87,6 +105,9 @@ pub extern "C" fn walk_on(s: &[u8], k: usize, kind: usize, out: &mut [u8; 64]) -
         let ring = w.ring;
         *out = ring;
         return 0;
+    }
+    if kind == 4 {
+        return next_bracelet(w, out);
     }
     let stepped = step(w, kind);
     let v = stepped.walk;
@@ -101,7 +122,7 @@ RATTLE
 # build_calls [KIT]: room/libcalls.a, the library of those calls for C. It is a crate that only stands here, in a repository of links to the proved crates, so that
 # neither the repository nor its gate has it. The crates are proved first where they are not yet. KIT is another toolchain's folder to build it by.
 build_calls() {
-    crates='home walk_record walk shades_answers shades'
+    crates='home walk_record bracelet_answers walk shades_answers shades'
     say "what is not proved yet is proved first, which may take minutes"
     # shellcheck disable=SC2086
     if ! said=$(cd "$top" && rt check $crates 2>&1); then
