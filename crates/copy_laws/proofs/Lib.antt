@@ -1,2 +1,3 @@
--- What copying and reversing bytes leave (Copy).
+-- What copying and reversing bytes leave (Copy), and bytes written one after another (Written).
 pub mod Copy
+pub mod Written

@@ -16,6 +16,8 @@ pub enum Refusal {
     Pair,
     Line,
     TooMany,
+    Card,
+    Unreadable(usize),
 }
 
 pub enum Checked {
@@ -39,6 +41,8 @@ pub fn number(r: Refusal) -> usize
         Refusal::Pair => 10,
         Refusal::Line => 11,
         Refusal::TooMany => 12,
+        Refusal::Card => 14,
+        Refusal::Unreadable(_) => 15,
     }
 }
 
@@ -58,5 +62,7 @@ pub fn place(r: Refusal) -> usize
         Refusal::Pair => 0,
         Refusal::Line => 0,
         Refusal::TooMany => 0,
+        Refusal::Card => 0,
+        Refusal::Unreadable(p) => p,
     }
 }

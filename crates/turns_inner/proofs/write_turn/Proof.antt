@@ -6,7 +6,7 @@ use lib.ListN.{length}
 use borrow.Author.Needs.{needs}
 use Rattle.words.specs.Turn.{turn}
 use Rattle.words.proofs.Turn.{length-turn}
-use Rattle.turns_inner.proofs.Places.{Written, written-start, written-more, written-end}
+use Rattle.copy_laws.proofs.Written.{Written, written-start, written-more, written-end}
 use Rattle.turns_inner.proofs.write_turn.Statement.{statement}
 use Rattle.turns_inner.proofs.write_turn.Tie as tie
 

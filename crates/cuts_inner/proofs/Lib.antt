@@ -1,0 +1,2 @@
+-- One cut more (Counting).
+pub mod Counting

@@ -1,0 +1,33 @@
+-- `density::sector_shade` meets its contract: the shades, the card, then what the value tells. Assumes nothing.
+use mathlib.Core.Path.{_≡_, refl, sym, _∙_}
+use mathlib.Core.Bool.{true}
+use native.Mathlib.Omega.{arith}
+use borrow.Author.Needs.{needs}
+use borrow.Author.Tests.{not-true, not-false}
+use Rattle.density_answers.specs.Order.{shades, card}
+use Rattle.density.proofs.sector_shade.Statement.{statement}
+use Rattle.density.proofs.sector_shade.Tie as tie
+
+returns : tie.Need-returns
+returns c = shades refl (λ s. absurd (omega (arith, s .0)))
+
+returns-2 : tie.Need-returns-2
+returns-2 c = shades refl (λ s. absurd (omega (arith, s .1)))
+
+is-good-requires : tie.Need-is-good-requires
+is-good-requires c κs = search needs
+
+returns-3 : tie.Need-returns-3
+returns-3 c = card refl (omega arith, omega arith) (sym (c .before .is-good .ensures) ∙ not-true _ (c .if3 .taken))
+
+cast-read : tie.Need-cast-read
+cast-read c = search needs
+
+read-requires : tie.Need-read-requires
+read-requires c κs = search needs
+
+returns-4 : tie.Need-returns-4
+returns-4 c = (((omega arith, omega arith), sym (c .before .before .is-good .ensures) ∙ not-false _ (c .before .if3 .left)), c .read .ensures)
+
+pub sector-shade-spec : {M : Type 1} → statement M
+sector-shade-spec = tie.close (tie.spec returns returns-2 is-good-requires returns-3 cast-read read-requires returns-4)

@@ -1,0 +1,1 @@
+-- The calls promise what `density_answers` says; nothing is defined here.

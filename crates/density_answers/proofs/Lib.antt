@@ -1,0 +1,2 @@
+-- That the calls have one answer (Unique).
+pub mod Unique

@@ -1,0 +1,1 @@
+-- The words are those of density_answers; nothing is defined here.

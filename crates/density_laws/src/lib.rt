@@ -1,0 +1,1 @@
+// Nothing runs here: the theorems about shades of reflectances stand in proofs/.
