@@ -1,0 +1,2 @@
+-- Which patterns and floats are numbers (Patterns).
+pub mod Patterns
