@@ -1,0 +1,5 @@
+-- Strips worked out by hand (Cases); words of lists and lists in increasing order (Listed); the strip's words are the ones that are meant (Words); words joined (Joined).
+pub mod Cases
+pub mod Listed
+pub mod Words
+pub mod Joined
