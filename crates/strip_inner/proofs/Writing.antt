@@ -79,8 +79,8 @@ module _ (n k : ℕ) (ring : List ℕ) (at p : ℕ) (out : List ℕ) (w : Writin
         elim (decLt i at) [
           | yes b ↦ l .kept i b ∙ w .done i b
           | no b ↦
-            let e : i ≡ at + (i - at) = omega arith in
-            rw e (l .piece (i - at) (omega arith) ∙ sym (standing-piece n k pos ring at (w .stands) (i - at) (omega (arith, w .by))))
+              let e : i ≡ at + (i - at) = omega arith in
+              rw e (l .piece (i - at) (omega arith) ∙ sym (standing-piece n k pos ring at (w .stands) (i - at) (omega (arith, w .by))))
         ]
 
     -- one necklace further

@@ -1,0 +1,2 @@
+-- Laws of looking for a reading on a strip (Looking).
+pub mod Looking
