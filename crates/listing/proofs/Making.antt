@@ -17,7 +17,7 @@ use Rattle.text.specs.Text.{refusedLine}
 use Rattle.text.specs.Put.{Placed}
 use Rattle.text.proofs.Digits.{length-decimal}
 use Rattle.text.proofs.Put.{length-refused}
-use Rattle.plan.specs.declared.Planned.the-variants.{Accepted, Refused}
+use Rattle.limits.specs.declared.Planned.the-variants.{Accepted, Refused}
 use Rattle.plan.specs.Plan.{PlanSays}
 use Rattle.plan.proofs.Plans.{plan-number}
 use Rattle.pages.specs.declared.State.{State}

@@ -1,8 +1,8 @@
 // The listing program's calls (01, 'The listing program'): what a line asks for, and its output page after page.
 
+use limits::Planned;
 use pages::Page;
 use pages::State;
-use plan::Planned;
 use refusal::Refusal;
 ghost use Prim.Native.Nat.{_≤_};
 ghost use mathlib.Core.Path.{_≡_};

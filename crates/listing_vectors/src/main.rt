@@ -5,9 +5,9 @@
 
 use libc::STDIN_FILENO;
 use libc::STDOUT_FILENO;
+use limits::Planned;
 use pages::Page;
 use pages::State;
-use plan::Planned;
 use refusal::Refusal;
 ghost use Prim.Native.Nat.{_≤_};
 ghost use lib.ListN.{length};

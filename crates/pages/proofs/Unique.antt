@@ -16,8 +16,8 @@ use Rattle.necklace_laws.proofs.FullWalk.{walk-moves}
 use Rattle.refusal.specs.declared.Refusal.{Refusal}
 use Rattle.refusal.specs.Numbers.{numberOf}
 use Rattle.text.specs.Text.{refusedLine}
-use Rattle.plan.specs.declared.Planned.{Planned}
-use Rattle.plan.specs.declared.Planned.the-variants.{Accepted, Refused}
+use Rattle.limits.specs.declared.Planned.{Planned}
+use Rattle.limits.specs.declared.Planned.the-variants.{Accepted, Refused}
 use Rattle.plan.specs.Plan.{PlanSays}
 use Rattle.plan.proofs.Unique.{one-plan}
 use Rattle.pages.specs.declared.State.{State}

@@ -17,7 +17,7 @@ use Rattle.rings.specs.Steps.{nextOf, moves}
 use Rattle.refusal.specs.declared.Refusal.{Refusal}
 use Rattle.refusal.specs.Numbers.{numberOf}
 use Rattle.text.specs.Text.{lastLine, refusedLine}
-use Rattle.plan.specs.declared.Planned.the-variants.{Accepted, Refused}
+use Rattle.limits.specs.declared.Planned.the-variants.{Accepted, Refused}
 use Rattle.plan.specs.Plan.{PlanSays}
 use Rattle.pages.specs.declared.State.{State}
 use Rattle.pages.specs.declared.Page.{Page}

@@ -8,7 +8,7 @@ use mathlib.Core.List.{List}
 use Rattle.refusal.specs.declared.Refusal.{Refusal}
 use Rattle.refusal.specs.Numbers.{numberOf}
 use Rattle.text.specs.Text.{refusedLine}
-use Rattle.plan.specs.declared.Planned.the-variants.{Accepted, Refused}
+use Rattle.limits.specs.declared.Planned.the-variants.{Accepted, Refused}
 use Rattle.plan.specs.Plan.{PlanSays}
 use Rattle.pages.specs.Listing.{Listing}
 

@@ -20,7 +20,7 @@ use Rattle.text.specs.Text.{firstLine, ringLine, lastLine}
 use Rattle.text.specs.Put.{Placed}
 use Rattle.text.proofs.Digits.{length-decimal}
 use Rattle.text.proofs.Put.{placed-append, placed-length, length-first, length-ring}
-use Rattle.plan.specs.Plan.{Listable}
+use Rattle.limits.specs.Limits.{Listable}
 use Rattle.pages.specs.declared.State.{State}
 use Rattle.pages.specs.declared.Page.{Page}
 use Rattle.pages.specs.Listing.{zeroRing, opening}

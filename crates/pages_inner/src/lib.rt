@@ -5,7 +5,7 @@ use pages::State;
 ghost use Prim.Native.Nat.{_≤_};
 ghost use mathlib.Core.Path.{_≡_};
 ghost use lib.ListN.{length};
-ghost use Rattle.plan.specs.Plan.{Listable};
+ghost use Rattle.limits.specs.Limits.{Listable};
 ghost use Rattle.pages.specs.Prints.{most};
 ghost use Rattle.pages.specs.State.{Good, emptyState};
 ghost use Rattle.pages.specs.Paging.{lineRoom};

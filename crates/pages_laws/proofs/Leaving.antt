@@ -20,7 +20,7 @@ use Rattle.rings.specs.Steps.{nextOf, moves}
 use Rattle.necklace_laws.proofs.FullWalk.{next-facts, length-zeros, zeros-reading, zeros-necklace}
 use Rattle.text.specs.Text.{lastLine}
 use Rattle.text.proofs.Put.{length-last, length-ring}
-use Rattle.plan.specs.Plan.{Listable}
+use Rattle.limits.specs.Limits.{Listable}
 use Rattle.pages.specs.declared.State.{State}
 use Rattle.pages.specs.Listing.{row, zeroRing}
 use Rattle.pages.specs.Prints.{most}

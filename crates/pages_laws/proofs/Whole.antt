@@ -18,7 +18,7 @@ use Rattle.rings.specs.Prenecklace.{prenecklace}
 use Rattle.rings.specs.Steps.{howMany, FullWalk, done, step}
 use Rattle.necklace_laws.proofs.FullWalk.{next-facts, length-zeros, zeros-reading, zeros-necklace, walk-sum, walk-exists}
 use Rattle.text.specs.Text.{lastLine}
-use Rattle.plan.specs.Plan.{Listable}
+use Rattle.limits.specs.Limits.{Listable}
 use Rattle.pages.specs.declared.State.{State}
 use Rattle.pages.specs.declared.Page.{Page}
 use Rattle.pages.specs.Listing.{rows, zeroRing, opening, listingText, Listing}

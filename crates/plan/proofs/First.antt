@@ -10,8 +10,8 @@ use lib.ListN.{length, take, length-take}
 use lib.Seq.{take-all}
 use Rattle.line.specs.Line.{Spells}
 use Rattle.line.proofs.Lines.{line-short}
-use Rattle.plan.specs.declared.Planned.{Planned}
-use Rattle.plan.specs.declared.Planned.the-variants.{Accepted, Refused}
+use Rattle.limits.specs.declared.Planned.{Planned}
+use Rattle.limits.specs.declared.Planned.the-variants.{Accepted, Refused}
 use Rattle.plan.specs.Plan.{malformed, spelt, PlanSays}
 
 module _ (m : ℕ) (s : List ℕ) (room : 9 ≤ m) where

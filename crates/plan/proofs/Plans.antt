@@ -8,19 +8,16 @@ use native.Mathlib.Omega.{arith}
 use Rattle.refusal.specs.declared.Refusal.{Refusal}
 use Rattle.refusal.specs.Numbers.{numberOf}
 use Rattle.line.specs.Line.{Spells}
-use Rattle.plan.specs.declared.Planned.{Planned}
-use Rattle.plan.specs.declared.Planned.the-variants.{Accepted, Refused}
-use Rattle.plan.specs.Plan.{GivenFor, size, shades, many, NumbersSay, RefusedLine, malformed, spelt, PlanSays}
+use Rattle.limits.specs.declared.Planned.{Planned}
+use Rattle.limits.specs.declared.Planned.the-variants.{Accepted, Refused}
+use Rattle.limits.specs.Limits.{NumbersSay}
+use Rattle.limits.proofs.Given.{given-number}
+use Rattle.plan.specs.Plan.{RefusedLine, malformed, spelt, PlanSays}
 
 -- the plan of the numbers that a line spells is the line's
 pub plan-spelt : (limit : ℕ) (s : List ℕ) (k n : ℕ) (p : Planned) → Spells s k n → NumbersSay limit k n p → PlanSays limit s p
 plan-spelt limit s k n (Accepted j m) t q = rw (q .0, q .1) (t, q .2)
 plan-spelt limit s k n (Refused r) t q = spelt k n t q
-
-given-number : (limit k n : ℕ) (r : Refusal) → GivenFor limit k n r → numberOf r ≤ 12
-given-number limit k n r (size e f) = rw e (omega arith)
-given-number limit k n r (shades e a f) = rw e (omega arith)
-given-number limit k n r (many e a b f) = rw e (omega arith)
 
 -- the number of a line's refusal
 pub plan-number : (limit : ℕ) (s : List ℕ) (r : Refusal) → RefusedLine limit s r → numberOf r ≤ 12

@@ -2,7 +2,7 @@
 use Prim.Native.Nat.{ℕ, _≤_}
 use mathlib.Core.List.{List}
 use lib.ListN.{length, take}
-use Rattle.plan.specs.declared.Planned.the-variants.{Accepted, Refused}
+use Rattle.limits.specs.declared.Planned.the-variants.{Accepted, Refused}
 use Rattle.plan.proofs.First.{plan-first}
 use Rattle.pages.specs.declared.State.{State}
 use Rattle.pages.specs.declared.Page.{Page}

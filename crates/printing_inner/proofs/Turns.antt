@@ -10,7 +10,7 @@ use mathlib.Core.List.{List, [], _++_}
 use native.Mathlib.Omega.{arith}
 use lib.ListN.{length, take, drop, length-append, length-take, length-drop}
 use lib.Seq.{take-all}
-use Rattle.plan.specs.Plan.{Listable}
+use Rattle.limits.specs.Limits.{Listable}
 use Rattle.pages.specs.declared.State.{State}
 use Rattle.pages.specs.declared.Page.{Page}
 use Rattle.pages.specs.Prints.{most}

@@ -37,7 +37,7 @@ use Rattle.text.specs.Text.{ringLine, lastLine}
 use Rattle.text.specs.Put.{Placed}
 use Rattle.text.proofs.Digits.{length-decimal}
 use Rattle.text.proofs.Put.{placed-append, placed-length, length-ring, length-last}
-use Rattle.plan.specs.Plan.{Listable}
+use Rattle.limits.specs.Limits.{Listable}
 use Rattle.pages.specs.declared.State.{State}
 use Rattle.pages.specs.Listing.{row}
 use Rattle.pages.specs.Prints.{most}

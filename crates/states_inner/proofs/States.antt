@@ -23,7 +23,7 @@ use Rattle.refusal.specs.declared.Refusal.{Refusal}
 use Rattle.refusal.specs.Order.{Given, Passed}
 use Rattle.refusal.specs.Calls.{oneReading}
 use Rattle.refusal.proofs.Unique.{never-both}
-use Rattle.plan.specs.Plan.{Listable, GivenFor, size, shades, many}
+use Rattle.limits.specs.Limits.{Listable, GivenFor, size, shades, many}
 use Rattle.pages.specs.declared.State.{State}
 use Rattle.pages.specs.Prints.{most}
 use Rattle.pages.specs.State.{ringOf, Good}

@@ -1,8 +1,8 @@
 // Whether a listing can go on from a state (01, 'The listing program'). No public calls: crate `listing` asks.
 
 use classify::Classified;
+use limits::Planned;
 use pages::State;
-use plan::Planned;
 use rings::Class;
 ghost use mathlib.Core.Path.{_≡_};
 ghost use Rattle.pages.specs.State.{Good};
@@ -46,7 +46,7 @@ pub fn is_good(s: State) -> bool
     let n = s.n;
     let k = s.k;
     let ring = s.ring;
-    match plan::plan_numbers(k, n, MOST) {
+    match limits::plan_numbers(k, n, MOST) {
         Planned::Refused(_) => false,
         Planned::Accepted(_, _) => is_ring(&ring[..n], k),
     }

@@ -1,11 +1,11 @@
--- `plan::plan_numbers` meets its contract. Assumes nothing.
+-- `limits::plan_numbers` meets its contract. Assumes nothing.
 use Prim.Native.Nat.{_^_}
 use mathlib.Core.Path.{_∙_, sym, refl}
 use borrow.Author.Needs.{needs}
 use borrow.Author.Tests.{ltb-true, ltb-false}
-use Rattle.plan.specs.Plan.{size, shades, many}
-use Rattle.plan.proofs.plan_numbers.Statement.{statement}
-use Rattle.plan.proofs.plan_numbers.Tie as tie
+use Rattle.limits.specs.Limits.{size, shades, many}
+use Rattle.limits.proofs.plan_numbers.Statement.{statement}
+use Rattle.limits.proofs.plan_numbers.Tie as tie
 
 returns : tie.Need-returns
 returns c = size refl (search needs)

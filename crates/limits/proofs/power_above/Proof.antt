@@ -1,13 +1,13 @@
--- `plan::power_above` meets its contract. The loop's invariant: p is k to the power i, and within the limit.
+-- `limits::power_above` meets its contract. The loop's invariant: p is k to the power i, and within the limit.
 -- Assumes nothing.
 use Prim.Native.Nat.{_≤_, _-_, _^_}
 use mathlib.Core.Path.{_≡_, sym}
 use native.Mathlib.Omega.{arith}
 use borrow.Author.Needs.{needs}
 use native.Mathlib.Nat.{pow-zero}
-use Rattle.plan.proofs.Power.{power-none, power-small, power-zero, power-over, power-within, power-on, power-end}
-use Rattle.plan.proofs.power_above.Statement.{statement}
-use Rattle.plan.proofs.power_above.Tie as tie
+use Rattle.limits.proofs.Power.{power-none, power-small, power-zero, power-over, power-within, power-on, power-end}
+use Rattle.limits.proofs.power_above.Statement.{statement}
+use Rattle.limits.proofs.power_above.Tie as tie
 
 abbrev Inv-loop : tie.InvT-loop
 Inv-loop k n limit p₀ i₀ p i = (i ≤ n) × (p ≡ k ^ i) × (p ≤ limit)

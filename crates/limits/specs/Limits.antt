@@ -1,0 +1,29 @@
+-- Which numbers k and n may be listed, counted or written out whole (01, 'Refusal numbers': 1, 2 and 12). `limit` is the greatest power that is not Too many: 2 to
+-- the power 24 for the listing program, and another for each request that sets one.
+--     Listable limit k n        1, 2 and 12 passed
+--     GivenFor limit k n r      the numbers k and n are refused with r: 1, 2, 12
+--     NumbersSay limit k n p    what the plan p of the numbers k and n promises
+-- That no numbers have two plans: proofs/Unique. Assumes nothing.
+use Prim.Native.Nat.{ℕ, _^_, _<_, _≤_}
+use mathlib.Core.Path.{_≡_}
+use Rattle.words.specs.Readings.{Sized, Shaded}
+use Rattle.refusal.specs.declared.Refusal.{Refusal}
+use Rattle.refusal.specs.declared.Refusal.the-variants.{Length, Shades, TooMany}
+use Rattle.limits.specs.declared.Planned.{Planned}
+use Rattle.limits.specs.declared.Planned.the-variants.{Accepted, Refused}
+
+-- n and k are a ring's numbers, and there are at most `limit` readings of them
+pub record Listable (limit k n : ℕ) : Type 0 where
+  pub sized : Sized n
+  pub shaded : Shaded k
+  pub few : k ^ n ≤ limit
+
+-- the order 1, 2, 12: a check fails, and every earlier one has passed
+pub data GivenFor (limit k n : ℕ) (r : Refusal) : Type 0 where
+  size : r ≡ Length 0 → (Sized n → ⊥) → GivenFor limit k n r
+  shades : r ≡ Shades 0 → Sized n → (Shaded k → ⊥) → GivenFor limit k n r
+  many : r ≡ TooMany → Sized n → Shaded k → limit < k ^ n → GivenFor limit k n r
+
+abbrev pub NumbersSay : ℕ → ℕ → ℕ → Planned → Type 0
+NumbersSay limit k n (Accepted j m) = (j ≡ k) × (m ≡ n) × Listable limit k n
+NumbersSay limit k n (Refused r) = GivenFor limit k n r

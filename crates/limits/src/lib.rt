@@ -1,0 +1,62 @@
+// Which numbers k and n may be listed, counted or written out whole (01, 'Refusal numbers'; 02, requests f, g and l): 1, 2, and 12 where k to the power n is above
+// a limit. The limit is a parameter: each program and call has its own.
+
+use refusal::Refusal;
+ghost use Prim.Native.Nat.{_^_};
+ghost use mathlib.Core.Path.{_≡_};
+ghost use lib.Dec.{ltb};
+ghost use Rattle.limits.specs.Limits.{NumbersSay};
+
+// What two numbers ask for: the rings of k shades and n sectors, or a refusal.
+pub enum Planned {
+    Accepted(usize, usize),
+    Refused(Refusal),
+}
+
+// Whether k to the power n is above the limit, exactly. The product is only formed where it stays within the limit, so that nothing
+// wraps; from k = 2 on it doubles at least, so that at most 64 turns are made, however large n is.
+pub fn power_above(k: usize, n: usize, limit: usize) -> bool
+    ensures { λ r. ⌜ r ≡ ltb limit (k ^ n) ⌝ }
+{
+    if n == 0 {
+        return limit < 1;
+    }
+    if k < 2 {
+        return limit < k;
+    }
+    if limit < 1 {
+        return true;
+    }
+    let mut p: usize = 1;
+    let mut i = 0;
+    while i < n {
+        if limit / k < p {
+            return true;
+        }
+        p *= k;
+        i += 1;
+    }
+    false
+}
+
+// The order 1, 2, 12.
+pub fn plan_numbers(k: usize, n: usize, limit: usize) -> Planned
+    ensures { λ r. ⌜ NumbersSay limit k n r ⌝ }
+{
+    if n < 1 {
+        return Planned::Refused(Refusal::Length(0));
+    }
+    if 64 < n {
+        return Planned::Refused(Refusal::Length(0));
+    }
+    if k < 2 {
+        return Planned::Refused(Refusal::Shades(0));
+    }
+    if 16 < k {
+        return Planned::Refused(Refusal::Shades(0));
+    }
+    if power_above(k, n, limit) {
+        return Planned::Refused(Refusal::TooMany);
+    }
+    Planned::Accepted(k, n)
+}
