@@ -29,7 +29,7 @@ use Rattle.home_laws.proofs.Period.{period-pos, period-le}
 use Rattle.moves_inner.specs.declared.Kind.the-variants.{Necklace}
 use Rattle.moves_inner.specs.Kinds.{kindOf}
 use Rattle.moves_inner.specs.Going.{Ready}
-use Rattle.plan.specs.Plan.{Listable}
+use Rattle.limits.specs.Limits.{Listable}
 use Rattle.strips.specs.Strip.{strip}
 use Rattle.strip_laws.proofs.Pieces.{length-strip}
 use Rattle.strip_laws.proofs.Standing.{Standing, standing-start, standing-piece, standing-room, standing-next, standing-done}

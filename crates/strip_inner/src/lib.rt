@@ -5,7 +5,7 @@ ghost use Prim.Native.Nat.{_+_, _^_, _≤_};
 ghost use mathlib.Core.Path.{_≡_};
 ghost use lib.ListN.{length, replicate};
 ghost use Rattle.moves_inner.specs.Going.{Ready};
-ghost use Rattle.plan.specs.Plan.{Listable};
+ghost use Rattle.limits.specs.Limits.{Listable};
 ghost use Rattle.strips.specs.Strip.{strip};
 ghost use Rattle.strip_inner.specs.Laying.{Laid};
 

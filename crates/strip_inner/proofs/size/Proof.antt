@@ -4,7 +4,7 @@ use mathlib.Core.Path.{_≡_, sym}
 use native.Mathlib.Omega.{arith}
 use native.Mathlib.Nat.{pow-zero}
 use borrow.Author.Needs.{needs}
-use Rattle.plan.proofs.Power.{power-on}
+use Rattle.limits.proofs.Power.{power-on}
 use Rattle.strip_inner.proofs.Powers.{product-within}
 use Rattle.strip_inner.proofs.size.Statement.{statement}
 use Rattle.strip_inner.proofs.size.Tie as tie

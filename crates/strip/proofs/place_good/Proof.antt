@@ -1,0 +1,52 @@
+-- `strip::place_good` meets its contract: the power, and then the place. Assumes nothing.
+use mathlib.Core.Path.{_≡_, refl, sym, _∙_}
+use native.Mathlib.Omega.{arith}
+use lib.ListN.{length, length-take}
+use borrow.Author.Tests.{ltb-true}
+use borrow.Author.Needs.{needs}
+use Rattle.strip.specs.Says.{many}
+use Rattle.strip.proofs.Telling.{passed-listable}
+use Rattle.strip.proofs.place_good.Statement.{statement}
+use Rattle.strip.proofs.place_good.Tie as tie
+
+power-above-requires : tie.Need-power-above-requires
+power-above-requires c κs = search needs
+
+returns : tie.Need-returns
+returns c = many refl (c .before .before .before .pre) (ltb-true _ _ (sym (c .before .power-above .ensures) ∙ c .if1 .taken))
+
+size-requires : tie.Need-size-requires
+size-requires c κs = let g = c .before .before .before in passed-listable (g .args .reading .now) (g .args .k) (g .pre) (sym (c .if1 .left) ∙ c .before .power-above .ensures)
+
+array-borrow-prefix-sectors : tie.Need-array-borrow-prefix-sectors
+array-borrow-prefix-sectors c =
+    let g = c .before .before .before .before in
+    omega (arith, c .size .ensures, passed-listable (g .args .reading .now) (g .args .k) (g .pre) (sym (c .before .if1 .left) ∙ c .before .before .power-above .ensures) .few)
+
+slice-aggregate-place-on : tie.Need-slice-aggregate-place-on
+slice-aggregate-place-on c =
+    let g = c .before .before .before .before .before in
+    simp length-take (omega (arith, c .before .size .ensures, passed-listable (g .args .reading .now) (g .args .k) (g .pre) (sym (c .before .before .if1 .left) ∙ c .before .before .before .power-above .ensures) .few))
+
+place-on-requires : tie.Need-place-on-requires
+place-on-requires c κs =
+    let g = c .before .before .before .before .before in
+    let l = passed-listable (g .args .reading .now) (g .args .k) (g .pre) (sym (c .before .before .if1 .left) ∙ c .before .before .before .power-above .ensures) in
+    (g .pre, (l, simp length-take (omega (arith, c .before .size .ensures, l .few))))
+
+returns-2 : tie.Need-returns-2
+returns-2 c =
+    let g = c .before .before .before .before .before .before .before in
+    (g .pre, passed-listable (g .args .reading .now) (g .args .k) (g .pre) (sym (c .before .before .before .before .if1 .left) ∙ c .before .before .before .before .before .power-above .ensures) .few, c .before .place-on .ensures)
+
+pub place-good-spec : {M : Type 1} → statement M
+place-good-spec =
+    tie.close
+    (tie.spec
+    power-above-requires
+    returns
+    size-requires
+    array-borrow-prefix-sectors
+    slice-aggregate-place-on
+    place-on-requires
+    returns-2)

@@ -1,0 +1,28 @@
+-- `strip::place_of` meets its contract: what the check answers, and then what telling the place answers. Assumes nothing.
+use borrow.Author.Needs.{needs}
+use Rattle.strip.specs.Says.{reading}
+use Rattle.strip.proofs.place_of.Statement.{statement}
+use Rattle.strip.proofs.place_of.Tie as tie
+
+check-reading-requires : tie.Need-check-reading-requires
+check-reading-requires c κs = search needs
+
+enum-known-r : tie.Need-enum-known-r
+enum-known-r c = search needs
+
+enum-told : tie.Need-enum-told
+enum-told c = search needs
+
+place-good-requires : tie.Need-place-good-requires
+place-good-requires c κs = rw (c .enum-told .given .1) at (c .before .before .check-reading .ensures)
+
+returns : tie.Need-returns
+returns c = reading (rw (c .before .r .given .1) at (c .before .before .before .check-reading .ensures))
+
+returns-2 : tie.Need-returns-2
+returns-2 c = c .place-good .ensures
+
+pub place-of-spec : {M : Type 1} → statement M
+place-of-spec =
+    tie.close
+    (tie.spec check-reading-requires enum-known-r enum-told place-good-requires returns returns-2)

@@ -1,0 +1,26 @@
+-- `strip::write_listable` meets its contract: the output's length, and then the strip. Assumes nothing.
+use mathlib.Core.Path.{_≡_, refl, sym, _∙_}
+use native.Mathlib.Omega.{arith}
+use borrow.Author.Needs.{needs}
+use Rattle.strip.specs.Says.{room}
+use Rattle.strip.proofs.write_listable.Statement.{statement}
+use Rattle.strip.proofs.write_listable.Tie as tie
+
+size-requires : tie.Need-size-requires
+size-requires c κs = search needs
+
+returns : tie.Need-returns
+returns c = (room refl (c .before .before .before .pre) (λ e. c .if1 .taken (e ∙ sym (c .before .size .ensures))), refl)
+
+write-whole-requires : tie.Need-write-whole-requires
+write-whole-requires c κs = (c .before .before .before .before .pre, c .before .if1 .left ∙ c .before .before .size .ensures)
+
+same-length : tie.Need-same-length
+same-length c = search needs
+
+returns-2 : tie.Need-returns-2
+returns-2 c =
+    (c .before .before .before .before .before .before .before .pre, c .before .before .before .before .if1 .left ∙ c .before .before .before .before .before .size .ensures, c .before .before .write-whole .ensures)
+
+pub write-listable-spec : {M : Type 1} → statement M
+write-listable-spec = tie.close (tie.spec size-requires returns write-whole-requires same-length returns-2)
