@@ -12,12 +12,11 @@ use Rattle.refusal.specs.declared.Refusal.{Refusal}
 use Rattle.refusal.specs.Calls.{oneReading}
 use Rattle.refusal.proofs.Unique.{never-both}
 use Rattle.refusal.proofs.Unique as general
-use Rattle.limits.specs.declared.Planned.{Planned}
 use Rattle.limits.specs.declared.Planned.the-variants as N
 use Rattle.limits.specs.Limits.{Listable, GivenFor}
-use Rattle.limits.proofs.Unique.{planOf, numbers-fixed}
+use Rattle.limits.proofs.Unique.{numbers-fixed}
 use Rattle.strips.specs.Strip.{strip}
-use Rattle.strips.specs.Places.{OnePlace}
+use Rattle.strips.proofs.Places.{places-one}
 use Rattle.strip.specs.declared.Written.{Written}
 use Rattle.strip.specs.declared.Written.the-variants as W
 use Rattle.strip.specs.declared.Position.{Position}
@@ -72,7 +71,7 @@ module _ (w : List ℕ) (k : ℕ) where
   never-untold r p s (many e q b) = omega (arith, s .1)
 
   pub one-telling : (a b : Position) → PlaceSays w k a → PlaceSays w k b → a ≡ b
-  one-telling (P.Place p) (P.Place q) s t = ap P.Place (t .2 .only p (s .2 .within) (s .2 .stands))
+  one-telling (P.Place p) (P.Place q) s t = ap P.Place (places-one (strip (length w) k) w p q (s .2) (t .2))
   one-telling (P.Place p) (P.Refused r) s t = absurd (never-untold r p s t)
   one-telling (P.Refused r) (P.Place q) s t = absurd (never-untold r q t s)
   one-telling (P.Refused r) (P.Refused t) s u = ap P.Refused (one-reason r t s u)

@@ -32,7 +32,7 @@ module _ (n t : ℕ) (x : ℕ → ℕ) where
   no-fall : Pre x n → (i m : ℕ) → i + m < n → ((h : ℕ) → h < m → x h ≡ x (i + h)) → x m ≤ x (i + m)
   no-fall p i m b e = elim (decLt (x (i + m)) (x m)) [ yes h ↦ absurd (p i (record { at = m; bound = omega arith; agree = λ h s. sym (e h s); less = h })) | no h ↦ omega arith ]
 
-  -- Lemma O: x below y, which repeats its first d: they differ within the first d
+  -- x below y, which repeats its first d: they differ within the first d
   pub differ-early : (y : ℕ → ℕ) (d : ℕ) → Pre x n → 0 < d → Turned y n d y → (l : Less x y n) → l .at < d
   differ-early y d p z r l = elim (decLt (l .at) d) [
     | yes h ↦ h
@@ -47,7 +47,7 @@ module _ (n t : ℕ) (x : ℕ → ℕ) where
     ))
   ]
 
-  -- Lemma 1
+  -- the first q, then only t, is a Lyndon word
   pub lift : (q : ℕ) (g : ℕ → ℕ) → Pre x n → 0 < q → q < n → x q < t → Lifted t n x q g → Lyn g n
   lift q g p z b l f i zi k = elim (decLt i q) [
     | yes h ↦ inner h (cmp x (from i x) (q - i))
@@ -58,8 +58,20 @@ module _ (n t : ℕ) (x : ℕ → ℕ) where
       first = omega (arith, no-fall p q 0 (omega arith) (λ h s. absurd (omega arith)), at (q + 0) q (omega arith))
 
       inner : i < q → Cmp x (from i x) (q - i) → Less g (from i g) (n - i)
-      inner h (below c) = record { at = c .at; bound = omega (arith, c .bound); agree = λ m s. f .low m (omega (arith, c .bound)) ∙ c .agree m s ∙ sym (f .low (i + m) (omega (arith, c .bound))); less = omega (arith, c .less, f .low (c .at) (omega (arith, c .bound)), f .low (i + c .at) (omega (arith, c .bound))) }
-      inner h (alike e) = record { at = q - i; bound = omega arith; agree = λ m s. f .low m (omega arith) ∙ e m s ∙ sym (f .low (i + m) (omega arith)); less = omega (arith, no-fall p i (q - i) (omega arith) e, at (i + (q - i)) q (omega arith), f .low (q - i) (omega arith), f .high (i + (q - i)) (omega arith) (omega arith)) }
+      inner h (below c) =
+          record {
+            at = c .at;
+            bound = omega (arith, c .bound);
+            agree = λ m s. f .low m (omega (arith, c .bound)) ∙ c .agree m s ∙ sym (f .low (i + m) (omega (arith, c .bound)));
+            less = omega (arith, c .less, f .low (c .at) (omega (arith, c .bound)), f .low (i + c .at) (omega (arith, c .bound)));
+          }
+      inner h (alike e) =
+          record {
+            at = q - i;
+            bound = omega arith;
+            agree = λ m s. f .low m (omega arith) ∙ e m s ∙ sym (f .low (i + m) (omega arith));
+            less = omega (arith, no-fall p i (q - i) (omega arith) e, at (i + (q - i)) q (omega arith), f .low (q - i) (omega arith), f .high (i + (q - i)) (omega arith) (omega arith));
+          }
       inner h (above c) = absurd (p i (widen (from i x) x (q - i) (n - i) (omega arith) c))
 
   -- the lift itself
@@ -70,7 +82,7 @@ module _ (n t : ℕ) (x : ℕ → ℕ) where
   unfolding lifted
   is-lifted q = record { low = λ h s. rw (lt-ltb h q s, lifted) refl; high = λ h s b. rw (le-ltb h q s, lifted) refl }
 
-  -- Lemma 2: past the first difference with the next necklace there are only t
+  -- past the first difference with the next necklace there are only t
   pub tops : (y : ℕ → ℕ) → Pre x n → ((h : ℕ) → h < n → x h ≤ t) → (l : Less x y n)
       → ((g : ℕ → ℕ) → Lyn g n → ((h : ℕ) → h < n → g h ≤ t) → Less x g n → Less g y n → ⊥)
       → (q : ℕ) → l .at < q → q < n → x q ≡ t
@@ -106,7 +118,7 @@ pub data Tail (n t : ℕ) : (ℕ → ℕ) → (ℕ → ℕ) → ℕ → Type 0 w
   last : {x s : ℕ → ℕ} {K : ℕ} → n < K → ((q : ℕ) → 0 < q → q < n → x q ≡ t) → ((h : ℕ) → h < n → s h ≡ x h) → ((i : ℕ) → n ≤ i → i < K → s i ≡ t) → Tail n t x s K
   more : {x y s r : ℕ → ℕ} {d L K : ℕ} → K ≡ d + L → Link n t x y d → ((h : ℕ) → h < d → s h ≡ x h) → ((i h : ℕ) → d + h ≡ i → s i ≡ r h) → Tail n t y r L → Tail n t x s K
 
--- Lemma 3
+-- the strip from x on begins with x
 pub begins : {n t : ℕ} {x s : ℕ → ℕ} {K : ℕ} → Tail n t x s K → (h : ℕ) → h < n → s h ≡ x h
 begins (last e q f g) h b = f h b
 begins (more {x} {y} {s} {r} {d} e l f g u) h b = elim (decLt h d) [
@@ -114,7 +126,7 @@ begins (more {x} {y} {s} {r} {d} e l f g u) h b = elim (decLt h d) [
   | no c ↦ g h (h - d) (omega arith) ∙ begins u (h - d) (omega arith) ∙ sym (l .agree (h - d) (omega (arith, l .reach))) ∙ l .round .low (h - d) h (omega arith) b
 ]
 
--- Lemma 4
+-- its last n sectors are t
 pub ends : {n t : ℕ} {x s : ℕ → ℕ} {K : ℕ} → Tail n t x s K → (n ≤ K) × ((i : ℕ) → K ≤ i + n → i < K → s i ≡ t)
 ends {n} {t} {x} {s} (last e q f g) = (omega arith, λ i a b. elim (decLt i n) [ yes c ↦ f i c ∙ q i (omega arith) c | no c ↦ g i (omega arith) b ])
 ends (more {x} {y} {s} {r} {d} e l f g u) = let v = ends u in (omega (arith, v .0), λ i a b. g i (i - d) (omega (arith, v .0)) ∙ v .1 (i - d) (omega (arith, v .0)) (omega (arith, v .0)))
@@ -124,7 +136,7 @@ pub data Found (n t : ℕ) (x s : ℕ → ℕ) (K : ℕ) (w : ℕ → ℕ) : Typ
   stands : (p : ℕ) → p + n ≤ K → ((h i : ℕ) → p + h ≡ i → h < n → w h ≡ s i) → Found n t x s K w
   around : (j : ℕ) → j < n → ((h : ℕ) → h + j < n → w h ≡ t) → ((h g : ℕ) → n + g ≡ h + j → h < n → w h ≡ x g) → Found n t x s K w
 
--- Lemma 5
+-- the end of x and the beginning of y, where their words meet
 pub seam : {n t : ℕ} {x y s r w : ℕ → ℕ} {d L : ℕ} → Link n t x y d → ((h : ℕ) → h < d → s h ≡ x h) → ((i h : ℕ) → d + h ≡ i → s i ≡ r h) → Tail n t y r L
     → (j : ℕ) → j < n → n ≤ j + d → ((h i : ℕ) → j + h ≡ i → i < n → w h ≡ x i) → ((h g : ℕ) → n + g ≡ h + j → h < n → w h ≡ y g) → (K : ℕ) → K ≡ d + L → Found n t x s K w
 seam {n} {t} {x} {y} {s} {r} {w} {d} l f g u j b c a z K kk = stands (d + j - n) (omega (arith, ends u .0, l .fits)) (λ h i e k. elim (decLt (h + j) n) [
@@ -132,7 +144,7 @@ seam {n} {t} {x} {y} {s} {r} {w} {d} l f g u j b c a z K kk = stands (d + j - n)
   | no q ↦ z h (h + j - n) (omega arith) k ∙ sym (begins u (h + j - n) (omega arith)) ∙ sym (g i (h + j - n) (omega arith))
 ])
 
--- Lemma 6: what is found from y on is found from x on
+-- what is found from y on is found from x on
 pub keep : {n t : ℕ} {x y s r w : ℕ → ℕ} {d L : ℕ} → Link n t x y d → ((h : ℕ) → h < d → s h ≡ x h) → ((i h : ℕ) → d + h ≡ i → s i ≡ r h) → Tail n t y r L
     → (K : ℕ) → K ≡ d + L → Found n t y r L w → Found n t x s K w
 keep {d = d} l f g u K kk (stands p b a) = stands (d + p) (omega arith) (λ h i e k. a h (p + h) refl k ∙ sym (g i (p + h) (omega arith)))
@@ -141,7 +153,7 @@ keep {n} l f g u K kk (around j b a z) = elim (decLt (l .e) j) [
   | no c ↦ around j b a (λ h m e k. z h m e k ∙ sym (l .agree m (omega arith)))
 ]
 
--- Lemma 7: the turns of x itself
+-- the turns of x itself are found
 pub new : {n t : ℕ} {x y s r w : ℕ → ℕ} {d L : ℕ} → Link n t x y d → ((h : ℕ) → h < d → s h ≡ x h) → ((i h : ℕ) → d + h ≡ i → s i ≡ r h) → Tail n t y r L
     → (K : ℕ) → K ≡ d + L → (j : ℕ) → j < n → n ≤ j + d → Turned x n j w → Found n t x s K w
 new l f g u K kk j b c v = elim (decLt (l .e) j) [
@@ -154,7 +166,7 @@ pub new-last : {n t : ℕ} {x s w : ℕ → ℕ} {K : ℕ} → n < K → ((q : �
 new-last e q f zero b v = stands 0 (omega arith) (λ h i g k. v .low h i g (omega arith) ∙ sym (f i (omega arith)))
 new-last e q f (suc j) b v = around (suc j) b (λ h k. v .low h (suc j + h) refl (omega arith) ∙ q (suc j + h) (omega arith) (omega arith)) (λ h m g k. v .high h m (omega arith) k)
 
--- Lemma 8: a turn by r is a turn by some j in the last copy
+-- a turn by r is a turn by some j in the last copy
 pub settle : {n d : ℕ} {x w : ℕ → ℕ} → 0 < d → d ≤ n → Turned x n d x → (f r : ℕ) → n ≤ r + f → r < n → Turned x n r w → (j : ℕ) × (j < n) × (n ≤ j + d) × Turned x n j w
 settle z b o zero r c k v = absurd (omega arith)
 settle {n} {d} {x} {w} z b o (suc f) r c k v = elim (decLt (r + d) n) [ yes h ↦ settle z b o f (r + d) (omega arith) h (further h) | no h ↦ (r, k, omega arith, v) ]

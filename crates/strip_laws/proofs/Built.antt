@@ -124,10 +124,14 @@ module _ (n t : ℕ) (z : 0 < n) where
 
   -- ---- from the right end
 
+  -- each turn of v, by a number in its last copy, is found in s, the strip from x on
+  abbrev pub FoundTurns : List ℕ → List ℕ → List ℕ → Type 0
+  FoundTurns x s v = (w : ℕ → ℕ) (j : ℕ) → j < n → n ≤ j + period v → Turned (sec v) n j w → Found n t (sec x) (sec s) (length s) w
+
   -- s is the strip from x on, and each turn of each necklace from x on, but for the last, is found in it
   pub record Built (x s : List ℕ) : Type 0 where
     pub tail : Tail n t (sec x) (sec s) (length s)
-    pub find : (v : List ℕ) → Ring n (suc t) v → sec v 0 < t → upTo x v ≡ true → (w : ℕ → ℕ) (j : ℕ) → j < n → n ≤ j + period v → Turned (sec v) n j w → Found n t (sec x) (sec s) (length s) w
+    pub find : (v : List ℕ) → Ring n (suc t) v → sec v 0 < t → upTo x v ≡ true → FoundTurns x s v
 
   -- a root in front
   module _ (x r : List ℕ) (y : 0 < length x) where
@@ -152,7 +156,7 @@ module _ (n t : ℕ) (z : 0 < n) where
       k : length (root x ++ s) ≡ period x + length s
       k = long x s y
 
-      look : (v : List ℕ) → Ring n (suc t) v → sec v 0 < t → upTo x v ≡ true → (w : ℕ → ℕ) (j : ℕ) → j < n → n ≤ j + period v → Turned (sec v) n j w → Found n t (sec x) (sec (root x ++ s)) (length (root x ++ s)) w
+      look : (v : List ℕ) → Ring n (suc t) v → sec v 0 < t → upTo x v ≡ true → FoundTurns x (root x ++ s) v
       look v q o h w j i b tu =
           elim (lex x v) [
             | equal m ↦ new g (laid x s y) (rest x s y) (c .tail) (length (root x ++ s)) k j i (rw (← m) at b) (rw (← m) at tu)
@@ -200,9 +204,11 @@ module _ (n t : ℕ) (z : 0 < n) where
 
       end : (i : ℕ) → n ≤ i → i < length (root x ++ (root u ++ [])) → sec (root x ++ (root u ++ [])) i ≡ t
       end i h q =
-          rest x (root u ++ []) y i (i - n) (omega (arith, whole)) ∙ laid u [] yu (i - n) (omega (arith, long x (root u ++ []) y, short, whole)) ∙ o (i - n) (omega (arith, long x (root u ++ []) y, short, whole, period-le u yu, ur .0 .long))
+          rest x (root u ++ []) y i (i - n) (omega (arith, whole))
+          ∙ laid u [] yu (i - n) (omega (arith, long x (root u ++ []) y, short, whole))
+          ∙ o (i - n) (omega (arith, long x (root u ++ []) y, short, whole, period-le u yu, ur .0 .long))
 
-      look : (v : List ℕ) → Ring n (suc t) v → sec v 0 < t → upTo x v ≡ true → (w : ℕ → ℕ) (j : ℕ) → j < n → n ≤ j + period v → Turned (sec v) n j w → Found n t (sec x) (sec (root x ++ (root u ++ []))) (length (root x ++ (root u ++ []))) w
+      look : (v : List ℕ) → Ring n (suc t) v → sec v 0 < t → upTo x v ≡ true → FoundTurns x (root x ++ (root u ++ [])) v
       look v q f h w j i m tu =
           elim (lex x v) [
             | equal d ↦ new-last big only begin j i (rw (← d) at tu)

@@ -50,7 +50,9 @@ module _ (n k : ℕ) (z : 0 < n) where
     ends : length (strip n k) ≡ place + period w + length (joined (map root (s .ahead)))
     unfolding joined
     ends =
-        ap length (s .whole ∙ joined-append (map root (s .behind)) (root w ∷ map root (s .ahead))) ∙ length-append (joined (map root (s .behind))) (root w ++ joined (map root (s .ahead))) ∙ omega (arith, length-append (root w) (joined (map root (s .ahead))), s .at, long)
+        ap length (s .whole ∙ joined-append (map root (s .behind)) (root w ∷ map root (s .ahead)))
+        ∙ length-append (joined (map root (s .behind))) (root w ++ joined (map root (s .ahead)))
+        ∙ omega (arith, length-append (root w) (joined (map root (s .ahead))), s .at, long)
 
     -- and has room there
     pub standing-room : place + period w ≤ length (strip n k)
@@ -61,6 +63,9 @@ module _ (n k : ℕ) (z : 0 < n) where
     unfolding joined
     standing-next v e = go (s .walk) (s .whole)
       where
+        one-more : map root (s .behind ++ (w ∷ [])) ≡ map root (s .behind) ++ (root w ∷ [])
+        one-more = map-append root (s .behind) (w ∷ [])
+
         on : (rest : List (List ℕ)) (l : ℕ) → FullWalk necklace k v rest l → strip n k ≡ joined (map root (s .behind) ++ (root w ∷ root v ∷ map root rest)) → Standing n k v (place + period w)
         on rest l f q =
             record {
@@ -69,8 +74,8 @@ module _ (n k : ℕ) (z : 0 < n) where
               left = l;
               walk = f;
               ring = let g = next-facts necklace k w v e in (rw (s .ring .0 .long) at (g .0), g .2);
-              whole = q ∙ ap joined (sym (ap (λ (x : List (List ℕ)). x ++ (root v ∷ map root rest)) (map-append root (s .behind) (w ∷ [])) ∙ append-assoc (map root (s .behind)) (root w ∷ []) (root v ∷ map root rest)));
-              at = sym (ap (λ (x : List (List ℕ)). length (joined x)) (map-append root (s .behind) (w ∷ [])) ∙ ap length (joined-append (map root (s .behind)) (root w ∷ [])) ∙ length-append (joined (map root (s .behind))) (root w ++ []) ∙ omega (arith, length-append (root w) [], s .at, long));
+              whole = q ∙ ap joined (sym (ap (λ (x : List (List ℕ)). x ++ (root v ∷ map root rest)) one-more ∙ append-assoc (map root (s .behind)) (root w ∷ []) (root v ∷ map root rest)));
+              at = sym (ap (λ (x : List (List ℕ)). length (joined x)) one-more ∙ ap length (joined-append (map root (s .behind)) (root w ∷ [])) ∙ length-append (joined (map root (s .behind))) (root w ++ []) ∙ omega (arith, length-append (root w) [], s .at, long));
             }
 
         go : {rest : List (List ℕ)} {l : ℕ} → FullWalk necklace k w rest l → strip n k ≡ joined (map root (s .behind) ++ (root w ∷ map root rest)) → Standing n k v (place + period w)

@@ -1,6 +1,6 @@
 -- `place_inner::place_in` meets its contract. The loop's invariant: the reading stands at no place before p. Assumes nothing.
-use Prim.Native.Nat.{ℕ, _≤_, _-_}
-use mathlib.Core.Path.{_≡_, sym, _∙_}
+use Prim.Native.Nat.{_-_}
+use mathlib.Core.Path.{sym, _∙_}
 use native.Mathlib.Omega.{arith}
 use lib.ListN.{length}
 use borrow.Author.Needs.{needs}
@@ -9,13 +9,13 @@ use Rattle.place_inner.proofs.place_in.Statement.{statement}
 use Rattle.place_inner.proofs.place_in.Tie as tie
 
 abbrev Inv-loop : tie.InvT-loop
-Inv-loop s reading m p₀ p = (p ≤ length s) × Passed s reading p
+Inv-loop s reading m p₀ p = Passed s reading p
 
 abbrev μ-loop : tie.MeasureT-loop
 μ-loop s reading m p₀ p = length s - p
 
 loop-holds : tie.Need-loop-holds Inv-loop μ-loop
-loop-holds c = (omega arith, λ q h e. omega arith)
+loop-holds c q h e = omega arith
 
 stands-requires : tie.Need-stands-requires Inv-loop μ-loop
 stands-requires c κs = let g = c .before .before .before .before in (c .loop-test .taken, (g .pre .0, g .pre .1 .0))
@@ -35,13 +35,13 @@ loop-again : tie.Need-loop-again Inv-loop μ-loop
 loop-again c =
     let g = c .before .before .before .before .before .before in
     let l = c .before .before .before .loop in
-    (omega arith, passed-more (g .args .s .now) (g .args .reading .now) (l .p) (l .inv .1) (sym (c .if1 .left) ∙ c .before .stands .ensures))
+    passed-more (g .args .s .now) (g .args .reading .now) (l .p) (l .inv) (sym (c .if1 .left) ∙ c .before .stands .ensures)
 
 returns-2 : tie.Need-returns-2 Inv-loop μ-loop
 returns-2 c =
     let g = c .before .before .before .before in
     let l = c .before .loop in
-    absurd (passed-all (g .args .s .now) (g .args .reading .now) (l .p) (g .pre .1 .1) (c .loop-test .left) (l .inv .1))
+    absurd (passed-all (g .args .s .now) (g .args .reading .now) (l .p) (g .pre .1 .1) (c .loop-test .left) (l .inv))
 
 pub place-in-spec : {M : Type 1} → statement M
 place-in-spec = tie.close (tie.spec Inv-loop μ-loop loop-holds stands-requires returns add-p loop-less loop-again returns-2)
