@@ -1,10 +1,10 @@
--- The number and the place of each refusal (01, 'Refusal numbers': the columns 'No.' and 'Place'; 02, i).
+-- The number and the place of each refusal (01, 'Refusal numbers': the columns 'No.' and 'Place'; 02, g, i).
 --     numberOf r    its number, 1 to 15
 --     placeOf r     its place; 0 for a case that carries none
 -- Assumes nothing.
 use Prim.Native.Nat.{ℕ}
 use Rattle.refusal.specs.declared.Refusal.{Refusal}
-use Rattle.refusal.specs.declared.Refusal.the-variants.{Length, Shades, Sector, Room, OffWalk, Counts, Cut, Mark, NotHome, Pair, Line, TooMany, Card, Unreadable}
+use Rattle.refusal.specs.declared.Refusal.the-variants.{Length, Shades, Sector, Room, OffWalk, Counts, Cut, Mark, NotHome, Pair, Line, TooMany, Set, Card, Unreadable}
 
 abbrev pub numberOf : Refusal → ℕ
 numberOf (Length p) = 1
@@ -19,6 +19,7 @@ numberOf (NotHome p) = 9
 numberOf Pair = 10
 numberOf Line = 11
 numberOf TooMany = 12
+numberOf Set = 13
 numberOf Card = 14
 numberOf (Unreadable p) = 15
 
@@ -35,5 +36,6 @@ placeOf (NotHome p) = p
 placeOf Pair = 0
 placeOf Line = 0
 placeOf TooMany = 0
+placeOf Set = 0
 placeOf Card = 0
 placeOf (Unreadable p) = p

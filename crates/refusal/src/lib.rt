@@ -16,6 +16,7 @@ pub enum Refusal {
     Pair,
     Line,
     TooMany,
+    Set,
     Card,
     Unreadable(usize),
 }
@@ -41,6 +42,7 @@ pub fn number(r: Refusal) -> usize
         Refusal::Pair => 10,
         Refusal::Line => 11,
         Refusal::TooMany => 12,
+        Refusal::Set => 13,
         Refusal::Card => 14,
         Refusal::Unreadable(_) => 15,
     }
@@ -62,6 +64,7 @@ pub fn place(r: Refusal) -> usize
         Refusal::Pair => 0,
         Refusal::Line => 0,
         Refusal::TooMany => 0,
+        Refusal::Set => 0,
         Refusal::Card => 0,
         Refusal::Unreadable(p) => p,
     }

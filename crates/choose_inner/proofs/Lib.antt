@@ -1,0 +1,2 @@
+-- The loop over the Lyndon words (Along).
+pub mod Along

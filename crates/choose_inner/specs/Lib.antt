@@ -1,0 +1,1 @@
+-- No definitions: the contracts are of `set_answers` and `walk_record`.

@@ -1,0 +1,2 @@
+-- What the places of a set hold, and what offering a ring to them promises (Says).
+pub mod Says

@@ -1,0 +1,2 @@
+-- What the checks of the numbers and of the distance say together (Checks).
+pub mod Checks

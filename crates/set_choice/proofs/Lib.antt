@@ -1,0 +1,2 @@
+-- Sets worked out by hand (Cases).
+pub mod Cases

@@ -1,0 +1,1 @@
+// Target sets for one job, as definitions (02, g). No code: crate `sets` picks them.

@@ -1,0 +1,1 @@
+-- No laws: `pick` cites those of `set_answers` and `choose_inner`.

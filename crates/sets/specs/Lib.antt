@@ -1,0 +1,1 @@
+-- No definitions: the contract is of `set_answers`.
