@@ -3,7 +3,8 @@
 --     fields-at              so a line of k and n has k before its first space and n behind it
 --     fields-join            and the other way round
 --     no-newline             no character of `fields k n` is a newline
---     line-bare, line-ended  the line of k and n, by its last character
+--     text-bare, text-ended, text-newline    a text with no newline in it, with or without one behind it, by the last character
+--     line-bare, line-ended  so the line of k and n
 --     ended-says, bare-says  what the fields say, the line says
 --     one-line               a line spells at most one pair
 --     line-short             a line has at most 8 characters
@@ -11,7 +12,7 @@
 -- Assumes nothing.
 use Prim.Native.Nat.{ℕ, suc, _+_, _-_, _<_, _≤_}
 use mathlib.Core.Path.{_≡_, refl, sym, ap, _∙_}
-use mathlib.Core.Logic.{inl, inr, ⊎-elim}
+use mathlib.Core.Logic.{_⊎_, inl, inr, ⊎-elim}
 use mathlib.Core.List.{List, [], _∷_, _++_}
 use native.Mathlib.Omega.{arith}
 use native.Mathlib.Numerals.{add-one}
@@ -38,12 +39,12 @@ fields-space k n =
     }
 
 -- there is a space
-space-in : (k n : ℕ) → length (decimal k) < length (fields k n)
+pub space-in : (k n : ℕ) → length (decimal k) < length (fields k n)
 unfolding fields
 space-in k n = simp length-append (omega arith)
 
 -- two first spaces are one
-space-one : (t : List ℕ) (i j : ℕ) → SpaceAt t i → SpaceAt t j → j < length t → i ≡ j
+pub space-one : (t : List ℕ) (i j : ℕ) → SpaceAt t i → SpaceAt t j → j < length t → i ≡ j
 space-one t i j p q h =
     elim (tri i j) [
       | lt l ↦ absurd (q .before i l (p .here (omega arith)))
@@ -96,28 +97,38 @@ last-of t a =
     let e : length (t ++ (a ∷ [])) - 1 ≡ length t = simp length-append (omega arith) in
     rw e (getD-append-seam t a [] 0)
 
+-- a text with no newline in it, with or without one behind it, by the last character
+module _ (s f : List ℕ) (plain : (i : ℕ) → i < length f → getD f i 0 ≡ 10 → ⊥) where
+  -- it does not end in a newline
+  pub text-bare : (getD s (length s - 1) 0 ≡ 10 → ⊥) → (s ≡ f) ⊎ (s ≡ f ++ (10 ∷ [])) → s ≡ f
+  text-bare z = ⊎-elim (λ e. e) (λ e. absurd (z (rw e (last-of f 10))))
+
+  -- it does
+  pub text-ended : 0 < length s → getD s (length s - 1) 0 ≡ 10 → (s ≡ f) ⊎ (s ≡ f ++ (10 ∷ [])) → take (length s - 1) s ≡ f
+  text-ended l z = ⊎-elim (λ e. absurd (plain (length f - 1) (omega (arith, ap length e)) (rw e at z))) ended
+    where
+      ended : s ≡ f ++ (10 ∷ []) → take (length s - 1) s ≡ f
+      ended e = ap (take (length s - 1)) e ∙ take-at f (10 ∷ []) (length s - 1) (omega (arith, simp length-append at (ap length e)))
+
+-- what stands before the newline
+pub text-newline : (s f : List ℕ) → 0 < length s → getD s (length s - 1) 0 ≡ 10 → take (length s - 1) s ≡ f → s ≡ f ++ (10 ∷ [])
+text-newline s f l z e =
+    let d : drop (suc (length s - 1)) s ≡ [] = drop-of-length-le s {i = suc (length s - 1)} (omega arith) in
+    split-at s (length s - 1) 0 (omega arith) ∙ rw (e, z, d)
+
 -- the line by its last character
 module _ (s : List ℕ) (k n : ℕ) where
   -- a line that does not end in a newline
   pub line-bare : 0 < length s → (getD s (length s - 1) 0 ≡ 10 → ⊥) → Spells s k n → s ≡ fields k n
-  line-bare l z p = ⊎-elim (λ e. e) (λ e. absurd (z (rw e (last-of (fields k n) 10)))) (p .text)
+  line-bare l z p = text-bare s (fields k n) (no-newline k n) z (p .text)
 
   -- a line that ends in a newline
   pub line-ended : 0 < length s → getD s (length s - 1) 0 ≡ 10 → Spells s k n → take (length s - 1) s ≡ fields k n
-  line-ended l z p = ⊎-elim (λ e. absurd (no-newline k n (length (fields k n) - 1) (omega (arith, ap length e)) (rw e at z))) ended (p .text)
-    where
-      ended : s ≡ fields k n ++ (10 ∷ []) → take (length s - 1) s ≡ fields k n
-      ended e = ap (take (length s - 1)) e ∙ take-at (fields k n) (10 ∷ []) (length s - 1) (omega (arith, simp length-append at (ap length e)))
-
-  -- what stands before the newline is k, a space and n
-  pub line-newline : 0 < length s → getD s (length s - 1) 0 ≡ 10 → take (length s - 1) s ≡ fields k n → s ≡ fields k n ++ (10 ∷ [])
-  line-newline l z e =
-      let d : drop (suc (length s - 1)) s ≡ [] = drop-of-length-le s {i = suc (length s - 1)} (omega arith) in
-      split-at s (length s - 1) 0 (omega arith) ∙ rw (e, z, d)
+  line-ended l z p = text-ended s (fields k n) (no-newline k n) l z (p .text)
 
 -- what the fields say, the line says
 pub ended-says : (s : List ℕ) (p : Parsed) → 0 < length s → getD s (length s - 1) 0 ≡ 10 → FieldsSays (take (length s - 1) s) p → ParseSays s p
-ended-says s (Pair k n) l z f = record { k-short = f .0; n-short = f .1; text = inr (line-newline s k n l z (f .2)) }
+ended-says s (Pair k n) l z f = record { k-short = f .0; n-short = f .1; text = inr (text-newline s (fields k n) l z (f .2)) }
 ended-says s Line l z f = λ k n p. f k n (p .k-short) (p .n-short) (line-ended s k n l z p)
 
 pub bare-says : (s : List ℕ) (p : Parsed) → 0 < length s → (getD s (length s - 1) 0 ≡ 10 → ⊥) → FieldsSays s p → ParseSays s p
@@ -127,12 +138,12 @@ bare-says s Line l z f = λ k n p. f k n (p .k-short) (p .n-short) (line-bare s 
 -- ---- one answer
 
 -- two pairs with the same fields are one
-fields-one : (k n k′ n′ : ℕ) → fields k n ≡ fields k′ n′ → (k ≡ k′) × (n ≡ n′)
+pub fields-one : (k n k′ n′ : ℕ) → fields k n ≡ fields k′ n′ → (k ≡ k′) × (n ≡ n′)
 fields-one k n k′ n′ e =
     let f = fields-at k n (fields k′ n′) (length (decimal k′)) (sym e) (fields-space k′ n′) in
     (decimal-one k k′ (sym (f .1) ∙ front k′ n′), decimal-one n n′ (sym (f .2) ∙ back k′ n′))
 
-length-fields : (k n : ℕ) → length (fields k n) ≡ length (decimal k) + length (decimal n) + 1
+pub length-fields : (k n : ℕ) → length (fields k n) ≡ length (decimal k) + length (decimal n) + 1
 unfolding fields
 length-fields k n = simp length-append (omega arith)
 

@@ -1,4 +1,4 @@
-// The line that the listing program reads (01, 'The listing program'): k and n.
+// The line that the listing program reads (01, 'The listing program'): k and n. Its parts serve other lines of numbers too.
 ghost use Rattle.line.specs.Line.{ParseSays, FieldsSays, NumberSays, SpaceAt};
 
 // what the line says: k, then n; or that it is malformed
@@ -49,8 +49,8 @@ fn parse_number(s: &[u8]) -> Numeral
     Numeral::Value(x)
 }
 
-// The first space, or the length.
-fn first_space(s: &[u8]) -> usize
+// The first space, or the length where there is none.
+pub fn first_space(s: &[u8]) -> usize
     ensures { λ r. ⌜ SpaceAt (now (s .entry)) r ⌝ }
 {
     let mut i = 0;
@@ -63,8 +63,8 @@ fn first_space(s: &[u8]) -> usize
     i
 }
 
-// The line without its newline. A second space would stand in the second number, which has only digits.
-fn parse_fields(s: &[u8]) -> Parsed
+// Two numbers and a space between them, the line without its newline. A second space would stand in the second number, which has only digits.
+pub fn parse_fields(s: &[u8]) -> Parsed
     ensures { λ r. ⌜ FieldsSays (now (s .entry)) r ⌝ }
 {
     let at = first_space(s);

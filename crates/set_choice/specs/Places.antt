@@ -2,9 +2,10 @@
 --     sectorOf ts i      the sector at place i of all 768: sector i % 24 of the ring number i / 24, or 0 where there is none
 --     laid ts            the 768 sectors
 --     placeAt n p j      the reading of n sectors in place j of p
+--     setIn n p t        the readings of n sectors in the first t places of p
 -- Assumes nothing.
-use Prim.Native.Nat.{ℕ, _/_, _%_, _*_}
-use mathlib.Core.List.{List, []}
+use Prim.Native.Nat.{ℕ, zero, suc, _/_, _%_, _*_}
+use mathlib.Core.List.{List, [], _∷_, _++_}
 use lib.ListN.{getD, take, drop}
 use Rattle.words.specs.Search.{tab}
 
@@ -19,3 +20,8 @@ laid ts = tab 768 (sectorOf ts)
 -- the reading in place j
 abbrev pub placeAt : ℕ → List ℕ → ℕ → List ℕ
 placeAt n p j = take n (drop (24 * j) p)
+
+-- the readings in the first t places
+unfoldable pub setIn : ℕ → List ℕ → ℕ → List (List ℕ)
+setIn n p zero = []
+setIn n p (suc t) = setIn n p t ++ (placeAt n p t ∷ [])

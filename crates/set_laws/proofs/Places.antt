@@ -2,9 +2,10 @@
 --     laid-length, laid-at, sector-at    768 sectors, the sector at a place, and the sector y of place j
 --     laid-zeros                         a set whose sectors are all 0 leaves them all 0
 --     place-laid                         the reading in place j is the ring number j
+--     length-set-in, set-in-at           the readings in the first t places
 --     put-laid                           a ring put at the first free place is one ring more
 -- Assumes nothing.
-use Prim.Native.Nat.{ℕ, _+_, _-_, _*_, _/_, _%_, _<_, _≤_}
+use Prim.Native.Nat.{ℕ, zero, suc, _+_, _-_, _*_, _/_, _%_, _<_, _≤_}
 use mathlib.Core.Path.{_≡_, refl, sym, ap, _∙_}
 use mathlib.Core.List.{List, [], _∷_, _++_}
 use native.Mathlib.Omega.{arith}
@@ -12,7 +13,7 @@ use lib.ListN.{length, getD, take, drop, replicate, length-append, length-drop, 
 use lib.Seq.{ext-getD, getD-take, getD-drop, getD-append-add, length-take-le}
 use Rattle.words.proofs.Split.{Tri, lt, eq, gt, tri}
 use Rattle.words.proofs.Search.{length-tab, getD-tab}
-use Rattle.set_choice.specs.Places.{sectorOf, laid, placeAt}
+use Rattle.set_choice.specs.Places.{sectorOf, laid, placeAt, setIn}
 use Rattle.set_laws.proofs.Lists.{length-more, at-old, at-new}
 
 -- ---- the sectors
@@ -48,6 +49,23 @@ place-laid n ts j short most b l =
   where
     long : length (placeAt n (laid ts) j) ≡ n
     long = length-take-le n (drop (24 * j) (laid ts)) (omega (arith, length-drop (24 * j) (laid ts), laid-length ts))
+
+-- ---- the readings in the first places
+
+pub length-set-in : (n : ℕ) (p : List ℕ) (t : ℕ) → length (setIn n p t) ≡ t
+unfolding setIn
+length-set-in n p zero = refl
+length-set-in n p (suc t) = length-more (setIn n p t) (placeAt n p t) ∙ ap suc (length-set-in n p t)
+
+pub set-in-at : (n : ℕ) (p : List ℕ) (t j : ℕ) → j < t → getD (setIn n p t) j [] ≡ placeAt n p j
+unfolding setIn
+set-in-at n p zero j h = absurd (omega arith)
+set-in-at n p (suc t) j h =
+    elim (tri j t) [
+      | lt l ↦ at-old (setIn n p t) (placeAt n p t) j (omega (arith, length-set-in n p t)) ∙ set-in-at n p t j l
+      | eq l ↦ ap (λ (x : ℕ). getD (setIn n p t ++ (placeAt n p t ∷ [])) x []) (l ∙ sym (length-set-in n p t)) ∙ at-new (setIn n p t) (placeAt n p t) ∙ ap (placeAt n p) (sym l)
+      | gt l ↦ absurd (omega arith)
+    ]
 
 -- ---- a ring put over a part
 

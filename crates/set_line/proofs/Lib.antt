@@ -1,0 +1,2 @@
+-- Laws of a chart job's line (Four).
+pub mod Four

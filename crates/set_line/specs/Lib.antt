@@ -1,0 +1,2 @@
+-- The line of a chart job (02, 'g').
+pub mod Line

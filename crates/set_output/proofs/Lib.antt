@@ -1,0 +1,2 @@
+-- What makes the output for a line (Output).
+pub mod Output

@@ -1,0 +1,2 @@
+-- The rings' lines one behind another (Lines).
+pub mod Lines

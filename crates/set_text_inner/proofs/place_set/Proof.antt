@@ -1,0 +1,23 @@
+-- `set_text_inner::place_set` meets its contract: the last line stands behind the rings, and there is room for it. Assumes nothing.
+use borrow.Author.Needs.{needs}
+use Rattle.text.proofs.Put.{placed-length, placed-append}
+use Rattle.set_text_inner.proofs.Lines.{taken-room}
+use Rattle.set_text_inner.proofs.place_set.Statement.{statement}
+use Rattle.set_text_inner.proofs.place_set.Tie as tie
+
+place-rings-requires : tie.Need-place-rings-requires
+place-rings-requires c κs = search needs
+
+place-taken-requires : tie.Need-place-taken-requires
+place-taken-requires c κs = let a = c .before .before .before .before .before .before .before .args in let q = c .before .before .before .before .before .before .before .pre in taken-room (a .buf .now) (a .places .now) (a .n) (a .taken) (q .0) (q .1) _ _ (a .full) (c .before .before .before .place-rings .ensures)
+
+same-length : tie.Need-same-length
+same-length c = placed-length _ _ _ _ _ (placed-append _ _ _ _ _ _ _ _ (c .before .before .before .before .before .before .place-rings .ensures) (c .before .before .place-taken .ensures))
+
+returns : tie.Need-returns
+returns c = placed-append _ _ _ _ _ _ _ _ (c .before .before .before .before .before .before .place-rings .ensures) (c .before .before .place-taken .ensures)
+
+pub place-set-spec : {M : Type 1} → statement M
+place-set-spec =
+    tie.close
+    (tie.spec place-rings-requires place-taken-requires same-length returns)

@@ -1,0 +1,2 @@
+-- What is asked of places whose rings are printed (Says).
+pub mod Says
