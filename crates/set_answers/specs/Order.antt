@@ -4,7 +4,7 @@
 --     Askable n k d want         every check has passed
 --     GivenSet n k d want r      refusal r is given: its check fails, and every earlier one has passed
 --     CheckSays n k d want v     what the checks' answer v promises
--- 1, 2 and 12 are those of `plan`, in its order. That no two answers fit: proofs/Unique. Assumes nothing.
+-- 1, 2 and 12 are those of `limits`, in its order. That no two answers fit: proofs/Unique. Assumes nothing.
 use Prim.Native.Nat.{ℕ, _<_, _≤_}
 use mathlib.Core.Path.{_≡_}
 use Rattle.refusal.specs.declared.Refusal.{Refusal}

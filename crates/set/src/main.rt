@@ -1,0 +1,5 @@
+// A chart job's command (02, g).
+
+fn main() {
+    set_printing_inner::run();
+}
