@@ -22,10 +22,10 @@ kind x =
     elim (test (ne x x)) [
       | passes p ↦ noNumber p
       | fails p ↦
-        elim (test (lt x zero32)) [
-          | passes q ↦ out (p, inl q)
-          | fails q ↦ elim (test (lt one32 x)) [ passes r ↦ out (p, inr r) | fails r ↦ within (p, q, r) ]
-        ]
+          elim (test (lt x zero32)) [
+            | passes q ↦ out (p, inl q)
+            | fails q ↦ elim (test (lt one32 x)) [ passes r ↦ out (p, inr r) | fails r ↦ within (p, q, r) ]
+          ]
     ]
 
 zero-number : ne zero32 zero32 ≡ false

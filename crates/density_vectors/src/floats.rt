@@ -40,16 +40,18 @@ fn digit(bits: u32, weight: u32) -> u8 {
 }
 
 fn print_pattern(bits: u32) {
-    show::sectors(&[
-        digit(bits, 0x1000_0000),
-        digit(bits, 0x0100_0000),
-        digit(bits, 0x0010_0000),
-        digit(bits, 0x0001_0000),
-        digit(bits, 0x1000),
-        digit(bits, 0x0100),
-        digit(bits, 0x0010),
-        digit(bits, 1),
-    ]);
+    show::sectors(
+        &[
+            digit(bits, 0x1000_0000),
+            digit(bits, 0x0100_0000),
+            digit(bits, 0x0010_0000),
+            digit(bits, 0x0001_0000),
+            digit(bits, 0x1000),
+            digit(bits, 0x0100),
+            digit(bits, 0x0010),
+            digit(bits, 1),
+        ],
+    );
 }
 
 // A float's pattern behind a name.

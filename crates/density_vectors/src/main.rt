@@ -62,7 +62,13 @@ fn ring(line: &[u8]) {
     let mut out = [0u8; 65];
     let n = floats::words(line, 6, cases::number(line, 1), &mut values);
     let m = cases::sectors(line, 5, &mut out);
-    into(&values, n, cases::number(line, 2), card(line, 3), &mut out[..m]);
+    into(
+        &values,
+        n,
+        cases::number(line, 2),
+        card(line, 3),
+        &mut out[..m],
+    );
 }
 
 // The same by the card 0 and 1, into an output of n bytes.
@@ -70,7 +76,16 @@ fn by_full_card(values: &[f32], n: usize, k: usize, out: &mut [u8]) {
     if out.len() < n {
         return;
     }
-    into(values, n, k, Card { dark: 0.0, light: 1.0 }, &mut out[..n]);
+    into(
+        values,
+        n,
+        k,
+        Card {
+            dark: 0.0,
+            light: 1.0,
+        },
+        &mut out[..n],
+    );
 }
 
 fn mid(k: usize) {

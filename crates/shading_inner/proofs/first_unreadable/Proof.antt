@@ -36,9 +36,9 @@ returns : tie.Need-returns Inv-loop μ-loop
 returns c =
     let a = c .before .before .before .before .before .before .args in let l = c .before .before .before .before .loop in
     record {
-        within = l .inv .0;
-        before = l .inv .1;
-        here = λ h. has-none (a .card) (a .k) _ (c .before .read .result) (c .match .keys2) (c .before .read .ensures)
+      within = l .inv .0;
+      before = l .inv .1;
+      here = λ h. has-none (a .card) (a .k) _ (c .before .read .result) (c .match .keys2) (c .before .read .ensures);
     }
 
 add-i : tie.Need-add-i Inv-loop μ-loop
