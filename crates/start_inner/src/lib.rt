@@ -22,6 +22,7 @@ pub fn empty() -> Walk
         k: 0,
         ring: [0u8; 64],
         class: Class::Loose(0),
+        counts: [0u8; 16],
     }
 }
 
@@ -49,12 +50,14 @@ pub fn start_good(s: &[u8], k: usize) -> Started
         };
     }
     let ring = lay_out(s);
+    let counts = counts_inner::counts_of(ring, s.len());
     Started {
         walk: Walk {
             n: s.len(),
             k: k,
             ring: ring,
             class: class,
+            counts: counts,
         },
         answer: Checked::Good,
     }

@@ -20,6 +20,7 @@ pub fn step_good(w: Walk, kind: Kind) -> Stepped
     let ring = w.ring;
     let mut next = ring;
     let r = moves_inner::advance(&mut next[..n], w.k, kind);
+    let counts = counts_inner::counts_of(next, n);
     if r.lyn == 0 {
         return Stepped {
             walk: w,
@@ -33,6 +34,7 @@ pub fn step_good(w: Walk, kind: Kind) -> Stepped
             k: w.k,
             ring: next,
             class: class,
+            counts: counts,
         },
         outcome: Outcome::Moved(r.moves),
     }

@@ -39,15 +39,20 @@ pub fn check_walk(w: Walk) -> Checked
     let n = w.n;
     let ring = w.ring;
     let class = w.class;
+    let counts = w.counts;
     let v = check_ring(n, w.k, ring);
     match v {
         Checked::Refused(r) => Checked::Refused(r),
         Checked::Good => {
             let looked = class_inner::on_walk(ring, n, class);
-            if looked.on {
+            if !looked.on {
+                return Checked::Refused(Refusal::OffWalk(looked.at));
+            }
+            let own = counts_inner::counts_of(ring, n);
+            if counts_inner::same_counts(counts, own) {
                 return Checked::Good;
             }
-            Checked::Refused(Refusal::OffWalk(looked.at))
+            Checked::Refused(Refusal::OffWalk(0))
         }
     }
 }

@@ -1,3 +1,5 @@
--- What a step's outcome reports (Reports), and the rings that a start and the steps hand out, with the two sentences about them (HandedOut).
+-- What a step's outcome reports (Reports), the rings that a start and the steps hand out, with the two sentences about them (HandedOut), and what a record's counts
+-- are (Carries).
 pub mod Reports
 pub mod HandedOut
+pub mod Carries

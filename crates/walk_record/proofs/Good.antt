@@ -2,6 +2,7 @@
 --     one-class, same-class      two classes with equal case and number are one
 --     loose-class                a reading is Loose exactly where it is no prenecklace
 --     off-loose, off-tag, off-value, on-class    the answers of `on_walk`
+--     off-class, off-counts, on-record           how the last check of a record ends
 --     good-ready, good-tail, good-is             what the checks of a record show
 --     start-off, start-on, start-is              what a start tests, and the record that it makes
 --     ring-of, walk-good                         the record of a ring passes its checks
@@ -10,7 +11,7 @@
 -- Assumes nothing.
 use Prim.Native.Nat.{ℕ, _+_, _-_, _<_, _≤_}
 use mathlib.Core.Path.{_≡_, refl, sym, ap, _∙_}
-use mathlib.Core.Bool.{Bool, true, false}
+use mathlib.Core.Bool.{Bool, true, false, _&&_}
 use mathlib.Core.Option.{some}
 use mathlib.Core.List.{List, _++_}
 use native.Mathlib.Omega.{arith}
@@ -18,8 +19,10 @@ use lib.ListN.{length, getD, take, drop, replicate, List·getD-append, length-dr
 use lib.Seq.{take-append-seam, getD-append-add, ext-getD, getD-take, getD-drop, length-take-le, take-all}
 use lib.Dec.{eqb}
 use borrow.Author.Tests.{eq-eqb, ne-eqb, eqb-true, lt-ltb, le-ltb}
+use Rattle.words.specs.Order.{same}
 use Rattle.words.specs.Readings.{Sized, Shaded, Reading}
 use Rattle.words.proofs.Split.{lt, eq, gt, tri, both, both-left, both-right, not-left, not-right, clash}
+use Rattle.words.proofs.Lex.{same-refl}
 use Rattle.rings.specs.declared.Class.{Class}
 use Rattle.rings.specs.declared.Class.the-variants.{Loose, Opening, Repeating, Single}
 use Rattle.rings.specs.Necklace.{necklace, period}
@@ -27,7 +30,7 @@ use Rattle.rings.specs.Prenecklace.{prenecklace, lyn}
 use Rattle.rings.specs.Class.{Classed, classOf, loosePlace, lookAt}
 use Rattle.rings.specs.Steps.{nextOf}
 use Rattle.necklace_laws.proofs.Lyndon.{lyn-run}
-use Rattle.necklace_laws.proofs.Classes.{classed, lyndon-necklace, period-lyn}
+use Rattle.necklace_laws.proofs.Classes.{classed, lyndon-necklace, period-lyn, look-other}
 use Rattle.necklace_laws.proofs.Words.{necklace-prenecklace}
 use Rattle.necklace_laws.proofs.FullWalk.{next-facts, zeros, zeros-at}
 use Rattle.refusal.specs.declared.Refusal.the-variants.{OffWalk}
@@ -37,7 +40,7 @@ use Rattle.refusal.specs.Calls.{ringLimit, walkRecord, walkStart, oneReading}
 use Rattle.walk_record.specs.declared.Walk.{Walk}
 use Rattle.moves_inner.specs.declared.Kind as K
 use Rattle.moves_inner.specs.Kinds.{kindOf, classAt}
-use Rattle.walk_record.specs.Record.{ringOf, laidOut, walkOf, tagOf, valueOf, sameClass, isLoose, onWalk, walkAsked}
+use Rattle.walk_record.specs.Record.{ringOf, laidOut, shadeCounts, walkOf, tagOf, valueOf, sameClass, isLoose, onWalk, walkAsked}
 use Rattle.moves_inner.specs.Going.{Ready}
 use Rattle.moves_inner.proofs.Standing.{kind-only, class-at}
 
@@ -111,12 +114,39 @@ module _ (v : List ℕ) (c found : Class) (is : found ≡ classOf v) where
 
 -- ---- a record that passed its checks
 
--- the checks but the last passed; the last passes, or fails
-pub pass-walk : (n k : ℕ) (ring : List ℕ) (b : Bool) → Passed (walkRecord n k ring true) → b ≡ true → Passed (walkRecord n k ring b)
-pass-walk n k ring b h e = (h .0, e)
+-- the checks but the last passed; the last passes, or fails by the class, or by the counts
+module _ (w : Walk) (sectors : Passed (walkRecord (w .n) (w .k) (w .ring) true)) where
+  -- the last check's two halves
+  onClass : Bool
+  onClass = onWalk (ringOf w) (w .class)
 
-pub off-walk : (n k : ℕ) (ring : List ℕ) (b : Bool) (p : ℕ) → Passed (walkRecord n k ring true) → b ≡ false → p ≡ lookAt (take n ring) → Given (walkRecord n k ring b) (OffWalk p)
-off-walk n k ring b p h e q = offWalk (ap OffWalk q) (h .0) (λ t. clash b t e)
+  onCounts : Bool
+  onCounts = same (w .counts) (shadeCounts (ringOf w))
+
+  off-walk : (p : ℕ) → (onClass && onCounts) ≡ false → p ≡ lookAt (ringOf w) → Given (walkAsked w) (OffWalk p)
+  unfolding onClass onCounts
+  off-walk p e q = offWalk (ap OffWalk q) (sectors .0) (λ t. clash (onClass && onCounts) t e)
+
+  pub off-class : (b : Bool) (p : ℕ) → b ≡ onWalk (ringOf w) (w .class) → p ≡ lookAt (ringOf w) → b ≡ false → Given (walkAsked w) (OffWalk p)
+  unfolding onClass onCounts
+  off-class b p e q f = off-walk p (not-left onClass onCounts (sym e ∙ f)) q
+
+  -- the class is right, and the counts are compared with the ring's own
+  module _ (a : Bool) (is : a ≡ onWalk (ringOf w) (w .class)) (on : a ≡ true) (own : List ℕ) (b : Bool) (made : own ≡ shadeCounts (ringOf w)) (told : b ≡ same (w .counts) own) where
+    compared : b ≡ onCounts
+    unfolding onCounts
+    compared = told ∙ ap (same (w .counts)) made
+
+    pub on-record : b ≡ true → Passed (walkAsked w)
+    unfolding onClass onCounts
+    on-record h = (sectors .0, both onClass onCounts (sym is ∙ on) (sym compared ∙ h))
+
+    -- the ring is a prenecklace, so there is no sector to look at
+    pub off-counts : b ≡ false → Given (walkAsked w) (OffWalk 0)
+    unfolding onClass onWalk
+    off-counts h =
+        off-walk 0 (not-right onClass onCounts (sym compared ∙ h))
+        (sym (look-other (ringOf w) (both-left (prenecklace (ringOf w)) (sameClass (w .class) (classOf (ringOf w))) (sym is ∙ on))))
 
 -- its sectors are below k up to n, and below 1 past it
 limit-low : (n k i : ℕ) → i < n → ringLimit n k i ≡ k
@@ -131,7 +161,7 @@ module _ (w : Walk) (good : Passed (walkAsked w)) (size : length (w .ring) ≡ 6
 
   own : prenecklace (ringOf w) ≡ true
   unfolding onWalk
-  own = both-left (prenecklace (ringOf w)) (sameClass (w .class) (classOf (ringOf w))) (good .1)
+  own = both-left (prenecklace (ringOf w)) (sameClass (w .class) (classOf (ringOf w))) (both-left (onWalk (ringOf w) (w .class)) (same (w .counts) (shadeCounts (ringOf w))) (good .1))
 
   pub good-long : length (ringOf w) ≡ w .n
   good-long = length-take-le (w .n) (w .ring) (omega (arith, fits))
@@ -164,14 +194,16 @@ module _ (kind : K.Kind) (w : Walk) (v : List ℕ) (p : ℕ) (good : Passed (wal
   pub moved-long : length v ≡ w .n
   moved-long = next-facts (kindOf kind) (w .k) (ringOf w) v next .0 .long ∙ good-long w good size
 
-  pub moved-is : record { n = w .n; k = w .k; ring = v ++ drop (w .n) (w .ring); class = classAt (w .n) p } ≡ walkOf (w .k) v
-  moved-is =
+  -- its counts are those of its first n sectors
+  pub moved-is : (cs : List ℕ) → cs ≡ shadeCounts (take (w .n) (v ++ drop (w .n) (w .ring))) → record { n = w .n; k = w .k; ring = v ++ drop (w .n) (w .ring); class = classAt (w .n) p; counts = cs } ≡ walkOf (w .k) v
+  moved-is cs e =
       λ i.
       record {
         n = sym moved-long i;
         k = w .k;
         ring = ap (λ (t : List ℕ). v ++ t) (good-tail w good size ∙ ap (λ (x : ℕ). replicate (64 - x) 0) (sym moved-long)) i;
         class = class i;
+        counts = (e ∙ ap shadeCounts (ap (λ (x : ℕ). take x (v ++ drop (w .n) (w .ring))) (sym moved-long) ∙ take-append-seam v (drop (w .n) (w .ring)))) i;
       }
     where
       class : classAt (w .n) p ≡ classOf v
@@ -199,8 +231,16 @@ module _ (s : List ℕ) (k : ℕ) (found : Class) (passed : Passed (oneReading s
   pub start-on : isLoose found ≡ false → Passed (walkStart s k (prenecklace s))
   start-on h = (passed .0, tight-class s (rw is at h))
 
-  pub start-is : (ring : List ℕ) → ring ≡ laidOut s → record { n = length s; k = k; ring = ring; class = found } ≡ walkOf k s
-  start-is ring e = λ i. record { n = length s; k = k; ring = e i; class = is i }
+  pub start-is : (ring cs : List ℕ) → ring ≡ laidOut s → cs ≡ shadeCounts (take (length s) ring) → record { n = length s; k = k; ring = ring; class = found; counts = cs } ≡ walkOf k s
+  start-is ring cs e f =
+      λ i.
+      record {
+        n = length s;
+        k = k;
+        ring = e i;
+        class = is i;
+        counts = (f ∙ ap shadeCounts (ap (take (length s)) e ∙ take-append-seam s (zeros (64 - length s)))) i;
+      }
 
 -- ---- the record of a ring passes its checks
 
@@ -218,7 +258,7 @@ unfolding onWalk
 walk-good n k v sized shaded reading pre =
     let e = reading .long in (
       ((((((omega arith, omega arith), tt), shaded), below), tt), tt),
-      rw (ring-of k v) (both (prenecklace v) (sameClass (classOf v) (classOf v)) pre (same-class-refl (classOf v))),
+      rw (ring-of k v) (both (onWalk v (classOf v)) (same (shadeCounts v) (shadeCounts v)) (both (prenecklace v) (sameClass (classOf v) (classOf v)) pre (same-class-refl (classOf v))) (same-refl (shadeCounts v))),
     )
   where
     below : (i : ℕ) → i < length (laidOut v) → getD (laidOut v) i 0 < ringLimit (length v) k i

@@ -1,19 +1,23 @@
--- The walk's record (01, 'Walks').
+-- The walk's record (01, 'Walks'; 02, m).
 --     ringOf w          the ring of a record: its first n sectors
---     walkOf k v        the record of a ring v: n, k, v with 0 behind it to 64 sectors, its class
+--     shadeCounts v     how often each of the 16 shades stands in v
+--     walkOf k v        the record of a ring v: n, k, v with 0 behind it to 64 sectors, its class, its counts
 --     emptyWalk         the record that a refused start hands out
 --     onWalk v c        v is a prenecklace and its class is c
 --     walkAsked w       what the checks of a record look at
+-- That the counts of the shades from k up are 0 in every record that is handed out: `walk_laws`, proofs/Counts.
 -- Assumes nothing.
 use Prim.Native.Nat.{ℕ, _-_}
 use mathlib.Core.Bool.{Bool, true, false, _&&_}
 use mathlib.Core.List.{List, _++_}
 use lib.ListN.{length, take, replicate}
 use lib.Dec.{eqb}
+use Rattle.words.specs.Order.{same}
 use Rattle.rings.specs.declared.Class.{Class}
 use Rattle.rings.specs.declared.Class.the-variants.{Loose, Opening, Repeating, Single}
 use Rattle.rings.specs.Prenecklace.{prenecklace}
 use Rattle.rings.specs.Class.{classOf}
+use Rattle.rings.specs.Counts.{countsOf}
 use Rattle.refusal.specs.Order.{Asked}
 use Rattle.refusal.specs.Calls.{walkRecord}
 use Rattle.walk_record.specs.declared.Walk.{Walk}
@@ -26,13 +30,17 @@ ringOf w = take (w .n) (w .ring)
 abbrev pub laidOut : List ℕ → List ℕ
 laidOut v = v ++ replicate (64 - length v) 0
 
+-- 16 counts, one for each shade: how often it stands in the ring
+abbrev pub shadeCounts : List ℕ → List ℕ
+shadeCounts v = countsOf 16 v
+
 -- the record of a ring
 abbrev pub walkOf : ℕ → List ℕ → Walk
-walkOf k v = record { n = length v; k = k; ring = laidOut v; class = classOf v }
+walkOf k v = record { n = length v; k = k; ring = laidOut v; class = classOf v; counts = shadeCounts v }
 
--- 0 for n, k and every sector, classed Loose with the place 0, which no reading has
+-- 0 for n, k, every sector and every count, classed Loose with the place 0, which no reading has
 abbrev pub emptyWalk : Walk
-emptyWalk = record { n = 0; k = 0; ring = replicate 64 0; class = Loose 0 }
+emptyWalk = record { n = 0; k = 0; ring = replicate 64 0; class = Loose 0; counts = replicate 16 0 }
 
 -- two classes are the same: their cases are, and their numbers are
 abbrev pub tagOf : Class → ℕ
@@ -60,6 +68,6 @@ isLoose Single = false
 unfoldable pub onWalk : List ℕ → Class → Bool
 onWalk v c = prenecklace v && sameClass c (classOf v)
 
--- what the checks of a record look at
+-- what the checks of a record look at: it is on the walk where its ring is a prenecklace, and its class and all its counts are that ring's
 abbrev pub walkAsked : Walk → Asked
-walkAsked w = walkRecord (w .n) (w .k) (w .ring) (onWalk (ringOf w) (w .class))
+walkAsked w = walkRecord (w .n) (w .k) (w .ring) (onWalk (ringOf w) (w .class) && same (w .counts) (shadeCounts (ringOf w)))

@@ -4,12 +4,13 @@ use refusal::Checked;
 use refusal::Refusal;
 use rings::Class;
 
-// A walk: n, k, the ring with room for 64 sectors, those past n 0, and its class.
+// A walk: n, k, the ring with room for 64 sectors, those past n 0, its class, and how often each of the 16 shades stands in it, 0 for those from k up.
 pub struct Walk {
     pub n: usize,
     pub k: usize,
     pub ring: [u8; 64],
     pub class: Class,
+    pub counts: [u8; 16],
 }
 
 // A start's answer, and the record that it hands out: an empty one where it is refused.

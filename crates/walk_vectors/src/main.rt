@@ -185,6 +185,13 @@ fn ring_of(at: usize, sector: u8) -> [u8; 64] {
     ring
 }
 
+// The counts that a line gives, a digit for each shade; those that it does not are 0.
+fn counts_of(line: &[u8]) -> [u8; 16] {
+    let mut counts = [0u8; 16];
+    cases::sectors(line, 7, &mut counts);
+    counts
+}
+
 // ---- the lines
 
 // A record that no walk has made: the answer, and the record's n and k as they come back.
@@ -194,6 +201,7 @@ fn made(line: &[u8]) {
         k: cases::number(line, 2),
         ring: ring_of(cases::number(line, 3), (cases::number(line, 4) % 256) as u8),
         class: class_of(cases::number(line, 5), cases::number(line, 6)),
+        counts: counts_of(line),
     });
     let o = s.outcome;
     print_answer(o);

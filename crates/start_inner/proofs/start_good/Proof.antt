@@ -26,8 +26,15 @@ returns c =
 lay-out-requires : tie.Need-lay-out-requires
 lay-out-requires c κs = c .before .before .before .before .pre .0 .0 .0 .0 .0 .0 .1
 
+counts-of-requires : tie.Need-counts-of-requires
+counts-of-requires c κs = c .before .before .before .before .before .pre .0 .0 .0 .0 .0 .0 .1
+
 returns-2 : tie.Need-returns-2
-returns-2 c = (start-on (c .before .before .before .before .before .args .s .now) (c .before .before .before .before .before .args .k) (c .before .before .before .class-of .result) (c .before .before .before .before .before .pre) (c .before .before .before .class-of .ensures) (sym (c .before .before .is-loose .ensures) ∙ c .before .if1 .left), start-is (c .before .before .before .before .before .args .s .now) (c .before .before .before .before .before .args .k) (c .before .before .before .class-of .result) (c .before .before .before .before .before .pre) (c .before .before .before .class-of .ensures) (c .lay-out .result) (c .lay-out .ensures))
+returns-2 c =
+    let a = c .before .before .before .before .before .before .args in
+    let g = c .before .before .before .before .before .before .pre in
+    let f = c .before .before .before .before .class-of in
+    (start-on (a .s .now) (a .k) (f .result) g (f .ensures) (sym (c .before .before .before .is-loose .ensures) ∙ c .before .before .if1 .left), start-is (a .s .now) (a .k) (f .result) g (f .ensures) (c .before .lay-out .result) (c .counts-of .result) (c .before .lay-out .ensures) (c .counts-of .ensures))
 
 pub start-good-spec : {M : Type 1} → statement M
 start-good-spec =
@@ -39,4 +46,5 @@ start-good-spec =
     empty-requires
     returns
     lay-out-requires
+    counts-of-requires
     returns-2)

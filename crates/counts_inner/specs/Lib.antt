@@ -1,0 +1,1 @@
+-- The counts are those of `rings`, Counts; nothing is defined here.
