@@ -2,7 +2,6 @@
 --     only-sector, bad-sector       a refusal can only be a bad sector
 --     necklace-class, not-home      by its class a reading is a necklace or not, and then Not home has its place
 --     place-within                  that place is one of the sectors
---     passed-room                   with an output as long as the reading, the checks of bringing home pass
 -- Assumes nothing.
 use Prim.Native.Nat.{ℕ, _+_, _<_}
 use mathlib.Core.Path.{_≡_, refl, sym, ap, _∙_}
@@ -23,7 +22,7 @@ use Rattle.refusal.specs.declared.Refusal.the-variants.{Sector, NotHome}
 use Rattle.refusal.specs.Numbers.{placeOf}
 use Rattle.refusal.specs.Order.{Given, Passed, FirstBad}
 use Rattle.refusal.specs.Order.Given.{size, pair, shades, sector as badAt, room, counts, offWalk}
-use Rattle.refusal.specs.Calls.{oneReading, withRoom}
+use Rattle.refusal.specs.Calls.{oneReading}
 use Rattle.catalogue_record.specs.Layout.{isNecklace}
 use Rattle.catalogue_record.specs.Order.{Unfit}
 use Rattle.catalogue_record.specs.Order.Unfit.{sector, notHome}
@@ -61,7 +60,3 @@ not-home w k s p c g e q h = notHome (ap (λ (x : ℕ). NotHome (s + 4 + x)) (q 
 pub place-within : (w : List ℕ) (p : ℕ) (c : Class) → Sized (length w) → c ≡ classOf w → p ≡ loosePlace c → p < length w
 unfolding lookAt
 place-within w p c z e q = rw (q ∙ ap loosePlace e) (look-within w (z .0))
-
--- with an output as long as the reading, the checks of bringing home pass
-pub passed-room : (w : List ℕ) (k m : ℕ) → Passed (oneReading w k) → m ≡ length w → Passed (withRoom w k m)
-passed-room w k m g e = (((g .0 .0 .0, e), tt), refl)

@@ -1,9 +1,8 @@
-// The sectors of a record, whose numbers are good: 3, 9; and then the front ring. No public calls.
+// The sectors of a record, whose numbers are good: 3, 9. No public calls.
 
-use catalogue_record::Entry;
 use catalogue_record::HEAD;
-use catalogue_record::Kind;
 use classify::Classified;
+use refusal::Checked;
 use refusal::Refusal;
 use rings::Class;
 ghost use mathlib.Core.Path.{_≡_};
@@ -13,26 +12,21 @@ ghost use Rattle.words.specs.Readings.{Sized, Shaded};
 ghost use Rattle.catalogue_record.specs.Layout.{isNecklace};
 ghost use Rattle.catalogue_record.specs.Steps.{Held, BodySays};
 
-// The sectors: 3, 9; and then the front ring. With good n and k, classifying can only refuse a sector.
-pub fn read_body(body: &[u8], start: usize, k: usize, kind: Kind, out: &mut [u8]) -> Entry
-    requires { ⌜ Held (start + (4 + length (now body))) × (length (now out) ≡ 64) × Sized (length (now body)) × Shaded k ⌝ }
-    ensures { λ r. ⌜ BodySays (now (body .entry)) start k kind (now (out .entry)) r (now (out .exit)) ⌝ }
+// The sectors: 3, 9. With good n and k, classifying can only refuse a sector.
+pub fn check_body(body: &[u8], start: usize, k: usize) -> Checked
+    requires { ⌜ Held (start + (4 + length (now body))) × Sized (length (now body)) × Shaded k ⌝ }
+    ensures { λ r. ⌜ BodySays (now (body .entry)) start k r ⌝ }
 {
     match classify::classify(body, k) {
-        Classified::Refused(r) => Entry::Refused(Refusal::Sector(start + HEAD + refusal::place(r))),
+        Classified::Refused(r) => Checked::Refused(Refusal::Sector(
+            start + HEAD + refusal::place(r),
+        )),
         Classified::Is(c) => {
             if is_necklace(c) {
-                let n = body.len();
-                front_inner::write_front(body, k, kind, &mut out[..n]);
-                return Entry::Record {
-                    n: n,
-                    k: k,
-                    kind: kind,
-                    next: start + HEAD + n,
-                };
+                return Checked::Good;
             }
             let at = scan_inner::loose_place(c);
-            Entry::Refused(Refusal::NotHome(start + HEAD + at))
+            Checked::Refused(Refusal::NotHome(start + HEAD + at))
         }
     }
 }

@@ -1,25 +1,25 @@
 -- Records to check by hand, of the definitions themselves: one table, one claim.
 --     answers c s m r    the catalogue c, read at s with an output of m bytes, answers r
 --     shows c s v        the record at s of c has the front ring v
---     stores x k w c     the record of kind x of the ring of w, as seen from the front, in k shades is the bytes c
--- The rows are document 01's records, read and written, the ends of a catalogue, and one row for each pair of faults whose order a reader may mistake.
+--     stores x k w c     the record of kind x of the ring of w in k shades is the bytes c
+-- The rows are document 01's front record, read and written, the retired mark, the ends of a catalogue, and one row for each pair of faults whose order a reader may mistake.
 -- Assumes nothing.
 use Prim.Native.Nat.{ℕ}
 use mathlib.Core.Path.{_≡_, refl}
 use mathlib.Core.List.{List, [], _∷_, _++_}
-use lib.ListN.{replicate, getD, drop}
+use lib.ListN.{replicate, drop}
 use Rattle.words.specs.Search.{least}
 use Rattle.rings.specs.Open.{open-all}
-use Rattle.refusal.specs.declared.Refusal.the-variants.{Length, Shades, Sector, Room, Cut, Mark, NotHome}
+use Rattle.refusal.specs.declared.Refusal.the-variants.{Length, Shades, Sector, Room, Cut, Mark, NotHome, Retired}
 use Rattle.refusal.proofs.Facts.{within, bad, firstBad, sized, shaded, below}
 use Rattle.refusal.proofs.Chain.{unless}
 use Rattle.catalogue_record.specs.declared.Kind.{Kind}
-use Rattle.catalogue_record.specs.declared.Kind.the-variants.{Front, Back}
+use Rattle.catalogue_record.specs.declared.Kind.the-variants.{Front}
 use Rattle.catalogue_record.specs.declared.Entry.{Entry}
 use Rattle.catalogue_record.specs.declared.Entry.the-variants.{Record, End, Refused}
-use Rattle.catalogue_record.specs.Layout.{sectorsOf, frontRing}
+use Rattle.catalogue_record.specs.Layout.{sectorsOf}
 use Rattle.catalogue_record.proofs.Wrote.{recordBytes}
-use Rattle.catalogue_record.proofs.Chain.{known, kindOf, from9, from3, from7, from2, from1, from8, recordOf, orElse, refusedOr, recordEntry, startEntry, entryOf}
+use Rattle.catalogue_record.proofs.Chain.{begins, kindOf, from9, from3, from7, from2, from1, from16, from8, recordOf, orElse, refusedOr, recordEntry, startEntry, entryOf}
 
 pub data Case : Type 0 where
   answers : List ℕ → ℕ → ℕ → Entry → Case
@@ -39,11 +39,15 @@ front n k w = 0x52 ∷ 0x46 ∷ n ∷ k ∷ w
 
 unfoldable pub table : List Case
 table =
-    -- the two records, and the second after the first
-    answers backRecord 0 64 (Record 6 2 Back 10) ∷
-    shows backRecord 0 (0 ∷ 0 ∷ 1 ∷ 1 ∷ 0 ∷ 1 ∷ []) ∷
+    -- the front record, alone and behind the back record, which is retired, whatever follows its mark; with fewer than 4 bytes it is cut
+    answers frontRecord 0 64 (Record 6 2 Front 10) ∷
+    shows frontRecord 0 (0 ∷ 0 ∷ 1 ∷ 0 ∷ 1 ∷ 1 ∷ []) ∷
     answers (backRecord ++ frontRecord) 10 64 (Record 6 2 Front 20) ∷
     shows (backRecord ++ frontRecord) 10 (0 ∷ 0 ∷ 1 ∷ 0 ∷ 1 ∷ 1 ∷ []) ∷
+    answers backRecord 0 64 (Refused (Retired 0)) ∷
+    answers (frontRecord ++ (0x52 ∷ 0x42 ∷ 0 ∷ 99 ∷ [])) 10 64 (Refused (Retired 10)) ∷
+    answers (0x52 ∷ 0x42 ∷ 6 ∷ []) 0 64 (Refused (Cut 0)) ∷
+    answers (0x42 ∷ 0x42 ∷ 6 ∷ 2 ∷ []) 0 64 (Refused (Mark 0)) ∷
     -- a catalogue of no bytes answers End at 0 and Cut at 1; the greatest start does not wrap
     answers [] 0 64 End ∷
     answers [] 1 64 (Refused (Cut 1)) ∷
@@ -66,25 +70,19 @@ table =
     answers (frontRecord ++ front 4 2 (1 ∷ 0 ∷ 2 ∷ 3 ∷ [])) 10 64 (Refused (Sector 16)) ∷
     answers (frontRecord ++ front 4 2 (0 ∷ 1 ∷ 1 ∷ 0 ∷ [])) 10 64 (Refused (NotHome 14)) ∷
     answers (frontRecord ++ front 4 2 (0 ∷ 1 ∷ 0 ∷ 0 ∷ [])) 10 64 (Refused (NotHome 17)) ∷
-    -- under the back mark too it is the stored sectors that count: 0100 is Loose, though reversed, as 0010, it is Opening
-    answers (frontRecord ++ (0x52 ∷ 0x42 ∷ 4 ∷ 2 ∷ 0 ∷ 1 ∷ 0 ∷ 0 ∷ [])) 10 64 (Refused (NotHome 17)) ∷
-    -- the two records written, from the home reading and from another turn; one sector; rings that are not even-handed and that are, of both kinds
+    -- records written, from the home reading and from another turn; one sector; a ring that is not even-handed
     stores Front 2 (0 ∷ 0 ∷ 1 ∷ 0 ∷ 1 ∷ 1 ∷ []) frontRecord ∷
     stores Front 2 (1 ∷ 0 ∷ 1 ∷ 1 ∷ 0 ∷ 0 ∷ []) frontRecord ∷
-    stores Back 2 (0 ∷ 0 ∷ 1 ∷ 1 ∷ 0 ∷ 1 ∷ []) backRecord ∷
-    stores Back 2 (1 ∷ 0 ∷ 1 ∷ 0 ∷ 0 ∷ 1 ∷ []) backRecord ∷
     stores Front 16 (15 ∷ []) (front 1 16 (15 ∷ [])) ∷
-    stores Front 3 (2 ∷ 0 ∷ 1 ∷ []) (front 3 3 (0 ∷ 1 ∷ 2 ∷ [])) ∷
-    stores Back 3 (2 ∷ 0 ∷ 1 ∷ []) (0x52 ∷ 0x42 ∷ 3 ∷ 3 ∷ 0 ∷ 2 ∷ 1 ∷ []) ∷
-    stores Back 2 (1 ∷ 0 ∷ 1 ∷ 0 ∷ []) (0x52 ∷ 0x42 ∷ 4 ∷ 2 ∷ 0 ∷ 1 ∷ 0 ∷ 1 ∷ []) ∷ []
+    stores Front 3 (2 ∷ 0 ∷ 1 ∷ []) (front 3 3 (0 ∷ 1 ∷ 2 ∷ [])) ∷ []
 
 -- every row holds
 unfoldable pub Hold : List Case → Type 0
 Hold [] = Unit
 Hold (answers c s m r ∷ rows) = (entryOf c s m ≡ r) × Hold rows
-Hold (shows c s v ∷ rows) = (frontRing (kindOf (getD (drop s c) 1 0)) (sectorsOf (drop s c)) ≡ v) × Hold rows
+Hold (shows c s v ∷ rows) = (sectorsOf (drop s c) ≡ v) × Hold rows
 Hold (stores x k w c ∷ rows) = (recordBytes x k w ≡ c) × Hold rows
 
 pub records-read : Hold table
-unfolding table Hold open-all entryOf startEntry recordEntry orElse refusedOr recordOf from8 from1 from2 from7 from3 from9 known kindOf unless sized shaded below within firstBad bad least
-records-read = (refl, (refl, (refl, (refl, (refl, (refl, (refl, (refl, (refl, (refl, (refl, (refl, (refl, (refl, (refl, (refl, (refl, (refl, (refl, (refl, (refl, (refl, (refl, (refl, (refl, (refl, (refl, (refl, (refl, (refl, tt))))))))))))))))))))))))))))))
+unfolding table Hold open-all entryOf startEntry recordEntry orElse refusedOr recordOf from8 from16 from1 from2 from7 from3 from9 begins kindOf unless sized shaded below within firstBad bad least
+records-read = (refl, (refl, (refl, (refl, (refl, (refl, (refl, (refl, (refl, (refl, (refl, (refl, (refl, (refl, (refl, (refl, (refl, (refl, (refl, (refl, (refl, (refl, (refl, (refl, (refl, (refl, (refl, (refl, (refl, tt)))))))))))))))))))))))))))))

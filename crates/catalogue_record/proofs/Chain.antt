@@ -1,72 +1,66 @@
 -- The reader's order of checks as a chain of tests that computes: `entryOf c s m` is the answer for the catalogue c, the start s and an output of m bytes.
---     known t, kindOf y              the mark, as tests
---     recordOf t s                   the refusal of the record that t begins with, at s, or none
+--     begins t y, kindOf y           the mark, as tests
+--     from1 t s                      the refusal of what stands behind the mark of the record that t begins with, at s, or none
+--     recordOf t s                   the refusal of the record
 --     entryOf c s m                  the answer
---     broken-fixed, whole-fixed      a record that is refused, and one that is good, determine the chain's answer
+--     spoilt-fixed, good-fixed       what stands behind the mark, refused or good, determines the chain's answer
+--     broken-fixed, whole-fixed      a record that is refused, and one that is good, determine it
 --     fixed                          so does an answer that the contract allows
 -- Assumes nothing.
 use Prim.Native.Nat.{ℕ, _+_, _<_}
-use mathlib.Core.Path.{_≡_, _∙_}
+use mathlib.Core.Path.{_≡_, refl, _∙_}
 use mathlib.Core.Bool.{Bool, true, false, _&&_, _||_}
 use mathlib.Core.Option.{Option, none, some}
 use mathlib.Core.List.{List}
 use native.Mathlib.Omega.{arith}
 use lib.Dec.{leb, ltb, eqb}
 use lib.ListN.{length, getD, drop}
-use borrow.Author.Tests.{lt-ltb, le-ltb, le-leb, lt-leb, eq-eqb, ne-eqb, eqb-true}
-use Rattle.words.proofs.Split.{both, both-left, both-right, Or, left, right, either, either-left, either-right}
+use borrow.Author.Tests.{lt-ltb, le-ltb, le-leb, lt-leb, eq-eqb, ne-eqb}
+use Rattle.words.proofs.Split.{either-left, either-right}
 use Rattle.rings.specs.Necklace.{necklace}
 use Rattle.rings.specs.Class.{lookAt}
 use Rattle.refusal.specs.declared.Refusal.{Refusal}
 use Rattle.refusal.specs.declared.Refusal.the-variants as R
 use Rattle.refusal.specs.Order.{Asked}
 use Rattle.refusal.specs.Calls.{numbers, oneReading}
-use Rattle.refusal.proofs.Facts.{Tells, failed, firstBad, first-bad-is, bad-not-below, sized, shaded, below, sized-tells, shaded-tells, below-tells, at-most-tells}
+use Rattle.refusal.proofs.Facts.{Tells, failed, both-tell, equal-tells, firstBad, first-bad-is, bad-not-below, sized, shaded, below, sized-tells, shaded-tells, below-tells, at-most-tells}
 use Rattle.refusal.proofs.Chain.{unless, goes-on, stops}
 use Rattle.catalogue_record.specs.declared.Kind.{Kind}
-use Rattle.catalogue_record.specs.declared.Kind.the-variants.{Front, Back}
+use Rattle.catalogue_record.specs.declared.Kind.the-variants.{Front}
 use Rattle.catalogue_record.specs.declared.Entry.{Entry}
 use Rattle.catalogue_record.specs.declared.Entry.the-variants.{Record, End, Refused}
-use Rattle.catalogue_record.specs.Layout.{secondByte, nOf, kOf, sectorsOf}
-use Rattle.catalogue_record.specs.Order.{Known, AfterHead, After8, After1, After2, After7, After3, After9, Unfit, Broken, RefusedAt}
+use Rattle.catalogue_record.specs.Layout.{Begins, secondByte, MarkedBack, nOf, kOf, sectorsOf}
+use Rattle.catalogue_record.specs.Order.{Known, AfterHead, After1, After2, After7, After3, After9, Unfit, Spoilt, Broken, RefusedAt}
 use Rattle.catalogue_record.specs.Order.Unfit.{sector, notHome}
-use Rattle.catalogue_record.specs.Order.Broken.{head, mark, size, shades, body, unfit}
+use Rattle.catalogue_record.specs.Order.Spoilt.{size, shades, body, unfit}
+use Rattle.catalogue_record.specs.Order.Broken.{head, mark, retired, spoilt}
 use Rattle.catalogue_record.specs.Order.RefusedAt.{room, past, broken}
 use Rattle.catalogue_record.specs.Says.{ReadSays}
 
 -- ---- the mark
 
-unfoldable pub known : List ℕ → Bool
-known t = eqb (getD t 0 0) 0x52 && (eqb (getD t 1 0) 0x46 || eqb (getD t 1 0) 0x42)
+unfoldable pub begins : List ℕ → ℕ → Bool
+begins t y = eqb (getD t 0 0) 0x52 && eqb (getD t 1 0) y
 
 -- the kind of a known mark, by its second byte
 unfoldable pub kindOf : ℕ → Kind
-kindOf y = elim (eqb y 0x46) [ true ↦ Front | false ↦ Back ]
+kindOf y = Front
 
-known-tells : (t : List ℕ) → Tells (known t) (Known t)
-unfolding known
-known-tells t =
-    record {
-      passed = λ k. both (eqb (getD t 0 0) 0x52) second (eq-eqb (getD t 0 0) 0x52 (k .1 .0)) (told (k .0) (k .1 .1));
-      holds = λ e. found (eqb-true (getD t 0 0) 0x52 (both-left (eqb (getD t 0 0) 0x52) second e)) (either (eqb (getD t 1 0) 0x46) (eqb (getD t 1 0) 0x42) (both-right (eqb (getD t 0 0) 0x52) second e));
-    }
-  where
-    second : Bool
-    second = eqb (getD t 1 0) 0x46 || eqb (getD t 1 0) 0x42
-
-    told : (x : Kind) → getD t 1 0 ≡ secondByte x → (eqb (getD t 1 0) 0x46 || eqb (getD t 1 0) 0x42) ≡ true
-    told Front e = either-left (eqb (getD t 1 0) 0x46) (eqb (getD t 1 0) 0x42) (eq-eqb (getD t 1 0) 0x46 e)
-    told Back e = either-right (eqb (getD t 1 0) 0x46) (eqb (getD t 1 0) 0x42) (eq-eqb (getD t 1 0) 0x42 e)
-
-    found : getD t 0 0 ≡ 0x52 → Or (eqb (getD t 1 0) 0x46) (eqb (getD t 1 0) 0x42) → Known t
-    found e (left f) = (Front, (e, eqb-true (getD t 1 0) 0x46 f))
-    found e (right n f) = (Back, (e, eqb-true (getD t 1 0) 0x42 f))
+pub begins-tells : (t : List ℕ) (y : ℕ) → Tells (begins t y) (Begins t y)
+unfolding begins
+begins-tells t y = both-tell (equal-tells (getD t 0 0) 0x52) (equal-tells (getD t 1 0) y)
 
 -- the second byte of a mark tells its kind
-pub kind-is : (y : ℕ) (x : Kind) → y ≡ secondByte x → kindOf y ≡ x
+kind-is : (y : ℕ) (x : Kind) → y ≡ secondByte x → kindOf y ≡ x
 unfolding kindOf
-kind-is y Front e = rw (eq-eqb y 0x46 e, kindOf)
-kind-is y Back e = rw (ne-eqb y 0x46 (λ q. omega arith), kindOf)
+kind-is y Front e = refl
+
+-- a known mark is the front ring's
+known-front : (t : List ℕ) → Known t → Begins t 0x46
+known-front t (x, m) = go x m
+  where
+    go : (x : Kind) → Begins t (secondByte x) → Begins t 0x46
+    go Front m = m
 
 -- ---- the chain of a record, from its end; the test of 1 and 2 is that of every call
 
@@ -88,59 +82,92 @@ from2 t s = unless (shaded (asked t)) (R.Shades (s + 3)) (from7 t s)
 unfoldable pub from1 : List ℕ → ℕ → Option Refusal
 from1 t s = unless (sized (asked t)) (R.Length (s + 2)) (from2 t s)
 
-unfoldable pub from8 : List ℕ → ℕ → Option Refusal
-from8 t s = unless (known t) (R.Mark s) (from1 t s)
+-- what stands behind the mark
 
-unfoldable pub recordOf : List ℕ → ℕ → Option Refusal
-recordOf t s = unless (leb 4 (length t)) (R.Cut s) (from8 t s)
-
--- each level leaves the rest of the chain
 module _ (t : List ℕ) (s : ℕ) where
-  past-head : AfterHead t → recordOf t s ≡ from8 t s
-  unfolding recordOf
-  past-head l = goes-on (leb 4 (length t)) (R.Cut s) (from8 t s) (at-most-tells 4 (length t) .passed l)
-
-  past8 : After8 t → recordOf t s ≡ from1 t s
-  unfolding from8
-  past8 l = past-head (l .0) ∙ goes-on (known t) (R.Mark s) (from1 t s) (known-tells t .passed (l .1))
-
-  past1 : After1 t → recordOf t s ≡ from2 t s
+  past1 : After1 t → from1 t s ≡ from2 t s
   unfolding from1
-  past1 l = past8 (l .0) ∙ goes-on (sized (asked t)) (R.Length (s + 2)) (from2 t s) (sized-tells (asked t) .passed (l .1))
+  past1 l = goes-on (sized (asked t)) (R.Length (s + 2)) (from2 t s) (sized-tells (asked t) .passed l)
 
-  past2 : After2 t → recordOf t s ≡ from7 t s
+  past2 : After2 t → from1 t s ≡ from7 t s
   unfolding from2
   past2 l = past1 (l .0) ∙ goes-on (shaded (asked t)) (R.Shades (s + 3)) (from7 t s) (shaded-tells (asked t) .passed (l .1))
 
-  past7 : After7 t → recordOf t s ≡ from3 t s
+  past7 : After7 t → from1 t s ≡ from3 t s
   unfolding from7
   past7 l = past2 (l .0) ∙ goes-on (leb (4 + nOf t) (length t)) (R.Cut s) (from3 t s) (at-most-tells (4 + nOf t) (length t) .passed (l .1))
 
-  past3 : After3 t → recordOf t s ≡ from9 t s
+  past3 : After3 t → from1 t s ≡ from9 t s
   unfolding from3
   past3 l = past7 (l .0) ∙ goes-on (below (oneReading (sectorsOf t) (kOf t))) (R.Sector (s + 4 + firstBad (sectorsOf t) (λ j. kOf t))) (from9 t s) (below-tells (oneReading (sectorsOf t) (kOf t)) .passed (l .1))
 
-  -- a good record is not refused
-  pub whole-fixed : After9 t → recordOf t s ≡ none
+  -- where all is good nothing is refused
+  pub good-fixed : After9 t → from1 t s ≡ none
   unfolding from9
-  whole-fixed l = past3 (l .0) ∙ goes-on (necklace (sectorsOf t)) (R.NotHome (s + 4 + lookAt (sectorsOf t))) none (l .1)
+  good-fixed l = past3 (l .0) ∙ goes-on (necklace (sectorsOf t)) (R.NotHome (s + 4 + lookAt (sectorsOf t))) none (l .1)
 
   -- a record is refused as its sectors are
-  unfit-fixed : (r : Refusal) → After7 t → Unfit (sectorsOf t) (kOf t) s r → recordOf t s ≡ some r
+  unfit-fixed : (r : Refusal) → After7 t → Unfit (sectorsOf t) (kOf t) s r → from1 t s ≡ some r
   unfolding from3 from9
   unfit-fixed r l (sector i e f) =
       past7 l ∙ stops (below (oneReading (sectorsOf t) (kOf t))) (R.Sector (s + 4 + firstBad (sectorsOf t) (λ j. kOf t))) (from9 t s) (failed (below-tells (oneReading (sectorsOf t) (kOf t))) (bad-not-below (sectorsOf t) (λ j. kOf t) i f)) ∙ rw (first-bad-is (sectorsOf t) (λ j. kOf t) i f, e)
   unfit-fixed r l (notHome e b f) = past3 (l, b) ∙ stops (necklace (sectorsOf t)) (R.NotHome (s + 4 + lookAt (sectorsOf t))) none f ∙ rw e
 
+  -- a refusal of what stands behind the mark is the chain's
+  pub spoilt-fixed : (r : Refusal) → Spoilt t s r → from1 t s ≡ some r
+  unfolding from1 from2 from7
+  spoilt-fixed r (size e f) = stops (sized (asked t)) (R.Length (s + 2)) (from2 t s) (failed (sized-tells (asked t)) f) ∙ rw e
+  spoilt-fixed r (shades e l f) = past1 l ∙ stops (shaded (asked t)) (R.Shades (s + 3)) (from7 t s) (failed (shaded-tells (asked t)) f) ∙ rw e
+  spoilt-fixed r (body e l f) = past2 l ∙ stops (leb (4 + nOf t) (length t)) (R.Cut s) (from3 t s) (lt-leb (4 + nOf t) (length t) f) ∙ rw e
+  spoilt-fixed r (unfit l f) = unfit-fixed r l f
+
+-- the mark, and the head
+
+unfoldable pub from16 : List ℕ → ℕ → Option Refusal
+from16 t s = unless (begins t 0x46) (R.Retired s) (from1 t s)
+
+unfoldable pub from8 : List ℕ → ℕ → Option Refusal
+from8 t s = unless (begins t 0x46 || begins t 0x42) (R.Mark s) (from16 t s)
+
+unfoldable pub recordOf : List ℕ → ℕ → Option Refusal
+recordOf t s = unless (leb 4 (length t)) (R.Cut s) (from8 t s)
+
+module _ (t : List ℕ) (s : ℕ) where
+  past-head : AfterHead t → recordOf t s ≡ from8 t s
+  unfolding recordOf
+  past-head l = goes-on (leb 4 (length t)) (R.Cut s) (from8 t s) (at-most-tells 4 (length t) .passed l)
+
+  past8 : AfterHead t → (begins t 0x46 || begins t 0x42) ≡ true → recordOf t s ≡ from16 t s
+  unfolding from8
+  past8 l e = past-head l ∙ goes-on (begins t 0x46 || begins t 0x42) (R.Mark s) (from16 t s) e
+
+  past16 : AfterHead t → Known t → recordOf t s ≡ from1 t s
+  unfolding from16
+  past16 l k =
+      let e = begins-tells t 0x46 .passed (known-front t k) in
+      past8 l (either-left (begins t 0x46) (begins t 0x42) e) ∙ goes-on (begins t 0x46) (R.Retired s) (from1 t s) e
+
+  -- neither mark
+  neither : (Known t → ⊥) → (MarkedBack t → ⊥) → (begins t 0x46 || begins t 0x42) ≡ false
+  neither f g =
+      rw (failed (begins-tells t 0x46) (λ m. f (Front, m)), failed (begins-tells t 0x42) g)
+
+  -- the two marks differ
+  not-front : MarkedBack t → begins t 0x46 ≡ false
+  not-front m = failed (begins-tells t 0x46) (λ q. omega (arith, m .1, q .1))
+
+  -- a good record is not refused
+  pub whole-fixed : Known t → After9 t → recordOf t s ≡ none
+  whole-fixed k l = past16 (omega (arith, l .0 .0 .1)) k ∙ good-fixed t s l
+
   -- a refusal that is given is the chain's
   pub broken-fixed : (r : Refusal) → Broken t s r → recordOf t s ≡ some r
-  unfolding recordOf from8 from1 from2 from7
+  unfolding recordOf from8 from16
   broken-fixed r (head e l) = stops (leb 4 (length t)) (R.Cut s) (from8 t s) (lt-leb 4 (length t) l) ∙ rw e
-  broken-fixed r (mark e l f) = past-head l ∙ stops (known t) (R.Mark s) (from1 t s) (failed (known-tells t) f) ∙ rw e
-  broken-fixed r (size e l f) = past8 l ∙ stops (sized (asked t)) (R.Length (s + 2)) (from2 t s) (failed (sized-tells (asked t)) f) ∙ rw e
-  broken-fixed r (shades e l f) = past1 l ∙ stops (shaded (asked t)) (R.Shades (s + 3)) (from7 t s) (failed (shaded-tells (asked t)) f) ∙ rw e
-  broken-fixed r (body e l f) = past2 l ∙ stops (leb (4 + nOf t) (length t)) (R.Cut s) (from3 t s) (lt-leb (4 + nOf t) (length t) f) ∙ rw e
-  broken-fixed r (unfit l f) = unfit-fixed r l f
+  broken-fixed r (mark e l f g) = past-head l ∙ stops (begins t 0x46 || begins t 0x42) (R.Mark s) (from16 t s) (neither f g) ∙ rw e
+  broken-fixed r (retired e l m) =
+      past8 l (either-right (begins t 0x46) (begins t 0x42) (begins-tells t 0x42 .passed m)) ∙ stops (begins t 0x46) (R.Retired s) (from1 t s) (not-front m) ∙ rw e
+  broken-fixed r (spoilt l k b) = past16 l k ∙ spoilt-fixed t s r b
 
 -- ---- the answer
 
@@ -185,7 +212,7 @@ unfolding startEntry recordEntry orElse refusedOr
 fixed c s b (Record n k x next) d h =
     let t = drop s c in
     let g = h .2 in
-    roomy c s (length b) (h .0) ∙ inside c s (length b) (h .1) ∙ rw (whole-fixed t s (g .good), kind-is (getD t 1 0) x (g .marked .1)) (cc (g .sectors, g .shades, g .follows))
+    roomy c s (length b) (h .0) ∙ inside c s (length b) (h .1) ∙ rw (whole-fixed t s (x, g .marked) (g .good), kind-is (getD t 1 0) x (g .marked .1)) (cc (g .sectors, g .shades, g .follows))
 fixed c s b End d h =
     roomy c s (length b) (h .0) ∙ rw (le-leb s (length c) (omega arith), le-ltb s (length c) (omega arith))
 fixed c s b (Refused r) d h = refused-fixed c s (length b) r (h .0)

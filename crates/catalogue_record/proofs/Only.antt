@@ -1,4 +1,5 @@
 -- What the reader looks at: the start, the output, and of the catalogue no more than the 68 bytes from the start on, since a record's head has 4 and n is at most 64.
+--     drop-take              what is left of a beginning is a beginning of what is left
 --     opening t              those bytes of a part t
 --     opening-record, opening-broken    the record that t begins with is good, or refused, exactly as it is there
 --     trimmed                the answer is that for a catalogue of these bytes, with anything before them
@@ -16,15 +17,16 @@ use Rattle.refusal.specs.declared.Refusal.the-variants.{Cut}
 use Rattle.catalogue_record.specs.declared.Kind.{Kind}
 use Rattle.catalogue_record.specs.declared.Entry.{Entry}
 use Rattle.catalogue_record.specs.declared.Entry.the-variants.{Record, End, Refused}
-use Rattle.catalogue_record.specs.Layout.{nOf, kOf, sectorsOf}
-use Rattle.catalogue_record.specs.Order.{Known, After8, After1, After2, After7, After9, Broken, RefusedAt}
-use Rattle.catalogue_record.specs.Order.Broken.{head, mark, size, shades, body, unfit}
+use Rattle.catalogue_record.specs.Layout.{MarkedBack, nOf, kOf, sectorsOf}
+use Rattle.catalogue_record.specs.Order.{Known, AfterHead, After1, After2, After7, After9, Spoilt, Broken, RefusedAt}
+use Rattle.catalogue_record.specs.Order.Spoilt.{size, shades, body, unfit}
+use Rattle.catalogue_record.specs.Order.Broken.{head, mark, retired, spoilt}
 use Rattle.catalogue_record.specs.Order.RefusedAt.{room, past, broken}
 use Rattle.catalogue_record.specs.Says.{Read, ReadSays}
 use Rattle.catalogue_record.proofs.Unique.{one-read}
 
 -- what is left of a beginning is a beginning of what is left
-drop-take : (m n : ℕ) (l : List ℕ) → drop m (take (m + n) l) ≡ take n (drop m l)
+pub drop-take : (m n : ℕ) (l : List ℕ) → drop m (take (m + n) l) ≡ take n (drop m l)
 drop-take zero n l = let e : 0 + n ≡ n = omega arith in rw e
 drop-take (suc m) n [] = let e : suc m + n ≡ suc (m + n) = omega arith in rw e (none n)
   where
@@ -58,11 +60,17 @@ module _ (t : List ℕ) where
   known-here : Known (opening t) → Known t
   known-here k = (k .0, rw (at 0 (omega arith), at 1 (omega arith)) at (k .1))
 
-  after8 : After8 t → After8 (opening t)
-  after8 h = (simp length-take (omega arith), known-there (h .1))
+  back-there : MarkedBack t → MarkedBack (opening t)
+  back-there m = rw (at 0 (omega arith), at 1 (omega arith)) m
+
+  back-here : MarkedBack (opening t) → MarkedBack t
+  back-here m = rw (at 0 (omega arith), at 1 (omega arith)) at m
+
+  after-head : AfterHead t → AfterHead (opening t)
+  after-head h = simp length-take (omega arith)
 
   after1 : After1 t → After1 (opening t)
-  after1 h = (after8 (h .0), rw same-n (h .1))
+  after1 h = rw same-n h
 
   after2 : After2 t → After2 (opening t)
   after2 h = (after1 (h .0), rw same-k (h .1))
@@ -84,17 +92,22 @@ module _ (t : List ℕ) where
         sectors = f .sectors ∙ sym same-n;
         shades = f .shades ∙ sym same-k;
         follows = f .follows;
-        ring = rw (same-sectors (omega (arith, f .good .0 .0 .0 .0 .1 .1))) (f .ring);
+        ring = rw (same-sectors (omega (arith, f .good .0 .0 .0 .0 .1))) (f .ring);
       }
+
+  -- what stands behind the mark is refused so there
+  opening-spoilt : (s : ℕ) (r : Refusal) → Spoilt t s r → Spoilt (opening t) s r
+  opening-spoilt s r (size e k) = size e (rw same-n k)
+  opening-spoilt s r (shades e h k) = shades e (after1 h) (rw same-k k)
+  opening-spoilt s r (body e h k) = body e (after2 h) (rw (same-n, length-take) (omega arith))
+  opening-spoilt s r (unfit h u) = unfit (after7 h) (rw (same-k, same-sectors (omega arith)) u)
 
   -- a record that is refused is refused so there
   pub opening-broken : (s : ℕ) (r : Refusal) → Broken t s r → Broken (opening t) s r
   opening-broken s r (head e h) = head e (rw length-take (omega arith))
-  opening-broken s r (mark e h k) = mark e (simp length-take (omega arith)) (λ q. k (known-here q))
-  opening-broken s r (size e h k) = size e (after8 h) (rw same-n k)
-  opening-broken s r (shades e h k) = shades e (after1 h) (rw same-k k)
-  opening-broken s r (body e h k) = body e (after2 h) (rw (same-n, length-take) (omega arith))
-  opening-broken s r (unfit h u) = unfit (after7 h) (rw (same-k, same-sectors (omega arith)) u)
+  opening-broken s r (mark e h k m) = mark e (after-head h) (λ q. k (known-here q)) (λ q. m (back-here q))
+  opening-broken s r (retired e h m) = retired e (after-head h) (back-there m)
+  opening-broken s r (spoilt h k u) = spoilt (after-head h) (known-there k) (opening-spoilt s r u)
 
 -- ---- any catalogue
 

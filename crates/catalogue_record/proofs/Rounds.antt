@@ -16,6 +16,7 @@ use lib.Seq.{take-at}
 use Rattle.words.specs.Readings.{Sized, Shaded, Reading}
 use Rattle.rings.specs.Necklace.{necklace}
 use Rattle.rings.specs.Home.{home}
+use Rattle.home_laws.proofs.Home.{length-home, home-reading, home-necklace, necklace-home}
 use Rattle.refusal.specs.Order.{Below, Passed}
 use Rattle.refusal.specs.Calls.{oneReading}
 use Rattle.catalogue_record.specs.declared.Kind.{Kind}
@@ -23,12 +24,12 @@ use Rattle.catalogue_record.specs.declared.Entry.{Entry}
 use Rattle.catalogue_record.specs.declared.Entry.the-variants.{Record}
 use Rattle.catalogue_record.specs.declared.Written.{Written}
 use Rattle.catalogue_record.specs.declared.Written.the-variants.{After}
-use Rattle.catalogue_record.specs.Layout.{nOf, kOf, sectorsOf, frontRing, storedRing}
+use Rattle.catalogue_record.specs.Layout.{sectorsOf}
 use Rattle.catalogue_record.specs.Says.{Read, ReadSays}
 use Rattle.catalogue_record.specs.Writes.{Wrote, WriteSays}
 use Rattle.catalogue_record.proofs.Unique.{one-read}
 use Rattle.catalogue_record.proofs.Laws.{length-sectors, output-front}
-use Rattle.catalogue_record.proofs.Laid.{length-stored, stored-necklace, stored-reading, front-stored, stored-front, length-front, front-reading, bytes, laid-sectors, whole}
+use Rattle.catalogue_record.proofs.Laid.{laid-sectors, whole}
 use Rattle.catalogue_record.proofs.Wrote.{recordBytes, length-record, placed-bytes, bytes-placed, one-write}
 
 -- ---- a reading of good numbers
@@ -42,19 +43,19 @@ reading-passed w k n z h r = ((((((rw (r .long) z, tt), h), λ i l. r .shades i 
 reads-here : (w : List ℕ) (k : ℕ) (x : Kind) (z : List ℕ) (p : ℕ) (o : List ℕ) → Passed (oneReading w k) → Read (recordBytes x k w ++ z) p o (length w) k x (p + 4 + length w) (home w ++ drop (length w) o)
 reads-here w k x z p o g =
     record {
-      good = ((((((omega (arith, long), (x, (refl, refl))), g .0 .0 .0 .0 .0 .0), g .0 .0 .0 .0 .1), omega (arith, long)), below), home);
+      good = ((((g .0 .0 .0 .0 .0 .0, g .0 .0 .0 .0 .1), omega (arith, long)), below), least);
       marked = (refl, refl);
       sectors = refl;
       shades = refl;
       follows = refl;
-      ring = ap (λ (v : List ℕ). v ++ drop (length w) o) (sym (ap (frontRing x) here ∙ front-stored w some x));
+      ring = ap (λ (v : List ℕ). v ++ drop (length w) o) (sym here);
     }
   where
     some : 0 < length w
     some = g .0 .0 .0 .0 .0 .0 .0
 
-    here : sectorsOf (recordBytes x k w ++ z) ≡ storedRing x w
-    here = laid-sectors x (length w) k (storedRing x w) z (length-stored w some x)
+    here : sectorsOf (recordBytes x k w ++ z) ≡ home w
+    here = laid-sectors x (length w) k (home w) z (length-home w some)
 
     long : length (recordBytes x k w ++ z) ≡ 4 + length w + length z
     long = omega (arith, length-append (recordBytes x k w) z, length-record w k x some)
@@ -62,10 +63,10 @@ reads-here w k x z p o g =
     below : Below (oneReading (sectorsOf (recordBytes x k w ++ z)) k)
     below =
         subst (λ (v : List ℕ). Below (oneReading v k)) (sym here)
-        (λ i l. stored-reading w some x (length w) k (record { long = refl; shades = g .0 .0 .0 .1 }) .shades i (omega (arith, length-stored w some x)))
+        (λ i l. home-reading w some (length w) k (record { long = refl; shades = g .0 .0 .0 .1 }) .shades i (omega (arith, length-home w some)))
 
-    home : necklace (sectorsOf (recordBytes x k w ++ z)) ≡ true
-    home = ap necklace here ∙ stored-necklace w some x
+    least : necklace (sectorsOf (recordBytes x k w ++ z)) ≡ true
+    least = ap necklace here ∙ home-necklace w some
 
 module _ (w : List ℕ) (k : ℕ) (x : Kind) (b : List ℕ) (p e : ℕ) (d : List ℕ) (h : Wrote w k x b p e d) where
   -- the record stands at p
@@ -96,14 +97,14 @@ module _ (c : List ℕ) (s : ℕ) (b : List ℕ) (n k : ℕ) (x : Kind) (next : 
   long = length-sectors (drop s c) (h .2 .good .0 .0 .1) ∙ sym (h .2 .sectors)
 
   some : 0 < length body
-  some = omega (arith, long, h .2 .sectors, h .2 .good .0 .0 .0 .0 .1 .0)
+  some = omega (arith, long, h .2 .sectors, h .2 .good .0 .0 .0 .0 .0)
 
-  front : take n d ≡ frontRing x body
+  front : take n d ≡ body
   front = output-front c s b n k x next d h
 
   -- what was answered has n sectors
   pub length-answer : length (take n d) ≡ n
-  length-answer = ap (λ (v : List ℕ). length v) front ∙ length-front body some x ∙ long
+  length-answer = ap (λ (v : List ℕ). length v) front ∙ long
 
   someFront : 0 < length (take n d)
   someFront = omega (arith, length-answer, some, long)
@@ -111,8 +112,8 @@ module _ (c : List ℕ) (s : ℕ) (b : List ℕ) (n k : ℕ) (x : Kind) (next : 
   -- the catalogue from s on
   split : drop s c ≡ recordBytes x k (take n d) ++ drop (4 + length (take n d)) (drop s c)
   split =
-      whole x (drop s c) (length (take n d)) k (storedRing x (take n d)) (h .2 .good .0 .0 .0 .0 .0 .0) (h .2 .marked) (length-answer ∙ h .2 .sectors) (h .2 .shades)
-      (ap (storedRing x) front ∙ stored-front body some x (h .2 .good .1))
+      whole x (drop s c) (length (take n d)) k (home (take n d)) (omega (arith, h .2 .good .0 .0 .1)) (h .2 .marked) (length-answer ∙ h .2 .sectors) (h .2 .shades)
+      (ap home front ∙ necklace-home body some (h .2 .good .1))
 
   -- the record of what was answered has 4 + n bytes
   length-again : length (recordBytes x k (take n d)) ≡ 4 + n
@@ -134,8 +135,8 @@ module _ (c : List ℕ) (s : ℕ) (b : List ℕ) (n k : ℕ) (x : Kind) (next : 
   pub answer-passes : Passed (oneReading (take n d) k)
   answer-passes =
       rw front
-      (reading-passed (frontRing x body) k n (rw (h .2 .sectors) (h .2 .good .0 .0 .0 .0 .1)) (rw (h .2 .shades) (h .2 .good .0 .0 .0 .1))
-      (front-reading body some x n k (record { long = long; shades = λ i l. rw (h .2 .shades) (h .2 .good .0 .1 i (omega (arith, long))) })))
+      (reading-passed body k n (rw (h .2 .sectors) (h .2 .good .0 .0 .0 .0)) (rw (h .2 .shades) (h .2 .good .0 .0 .0 .1))
+      (record { long = long; shades = λ i l. rw (h .2 .shades) (h .2 .good .0 .1 i (omega (arith, long))) }))
 
   -- what the writer may answer
   pub read-writes : WriteSays (take n d) k x c s (After next) c

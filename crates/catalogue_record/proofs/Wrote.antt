@@ -10,6 +10,8 @@ use mathlib.Core.List.{List, _++_}
 use native.Mathlib.Omega.{arith}
 use lib.ListN.{length, take, drop, length-take, length-drop, take-append-drop}
 use lib.Seq.{drop-at}
+use Rattle.rings.specs.Home.{home}
+use Rattle.home_laws.proofs.Home.{length-home}
 use Rattle.refusal.specs.declared.Refusal.{Refusal}
 use Rattle.refusal.specs.Order.{Passed}
 use Rattle.refusal.specs.Calls.{oneReading}
@@ -17,27 +19,27 @@ use Rattle.refusal.proofs.Unique.{one-refusal, never-both}
 use Rattle.catalogue_record.specs.declared.Kind.{Kind}
 use Rattle.catalogue_record.specs.declared.Written.{Written}
 use Rattle.catalogue_record.specs.declared.Written.the-variants.{After, Refused}
-use Rattle.catalogue_record.specs.Layout.{nOf, kOf, sectorsOf, storedRing}
+use Rattle.catalogue_record.specs.Layout.{nOf, kOf, sectorsOf}
 use Rattle.catalogue_record.specs.Writes.{Unwritten, Placed, Wrote, WriteSays}
 use Rattle.catalogue_record.specs.Writes.Unwritten.{reading, cut}
-use Rattle.catalogue_record.proofs.Laid.{length-stored, bytes, laid-sectors, whole}
+use Rattle.catalogue_record.proofs.Laid.{bytes, laid-sectors, whole}
 
 -- the record of a reading
 abbrev pub recordBytes : Kind → ℕ → List ℕ → List ℕ
-recordBytes x k w = bytes x (length w) k (storedRing x w)
+recordBytes x k w = bytes x (length w) k (home w)
 
 module _ (w : List ℕ) (k : ℕ) (x : Kind) (z : 0 < length w) where
   pub length-record : length (recordBytes x k w) ≡ 4 + length w
-  length-record = omega (arith, length-stored w z x)
+  length-record = omega (arith, length-home w z)
 
   -- the part that begins at the place
   pub placed-bytes : (t u : List ℕ) → Placed w k x t u → u ≡ recordBytes x k w ++ drop (4 + length w) t
   placed-bytes t u h =
-      whole x u (length w) k (storedRing x w) (omega (arith, long, length-take (nOf u) (drop 4 u), length-drop 4 u)) (h .marked) (h .sectors) (h .shades) (h .ring)
+      whole x u (length w) k (home w) (omega (arith, long, length-take (nOf u) (drop 4 u), length-drop 4 u)) (h .marked) (h .sectors) (h .shades) (h .ring)
       ∙ ap (λ (v : List ℕ). recordBytes x k w ++ v) (h .behind)
     where
       long : length (sectorsOf u) ≡ length w
-      long = ap (λ (v : List ℕ). length v) (sym (h .ring)) ∙ length-stored w z x
+      long = ap (λ (v : List ℕ). length v) (sym (h .ring)) ∙ length-home w z
 
   -- the other way round
   pub bytes-placed : (t u : List ℕ) → u ≡ recordBytes x k w ++ drop (4 + length w) t → Placed w k x t u
@@ -47,7 +49,7 @@ module _ (w : List ℕ) (k : ℕ) (x : Kind) (z : 0 < length w) where
         marked = (refl, refl);
         sectors = refl;
         shades = refl;
-        ring = sym (laid-sectors x (length w) k (storedRing x w) (drop (4 + length w) t) (length-stored w z x));
+        ring = sym (laid-sectors x (length w) k (home w) (drop (4 + length w) t) (length-home w z));
         behind = drop-at (recordBytes x k w) (drop (4 + length w) t) (4 + length w) length-record;
       })
 

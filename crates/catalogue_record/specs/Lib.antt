@@ -1,5 +1,5 @@
--- Catalogue records (01, 'Catalogue records'), read from top to bottom.
---     Layout    how a record lies in a catalogue, its marks, its front ring, and what it stores of a ring
+-- Catalogue records (01, 'Catalogue records'; 02, a and j), read from top to bottom.
+--     Layout    how a record lies in a catalogue, and its marks
 --     Order     the record reader's own order of checks, and when each refusal is given
 --     Says      what the reader promises
 --     Writes    what the writer promises

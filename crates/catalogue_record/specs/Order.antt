@@ -1,10 +1,12 @@
--- The record reader's order of checks (01, 'Refusal numbers'): 4; 7 of the start, then End, then 7 of the head; 8, 1, 2; 7 of the body; 3, 9.
+-- The record reader's order of checks (01, 'Refusal numbers'; 02, j): 4; 7 of the start, then End, then 7 of the head; 8, 16, 1, 2; 7 of the body; 3, 9.
 -- And when each refusal is given, with its place in the whole catalogue.
 -- c is the catalogue, s the start, m the length of the output; t is the part of the catalogue that begins at the start.
 --     Known t                 t begins with a known mark
---     AfterHead t .. After9 t    the checks of the record up to that one have passed
+--     AfterHead t             7 of the head has passed
+--     After1 t .. After9 t    the checks of what stands behind the mark have passed up to that one
 --     Unfit w k s r           the sectors w of a record of k shades are refused with r: 3, 9
---     Broken t s r            the record is refused with r: 7 (head), 8, 1, 2, 7 (body), and then its sectors
+--     Spoilt t s r            what stands behind the mark is refused with r: 1, 2, 7 (body), and then the sectors
+--     Broken t s r            the record is refused with r: 7 (head), 8, 16, and then what stands behind the mark
 --     RefusedAt c s m r       the call is refused with r: 4, 7 (start), and then, past End, the record
 -- That no call is given two refusals, nor a refusal and another answer: proofs/Unique. Assumes nothing.
 use Prim.Native.Nat.{ℕ, _+_, _<_, _≤_}
@@ -16,13 +18,13 @@ use Rattle.words.specs.Readings.{Sized, Shaded}
 use Rattle.rings.specs.Necklace.{necklace}
 use Rattle.rings.specs.Class.{lookAt}
 use Rattle.refusal.specs.declared.Refusal.{Refusal}
-use Rattle.refusal.specs.declared.Refusal.the-variants.{Length, Shades, Sector, Room, Cut, Mark, NotHome}
+use Rattle.refusal.specs.declared.Refusal.the-variants.{Length, Shades, Sector, Room, Cut, Mark, NotHome, Retired}
 use Rattle.refusal.specs.Order.{Below, FirstBad}
 use Rattle.refusal.specs.Calls.{oneReading}
 use Rattle.catalogue_record.specs.declared.Kind.{Kind}
-use Rattle.catalogue_record.specs.Layout.{Marked, nOf, kOf, sectorsOf}
+use Rattle.catalogue_record.specs.Layout.{Marked, MarkedBack, nOf, kOf, sectorsOf}
 
--- t begins with one of the marks
+-- t begins with a mark that is known and not retired
 abbrev pub Known : List ℕ → Type 0
 Known t = (x : Kind) × Marked t x
 
@@ -32,11 +34,10 @@ Known t = (x : Kind) × Marked t x
 abbrev pub AfterHead : List ℕ → Type 0
 AfterHead t = 4 ≤ length t
 
-abbrev pub After8 : List ℕ → Type 0
-After8 t = AfterHead t × Known t
+-- behind the mark
 
 abbrev pub After1 : List ℕ → Type 0
-After1 t = After8 t × Sized (nOf t)
+After1 t = Sized (nOf t)
 
 abbrev pub After2 : List ℕ → Type 0
 After2 t = After1 t × Shaded (kOf t)
@@ -59,14 +60,19 @@ pub data Unfit (w : List ℕ) (k s : ℕ) (r : Refusal) : Type 0 where
   -- at the sector to look at among those that are stored, under either mark (02, b)
   notHome : r ≡ NotHome (s + 4 + lookAt w) → Below (oneReading w k) → necklace w ≡ false → Unfit w k s r
 
+-- what stands behind the mark of the record at s
+pub data Spoilt (t : List ℕ) (s : ℕ) (r : Refusal) : Type 0 where
+  size : r ≡ Length (s + 2) → (Sized (nOf t) → ⊥) → Spoilt t s r
+  shades : r ≡ Shades (s + 3) → After1 t → (Shaded (kOf t) → ⊥) → Spoilt t s r
+  body : r ≡ Cut s → After2 t → length t < 4 + nOf t → Spoilt t s r
+  unfit : After7 t → Unfit (sectorsOf t) (kOf t) s r → Spoilt t s r
+
 -- the record at s
 pub data Broken (t : List ℕ) (s : ℕ) (r : Refusal) : Type 0 where
   head : r ≡ Cut s → length t < 4 → Broken t s r
-  mark : r ≡ Mark s → AfterHead t → (Known t → ⊥) → Broken t s r
-  size : r ≡ Length (s + 2) → After8 t → (Sized (nOf t) → ⊥) → Broken t s r
-  shades : r ≡ Shades (s + 3) → After1 t → (Shaded (kOf t) → ⊥) → Broken t s r
-  body : r ≡ Cut s → After2 t → length t < 4 + nOf t → Broken t s r
-  unfit : After7 t → Unfit (sectorsOf t) (kOf t) s r → Broken t s r
+  mark : r ≡ Mark s → AfterHead t → (Known t → ⊥) → (MarkedBack t → ⊥) → Broken t s r
+  retired : r ≡ Retired s → AfterHead t → MarkedBack t → Broken t s r
+  spoilt : AfterHead t → Known t → Spoilt t s r → Broken t s r
 
 -- the call
 pub data RefusedAt (c : List ℕ) (s m : ℕ) (r : Refusal) : Type 0 where

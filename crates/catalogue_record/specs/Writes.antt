@@ -9,6 +9,7 @@ use Prim.Native.Nat.{ℕ, _+_, _<_, _≤_}
 use mathlib.Core.Path.{_≡_}
 use mathlib.Core.List.{List}
 use lib.ListN.{length, take, drop}
+use Rattle.rings.specs.Home.{home}
 use Rattle.refusal.specs.declared.Refusal.{Refusal}
 use Rattle.refusal.specs.declared.Refusal.the-variants.{Cut}
 use Rattle.refusal.specs.Order.{Given, Passed}
@@ -16,7 +17,7 @@ use Rattle.refusal.specs.Calls.{oneReading}
 use Rattle.catalogue_record.specs.declared.Kind.{Kind}
 use Rattle.catalogue_record.specs.declared.Written.{Written}
 use Rattle.catalogue_record.specs.declared.Written.the-variants.{After, Refused}
-use Rattle.catalogue_record.specs.Layout.{Marked, nOf, kOf, sectorsOf, storedRing}
+use Rattle.catalogue_record.specs.Layout.{Marked, nOf, kOf, sectorsOf}
 
 -- the checks of the reading, and then whether the buffer has 4 + n bytes from the place on; past its end it has none
 pub data Unwritten (w : List ℕ) (k : ℕ) (t : List ℕ) (p : ℕ) (r : Refusal) : Type 0 where
@@ -28,7 +29,7 @@ pub record Placed (w : List ℕ) (k : ℕ) (x : Kind) (t u : List ℕ) : Type 0 
   pub marked : Marked u x
   pub sectors : length w ≡ nOf u
   pub shades : k ≡ kOf u
-  pub ring : storedRing x w ≡ sectorsOf u
+  pub ring : home w ≡ sectorsOf u
   pub behind : drop (4 + length w) u ≡ drop (4 + length w) t
 
 -- the record was written

@@ -2,20 +2,19 @@
 
 use refusal::Refusal;
 
-// The mark: its first byte, and its second byte in a front and in a back record.
+// The mark: its first byte, its second byte in a front record, and that of a back record, which is retired (02, j).
 pub const MARK: u8 = b'R';
 
 pub const FRONT_MARK: u8 = b'F';
 
-pub const BACK_MARK: u8 = b'B';
+pub const RETIRED_MARK: u8 = b'B';
 
 // The bytes before the sectors: the mark, n and k.
 pub const HEAD: usize = 4;
 
-// The mark's kind: from which side the stored ring is seen.
+// The mark's kind: the ring is seen from the front.
 pub enum Kind {
     Front,
-    Back,
 }
 
 // What reading a record answers; the front ring itself is written to the output.

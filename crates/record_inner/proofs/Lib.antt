@@ -1,2 +1,2 @@
--- The head of a record, from the contracts of the checks and of reading the sectors (Heads).
+-- What stands behind a record's mark, from the contracts of the checks (Heads).
 pub mod Heads

@@ -1,10 +1,10 @@
--- The number and the place of each refusal (01, 'Refusal numbers': the columns 'No.' and 'Place'; 02, g, i).
---     numberOf r    its number, 1 to 15
+-- The number and the place of each refusal (01, 'Refusal numbers': the columns 'No.' and 'Place'; 02, g, i, j).
+--     numberOf r    its number, 1 to 16
 --     placeOf r     its place; 0 for a case that carries none
 -- Assumes nothing.
 use Prim.Native.Nat.{ℕ}
 use Rattle.refusal.specs.declared.Refusal.{Refusal}
-use Rattle.refusal.specs.declared.Refusal.the-variants.{Length, Shades, Sector, Room, OffWalk, Counts, Cut, Mark, NotHome, Pair, Line, TooMany, Set, Card, Unreadable}
+use Rattle.refusal.specs.declared.Refusal.the-variants.{Length, Shades, Sector, Room, OffWalk, Counts, Cut, Mark, NotHome, Pair, Line, TooMany, Set, Card, Unreadable, Retired}
 
 abbrev pub numberOf : Refusal → ℕ
 numberOf (Length p) = 1
@@ -22,6 +22,7 @@ numberOf TooMany = 12
 numberOf Set = 13
 numberOf Card = 14
 numberOf (Unreadable p) = 15
+numberOf (Retired p) = 16
 
 abbrev pub placeOf : Refusal → ℕ
 placeOf (Length p) = p
@@ -39,3 +40,4 @@ placeOf TooMany = 0
 placeOf Set = 0
 placeOf Card = 0
 placeOf (Unreadable p) = p
+placeOf (Retired p) = p

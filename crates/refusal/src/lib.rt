@@ -19,6 +19,7 @@ pub enum Refusal {
     Set,
     Card,
     Unreadable(usize),
+    Retired(usize),
 }
 
 pub enum Checked {
@@ -45,6 +46,7 @@ pub fn number(r: Refusal) -> usize
         Refusal::Set => 13,
         Refusal::Card => 14,
         Refusal::Unreadable(_) => 15,
+        Refusal::Retired(_) => 16,
     }
 }
 
@@ -67,5 +69,6 @@ pub fn place(r: Refusal) -> usize
         Refusal::Set => 0,
         Refusal::Card => 0,
         Refusal::Unreadable(p) => p,
+        Refusal::Retired(p) => p,
     }
 }

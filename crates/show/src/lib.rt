@@ -55,6 +55,16 @@ pub fn output(out: &[u8]) {
     sectors(out);
 }
 
+// Bytes, two lower-case hexadecimal digits each.
+pub fn bytes(s: &[u8]) {
+    let mut i = 0;
+    while i < s.len() {
+        let x = s[i];
+        text(&[digit(x / 16), digit(x % 16)]);
+        i += 1;
+    }
+}
+
 // A class by its name, with its place, lyn or period.
 pub fn class(c: Class) {
     match c {

@@ -1,6 +1,7 @@
 -- The record at the front of a part of a buffer, from its head and its sectors.
 --     laid      the head is written, and the sectors behind it: a record's bytes
 --     placed    so the record stands there
+--     front-byte    the second byte of the one known mark
 -- Assumes nothing.
 use Prim.Native.Nat.{ℕ, _+_, _-_, _<_, _≤_}
 use mathlib.Core.Path.{_≡_, refl, ap, _∙_}
@@ -8,8 +9,10 @@ use mathlib.Core.List.{List, [], _∷_, _++_}
 use native.Mathlib.Omega.{arith}
 use lib.ListN.{length, take, drop}
 use lib.Seq.{drop-drop}
+use Rattle.rings.specs.Home.{home}
 use Rattle.catalogue_record.specs.declared.Kind.{Kind}
-use Rattle.catalogue_record.specs.Layout.{secondByte, storedRing}
+use Rattle.catalogue_record.specs.declared.Kind.the-variants.{Front}
+use Rattle.catalogue_record.specs.Layout.{secondByte}
 use Rattle.catalogue_record.specs.Writes.{Placed}
 use Rattle.catalogue_record.proofs.Laid.{bytes}
 use Rattle.catalogue_record.proofs.Wrote.{bytes-placed}
@@ -24,11 +27,15 @@ laid (a ∷ (b ∷ (c ∷ []))) x n k m v h = absurd (omega arith)
 laid (a ∷ (b ∷ (c ∷ (d ∷ t)))) x n k m v h = refl
 
 -- the record stands there
-pub placed : (w : List ℕ) (k : ℕ) (x : Kind) (t h v u : List ℕ) (c : ℕ) → 0 < length w → 4 + length w ≤ length t → c ≡ secondByte x → h ≡ headed t c (length w) k → v ≡ storedRing x w →
+pub placed : (w : List ℕ) (k : ℕ) (x : Kind) (t h v u : List ℕ) (c : ℕ) → 0 < length w → 4 + length w ≤ length t → c ≡ secondByte x → h ≡ headed t c (length w) k → v ≡ home w →
     u ≡ take 4 h ++ (v ++ drop (4 + length w - 4) (drop 4 h)) → Placed w k x t u
 placed w k x t h v u c z l q e s f = bytes-placed w k x z t u (rw (f, e, q, s) there)
   where
-    there : take 4 (headed t (secondByte x) (length w) k) ++ (storedRing x w ++ drop (4 + length w - 4) (drop 4 (headed t (secondByte x) (length w) k))) ≡ bytes x (length w) k (storedRing x w) ++ drop (4 + length w) t
+    there : take 4 (headed t (secondByte x) (length w) k) ++ (home w ++ drop (4 + length w - 4) (drop 4 (headed t (secondByte x) (length w) k))) ≡ bytes x (length w) k (home w) ++ drop (4 + length w) t
     there =
         let m : 4 + length w - 4 ≡ length w = omega arith in
-        laid t x (length w) k (4 + length w - 4) (storedRing x w) (omega arith) ∙ ap (λ (i : ℕ). bytes x (length w) k (storedRing x w) ++ drop i (drop 4 t)) m ∙ ap (λ (r : List ℕ). bytes x (length w) k (storedRing x w) ++ r) (drop-drop (length w) 4 t)
+        laid t x (length w) k (4 + length w - 4) (home w) (omega arith) ∙ ap (λ (i : ℕ). bytes x (length w) k (home w) ++ drop i (drop 4 t)) m ∙ ap (λ (r : List ℕ). bytes x (length w) k (home w) ++ r) (drop-drop (length w) 4 t)
+
+-- the second byte of the one known mark
+pub front-byte : (x : Kind) → 0x46 ≡ secondByte x
+front-byte Front = refl

@@ -1,7 +1,6 @@
 // A record written at the front of a part of a buffer, which has room for it: its head, and its sectors behind it. No public calls: `writer` checks what these
 // ask for.
 
-use catalogue_record::BACK_MARK;
 use catalogue_record::FRONT_MARK;
 use catalogue_record::HEAD;
 use catalogue_record::Kind;
@@ -23,7 +22,7 @@ pub fn put_record(reading: &[u8], k: usize, kind: Kind, rest: &mut [u8])
     let n = reading.len();
     let e = HEAD + n;
     put_head(rest, second_byte(kind), n, k);
-    stored_inner::put_sectors(reading, kind, &mut rest[HEAD..e]);
+    stored_inner::put_home(reading, &mut rest[HEAD..e]);
 }
 
 // Writes the head: the mark, n and k.
@@ -43,6 +42,5 @@ fn second_byte(kind: Kind) -> u8
 {
     match kind {
         Kind::Front => FRONT_MARK,
-        Kind::Back => BACK_MARK,
     }
 }

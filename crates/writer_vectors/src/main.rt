@@ -1,7 +1,7 @@
-// Records written, and each read back from where it was written: document 01's two records, rings that are even-handed and rings that are not in both kinds, records one
-// behind the other, buffers that just fit and that are a byte short, the bounds of n and k, places past the end and the greatest one, and each refusal. The expected
+// Records written, and each read back from where it was written: document 01's front record, rings that are even-handed and rings that are not, records one behind the
+// other, buffers that just fit and that are a byte short, the bounds of n and k, places past the end and the greatest one, and each refusal. The expected
 // text, stdout, is written from the documents.
-// The cases are the lines of stdin: `put`, a kind, k, the place, a reading, and the buffer in hexadecimal digits; `say` and a heading.
+// The cases are the lines of stdin: `put`, k, the place, a reading, and the buffer in hexadecimal digits; `say` and a heading.
 
 use catalogue::Entry;
 use writer::Kind;
@@ -9,43 +9,15 @@ use writer::Written;
 
 // ---- printing
 
-// The digit of a number below 16.
-fn digit(x: u8) -> u8 {
-    if x < 10 {
-        return b'0' + x;
-    }
-    b'a' + x % 16 - 10
-}
-
-// Bytes, two hexadecimal digits each.
-fn print_bytes(s: &[u8]) {
-    let mut i = 0;
-    while i < s.len() {
-        let x = s[i];
-        show::text(&[digit(x / 16), digit(x % 16)]);
-        i += 1;
-    }
-}
-
-fn print_kind(x: Kind) {
-    match x {
-        Kind::Front => show::text(b", read front"),
-        Kind::Back => show::text(b", read back"),
-    }
-}
-
 fn print_numbers(n: usize, k: usize, next: usize) {
-    show::named(b" n ", n);
+    show::named(b", read n ", n);
     show::named(b" k ", k);
     show::named(b" next ", next);
 }
 
 fn print_entry(r: Entry) {
     match r {
-        Entry::Record { n, k, kind, next } => {
-            print_kind(kind);
-            print_numbers(n, k, next);
-        }
+        Entry::Record { n, k, next, .. } => print_numbers(n, k, next),
         Entry::End => show::text(b", end"),
         Entry::Refused(r) => show::refused(r),
     }
@@ -67,28 +39,21 @@ fn print_written(r: Written, buffer: &[u8], at: usize) {
         Written::After(e) => {
             show::named(b"after ", e);
             show::text(b": ");
-            print_bytes(buffer);
+            show::bytes(buffer);
             read_back(buffer, at);
         }
         Written::Refused(r) => {
             show::refused(r);
             show::text(b": ");
-            print_bytes(buffer);
+            show::bytes(buffer);
         }
     }
     show::newline();
 }
 
-fn put(reading: &[u8], k: usize, kind: Kind, buffer: &mut [u8], at: usize) {
-    let r = writer::write_record(reading, k, kind, buffer, at);
+fn put(reading: &[u8], k: usize, buffer: &mut [u8], at: usize) {
+    let r = writer::write_record(reading, k, Kind::Front, buffer, at);
     print_written(r, buffer, at);
-}
-
-fn kind_of(letter: u8) -> Kind {
-    if letter == b'f' {
-        return Kind::Front;
-    }
-    Kind::Back
 }
 
 // One line.
@@ -103,14 +68,13 @@ fn run(line: &[u8]) {
     }
     let mut reading = [0u8; 65];
     let mut buffer = [0u8; 128];
-    let n = cases::sectors(line, 4, &mut reading);
-    let m = cases::bytes(line, 5, &mut buffer);
+    let n = cases::sectors(line, 3, &mut reading);
+    let m = cases::bytes(line, 4, &mut buffer);
     put(
         &reading[..n],
-        cases::number(line, 2),
-        kind_of(line[4]),
+        cases::number(line, 1),
         &mut buffer[..m],
-        cases::number(line, 3),
+        cases::number(line, 2),
     );
 }
 

@@ -1,9 +1,9 @@
--- `writer_vectors::print_bytes` is safe and ends: each turn leaves a byte less. Assumes nothing.
+-- `show::bytes` is safe and ends: each turn leaves a byte less. Assumes nothing.
 use Prim.Native.Nat.{_-_}
 use lib.ListN.{length}
 use borrow.Author.Needs.{needs}
-use Rattle.writer_vectors.proofs.print_bytes.Statement.{statement}
-use Rattle.writer_vectors.proofs.print_bytes.Tie as tie
+use Rattle.show.proofs.bytes.Statement.{statement}
+use Rattle.show.proofs.bytes.Tie as tie
 
 abbrev Inv-loop : tie.InvT-loop
 Inv-loop s i₀ i = Unit
@@ -41,8 +41,8 @@ loop-again c = search needs
 returns : tie.Need-returns Inv-loop μ-loop
 returns c = search needs
 
-pub print-bytes-spec : {M : Type 1} → statement M
-print-bytes-spec =
+pub bytes-spec : {M : Type 1} → statement M
+bytes-spec =
     tie.close
     (tie.spec
     Inv-loop

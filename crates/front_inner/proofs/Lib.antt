@@ -1,2 +1,0 @@
--- The front ring through the contract of bringing home (Fronts).
-pub mod Fronts

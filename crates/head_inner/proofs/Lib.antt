@@ -1,0 +1,2 @@
+-- The mark of a record, and the ring of a good one (Reading).
+pub mod Reading
