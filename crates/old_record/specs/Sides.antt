@@ -1,0 +1,26 @@
+-- The records of an old catalogue (01, 'Catalogue records', as it was before 02, j). They lie as records do now (Layout of `catalogue_record`), under one of two marks.
+--     Side, sideByte x, SideMarked t x    the side from which the stored ring is seen: 52 46 the front, 52 42 the back (hexadecimal)
+--     frontRing x w                       the ring as seen from the front, of stored sectors w under the mark of side x
+-- Assumes nothing.
+use Prim.Native.Nat.{ℕ}
+use mathlib.Core.List.{List}
+use Rattle.rings.specs.Alike.{mirrored}
+use Rattle.catalogue_record.specs.Layout.{Begins}
+
+pub data Side : Type 0 where
+  front : Side
+  back : Side
+
+-- the second byte of the mark of this side
+abbrev pub sideByte : Side → ℕ
+sideByte front = 0x46
+sideByte back = 0x42
+
+-- t begins with the mark of this side
+abbrev pub SideMarked : List ℕ → Side → Type 0
+SideMarked t x = Begins t (sideByte x)
+
+-- the front ring: the stored sectors as they are, or their reversal brought home again
+abbrev pub frontRing : Side → List ℕ → List ℕ
+frontRing front w = w
+frontRing back w = mirrored w

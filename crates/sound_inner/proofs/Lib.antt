@@ -1,0 +1,2 @@
+-- The invariant of going through a catalogue, and its turns (Going).
+pub mod Going
