@@ -1,0 +1,3 @@
+-- The formulas are right (Formulas); values of them, computed (Cases).
+pub mod Cases
+pub mod Formulas

@@ -1,0 +1,2 @@
+-- The divisor formulas for the number of rings (Formulas).
+pub mod Formulas

@@ -1,0 +1,2 @@
+-- Values of the definitions, computed (Cases). Their theorems: `number_laws`.
+pub mod Cases
