@@ -1,0 +1,2 @@
+-- That no numbers have two answers (Unique).
+pub mod Unique

@@ -1,0 +1,35 @@
+// How many rings there are (02, request f): the exact numbers of necklaces and of Lyndon words, by the divisor formulas.
+
+use limits::Planned;
+use refusal::Refusal;
+ghost use Rattle.rings.specs.Necklace.{necklace, lyndon};
+ghost use Rattle.how_many.specs.Says.{CountSays};
+
+// How many there are, or a refusal.
+pub enum Counted {
+    Rings(usize),
+    Refused(Refusal),
+}
+
+// The greatest power that is not Too many: 2 to the power 32.
+const MOST: usize = 4294967296;
+
+// How many necklaces of n sectors and k shades there are.
+pub fn necklaces(k: usize, n: usize) -> Counted
+    ensures { λ r. ⌜ CountSays necklace k n r ⌝ }
+{
+    match limits::plan_numbers(k, n, MOST) {
+        Planned::Refused(r) => Counted::Refused(r),
+        Planned::Accepted(_, _) => Counted::Rings(sums_inner::necklaces_of(k, n)),
+    }
+}
+
+// How many Lyndon words of n sectors and k shades there are.
+pub fn lyndon_words(k: usize, n: usize) -> Counted
+    ensures { λ r. ⌜ CountSays lyndon k n r ⌝ }
+{
+    match limits::plan_numbers(k, n, MOST) {
+        Planned::Refused(r) => Counted::Refused(r),
+        Planned::Accepted(_, _) => Counted::Rings(sums_inner::lyndon_of(k, n)),
+    }
+}

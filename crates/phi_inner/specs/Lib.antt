@@ -1,0 +1,1 @@
+-- What the functions promise stands in `numbers`; nothing is defined here.
