@@ -1,0 +1,43 @@
+-- How long the report's lines are.
+--     answer-short    no line prints more than 22 bytes
+-- Assumes nothing.
+use Prim.Native.Nat.{ℕ, _+_, _^_, _<_, _≤_}
+use mathlib.Core.Path.{_≡_, refl, ap}
+use mathlib.Core.Bool.{Bool, true}
+use mathlib.Core.List.{List}
+use native.Mathlib.Omega.{arith}
+use lib.ListN.{length, length-append}
+use Rattle.words.specs.Readings.{readings, count}
+use Rattle.words.proofs.Readings.{readings-all}
+use Rattle.words.proofs.Count.{count-le}
+use Rattle.rings.specs.Necklace.{necklace, lyndon}
+use Rattle.rings.specs.Steps.{howMany}
+use Rattle.counting_laws.proofs.Totals.{readings-size}
+use Rattle.refusal.specs.Numbers.{numberOf}
+use Rattle.text.specs.Text.{refusedLine}
+use Rattle.text.proofs.Digits.{length-decimal}
+use Rattle.text.proofs.Put.{length-refused}
+use Rattle.limits.specs.Limits.{Listable}
+use Rattle.plan.proofs.Plans.{plan-number}
+use Rattle.reports.specs.Lines.{most, countsLine, Answers, counted, refused}
+use Rattle.reports.specs.Blocks.{lineRoom}
+
+-- there are at most as many as readings
+few : (kind : List ℕ → Bool) (n k : ℕ) → k ^ n ≤ most → howMany kind n k ≤ most
+unfolding howMany
+few kind n k h = omega (arith, count-le kind (λ w. true) (readings n k) (λ w r e. refl) (readings-all n k), readings-size n k)
+
+-- the line of two numbers
+pub counts-short : (k n : ℕ) → Listable most k n → length (countsLine (howMany necklace n k) (howMany lyndon n k)) ≤ lineRoom
+unfolding countsLine
+counts-short k n h =
+    simp length-append (omega (arith, length-decimal 9 (howMany necklace n k) (omega (arith, few necklace n k (h .few))), length-decimal 9 (howMany lyndon n k) (omega (arith, few lyndon n k (h .few)))))
+
+-- the line of a refusal
+pub refused-short : (x : ℕ) → x ≤ 12 → length (refusedLine x) ≤ lineRoom
+refused-short x h = omega (arith, length-refused x, length-decimal 1 x (omega arith))
+
+-- no line prints more
+pub answer-short : (s t : List ℕ) → Answers s t → length t ≤ lineRoom
+answer-short s t (counted k n p e) = rw e (counts-short k n (p .1))
+answer-short s t (refused r p e) = rw e (refused-short (numberOf r) (plan-number most s r p))
