@@ -1,0 +1,2 @@
+-- What a plan's text is (Placing).
+pub mod Placing

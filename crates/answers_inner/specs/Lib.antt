@@ -1,0 +1,2 @@
+-- What placing a line's text promises (Says).
+pub mod Says

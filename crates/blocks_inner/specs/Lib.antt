@@ -1,0 +1,2 @@
+-- What taking bytes promises (Says).
+pub mod Says

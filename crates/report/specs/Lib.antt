@@ -1,0 +1,1 @@
+-- What the calls promise stands in `reports`, specs/Blocks; nothing is defined here.

@@ -1,0 +1,53 @@
+// The report (02, request f): many lines of k and n, and for each the necklaces and the Lyndon words, or a refusal. The input comes in blocks, cut anywhere.
+
+use reports::Fed;
+use reports::Pending;
+ghost use mathlib.Core.Path.{_≡_};
+ghost use mathlib.Core.List.{[]};
+ghost use Rattle.reports.specs.Blocks.{stateOf, FeedSays, EndSays};
+
+// No line of the report is longer.
+const LINE_ROOM: usize = 22;
+
+// Before the first block: no line is under way.
+pub fn start() -> Pending
+    ensures { λ r. ⌜ r ≡ stateOf [] ⌝ }
+{
+    Pending {
+        line: [0u8; 9],
+        len: 0,
+    }
+}
+
+// A block: the texts of the lines that end in it, at the beginning of the buffer. As many bytes are taken as there is room for lines, so that 22 bytes of buffer for
+// each byte of the block take it whole.
+pub fn feed(p: Pending, block: &[u8], buf: &mut [u8]) -> Fed
+    ensures { λ r. ⌜ FeedSays p (now (block .entry)) (now (buf .entry)) r (now (buf .exit)) ⌝ }
+{
+    let taken = blocks_inner::smaller_of(buf.len() / LINE_ROOM, block.len());
+    let q = blocks_inner::take_bytes(p, block, taken, buf);
+    let line = q.line;
+    let len = q.len;
+    let state = Pending { line, len };
+    Fed {
+        state,
+        taken,
+        length: q.at,
+    }
+}
+
+// The end of the input: the text of a last line that has no newline, at the beginning of the buffer, and how long it is. Where the buffer has no room for a line
+// nothing is written.
+pub fn finish(p: Pending, buf: &mut [u8]) -> usize
+    ensures { λ r. ⌜ EndSays p (now (buf .entry)) r (now (buf .exit)) ⌝ }
+{
+    if buf.len() < LINE_ROOM {
+        return 0;
+    }
+    let line = p.line;
+    let len = blocks_inner::smaller_of(p.len, 9);
+    if len == 0 {
+        return 0;
+    }
+    answers_inner::place_answer(&line[..len], buf, 0)
+}
