@@ -1,0 +1,5 @@
+// The report program (02, request f).
+
+fn main() {
+    reporting_inner::run();
+}

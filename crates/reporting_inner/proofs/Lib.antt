@@ -1,0 +1,2 @@
+-- That a block for which there is room is taken whole (Whole).
+pub mod Whole

@@ -1,0 +1,2 @@
+-- What taking a block whole promises (Says).
+pub mod Says
