@@ -1,0 +1,2 @@
+-- The table of specs/Cases holds (Table).
+pub mod Table

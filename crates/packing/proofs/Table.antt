@@ -1,0 +1,9 @@
+-- Every row of the table of specs/Cases holds, by computing the definitions. Assumes nothing.
+use mathlib.Core.Path.{refl}
+use Rattle.packing.specs.Open.{open-packing}
+use Rattle.packing.specs.Cases.{Holds, Hold, table}
+
+-- the one claim
+pub cases : Hold table
+unfolding Holds Hold table open-packing
+cases = (refl, (refl, ((refl, refl, refl), (refl, (refl, (refl, (refl, (refl, ((refl, refl, refl), ((refl, refl, refl), ((refl, refl, refl), ((refl, refl, refl), ((refl, refl, refl), ((refl, refl, refl), ((refl, refl, refl), ((refl, refl, refl), ((refl, refl, refl), ((refl, refl, refl), ((refl, refl, refl), (refl, (refl, (refl, (refl, (refl, (refl, (refl, (refl, (refl, (refl, (refl, (refl, (refl, (refl, (refl, (refl, (refl, (refl, (refl, (refl, (refl, (refl, (refl, (refl, tt)))))))))))))))))))))))))))))))))))))))))))

@@ -1,0 +1,7 @@
+-- The theorems of the packed stored form, in order: the width of k shades (Width); parts as one number, and back (AsOne); how many bytes and how many unused bits
+-- (Lengths); packing and unpacking undo each other (Packing); where each bit lies (Places).
+pub mod Width
+pub mod AsOne
+pub mod Lengths
+pub mod Packing
+pub mod Places

@@ -1,0 +1,1 @@
+-- No definitions: this crate holds theorems only (proofs/).
