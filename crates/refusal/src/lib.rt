@@ -20,6 +20,7 @@ pub enum Refusal {
     Card,
     Unreadable(usize),
     Retired(usize),
+    Padding(usize),
 }
 
 pub enum Checked {
@@ -47,6 +48,7 @@ pub fn number(r: Refusal) -> usize
         Refusal::Card => 14,
         Refusal::Unreadable(_) => 15,
         Refusal::Retired(_) => 16,
+        Refusal::Padding(_) => 17,
     }
 }
 
@@ -70,5 +72,6 @@ pub fn place(r: Refusal) -> usize
         Refusal::Card => 0,
         Refusal::Unreadable(p) => p,
         Refusal::Retired(p) => p,
+        Refusal::Padding(p) => p,
     }
 }
