@@ -2,6 +2,7 @@
 --     bits-bytes                the sectors' bits and the unused ones fill the bytes
 --     spare-lt, bytes-is        fewer than 8 are unused, and for no other number of bytes
 --     packed-some, packed-le    at least one byte, and no more than there are sectors
+--     few-bits                  at most 512 bits, for up to 64 sectors of up to 8 bits
 --     bits-within, byte-of-lt   each bit of a sector is one of the sectors' bits, so its first bit lies in one of the bytes
 -- Assumes nothing.
 use Prim.Native.Nat.{ℕ, suc, _+_, _*_, _<_, _≤_}
@@ -27,6 +28,9 @@ packed-some b n p q = omega (arith, bits-bytes b n, mul-le-mul {n₁ = 1} {m₁ 
 
 pub packed-le : (b n : ℕ) → b ≤ 8 → packedLength b n ≤ n
 packed-le b n h = omega (arith, bits-bytes b n, spare-lt b n, mul-le-mul {n₁ = b} {m₁ = n} {n₂ = 8} {m₂ = n} h (omega arith))
+
+pub few-bits : (b n : ℕ) → b ≤ 8 → n ≤ 64 → b * n ≤ 512
+few-bits b n p q = mul-le-mul {n₁ = b} {m₁ = n} {n₂ = 8} {m₂ = 64} p q
 
 -- the bit m of the sector i is one of all the sectors' bits
 pub bits-within : (b n i m : ℕ) → i < n → m < b → b * i + m < b * n

@@ -1,0 +1,2 @@
+-- Shifts of bytes, over plain numbers (Shifts).
+pub mod Shifts

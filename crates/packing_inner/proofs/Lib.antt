@@ -1,0 +1,2 @@
+-- The loop of packing, over plain lists and numbers (Packs).
+pub mod Packs

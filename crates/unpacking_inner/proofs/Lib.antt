@@ -1,0 +1,2 @@
+-- The loop of unpacking, and the padding, over plain lists and numbers (Unpacks).
+pub mod Unpacks
