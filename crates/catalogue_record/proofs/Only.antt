@@ -1,4 +1,4 @@
--- What the reader looks at: the start, the output, and of the catalogue no more than the 68 bytes from the start on, since a record's head has 4 and n is at most 64.
+-- What the reader looks at: the start, the output, and of the catalogue no more than the 68 bytes from the start on, since a record's head has 4 and n, which is at most 64, is the most bytes that its sectors take.
 --     drop-take              what is left of a beginning is a beginning of what is left
 --     opening t              those bytes of a part t
 --     opening-record, opening-broken    the record that t begins with is good, or refused, exactly as it is there
@@ -17,12 +17,13 @@ use Rattle.refusal.specs.declared.Refusal.the-variants.{Cut}
 use Rattle.catalogue_record.specs.declared.Kind.{Kind}
 use Rattle.catalogue_record.specs.declared.Entry.{Entry}
 use Rattle.catalogue_record.specs.declared.Entry.the-variants.{Record, End, Refused}
-use Rattle.catalogue_record.specs.Layout.{MarkedBack, nOf, kOf, sectorsOf}
-use Rattle.catalogue_record.specs.Order.{Known, AfterHead, After1, After2, After7, After9, Spoilt, Broken, RefusedAt}
-use Rattle.catalogue_record.specs.Order.Spoilt.{size, shades, body, unfit}
-use Rattle.catalogue_record.specs.Order.Broken.{head, mark, retired, spoilt}
+use Rattle.catalogue_record.specs.Layout.{Marked, MarkedBack, bodyLength, nOf, kOf, bodyOf, ringOf}
+use Rattle.catalogue_record.specs.Order.{Known, AfterHead, After1, After2, After7, Good, Faulty, Broken, RefusedAt}
+use Rattle.catalogue_record.specs.Order.Faulty.{size, shades, body, unfit}
+use Rattle.catalogue_record.specs.Order.Broken.{head, mark, retired, faulty}
 use Rattle.catalogue_record.specs.Order.RefusedAt.{room, past, broken}
 use Rattle.catalogue_record.specs.Says.{Read, ReadSays}
+use Rattle.catalogue_record.proofs.Forms.{few-bytes, after3, clear17, after17}
 use Rattle.catalogue_record.proofs.Unique.{one-read}
 
 -- what is left of a beginning is a beginning of what is left
@@ -49,13 +50,19 @@ module _ (t : List ℕ) where
   same-k : kOf (opening t) ≡ kOf t
   same-k = at 3 (omega arith)
 
-  -- the sectors, where there are at most 64
-  same-sectors : nOf t ≤ 64 → sectorsOf (opening t) ≡ sectorsOf t
-  same-sectors h = rw (same-n, drop-take 4 64 t) (take-take (nOf t) 64 (drop 4 t) h)
+  -- the bytes behind the head, and the sectors that they hold, where n and k are good
+  few : (x : Kind) → After2 t → bodyLength x (nOf t) (kOf t) ≤ 64
+  few x h = omega (arith, few-bytes (nOf t) (kOf t) x (h .1))
+
+  same-body : (x : Kind) → After2 t → bodyOf x (opening t) ≡ bodyOf x t
+  same-body x h = rw (same-n, same-k, drop-take 4 64 t) (take-take (bodyLength x (nOf t) (kOf t)) 64 (drop 4 t) (few x h))
+
+  same-ring : (x : Kind) → After2 t → ringOf x (opening t) ≡ ringOf x t
+  same-ring x h = rw (same-body x h, same-n, same-k)
 
   -- each check tells the same of both
-  known-there : Known t → Known (opening t)
-  known-there k = (k .0, rw (at 0 (omega arith), at 1 (omega arith)) (k .1))
+  marked-there : (x : Kind) → Marked t x → Marked (opening t) x
+  marked-there x m = rw (at 0 (omega arith), at 1 (omega arith)) m
 
   known-here : Known (opening t) → Known t
   known-here k = (k .0, rw (at 0 (omega arith), at 1 (omega arith)) at (k .1))
@@ -75,39 +82,40 @@ module _ (t : List ℕ) where
   after2 : After2 t → After2 (opening t)
   after2 h = (after1 (h .0), rw same-k (h .1))
 
-  after7 : After7 t → After7 (opening t)
-  after7 h = (after2 (h .0), rw (same-n, length-take) (omega arith))
+  after7 : (x : Kind) → After7 x t → After7 x (opening t)
+  after7 x h = (after2 (h .0), rw (same-n, same-k, length-take) (omega (arith, few x (h .0))))
 
-  after9 : After9 t → After9 (opening t)
-  after9 h =
-      let few : nOf t ≤ 64 = omega arith in
-      ((after7 (h .0 .0), rw (same-k, same-sectors few) (h .0 .1)), rw (same-sectors few) (h .1))
+  good : (x : Kind) → Good x t → Good x (opening t)
+  good x h =
+      let a = after3 x t (h .0) in
+      let l = a .0 .0 in
+      (after17 x (opening t) (after7 x (a .0), rw (same-ring x l, same-k) (a .1)) (rw (same-body x l, same-n, same-k) (clear17 x t (h .0))), rw (same-ring x l) (h .1))
 
   -- a record that is good is good there
   pub opening-record : (s : ℕ) (b : List ℕ) (n k : ℕ) (x : Kind) (next : ℕ) (d : List ℕ) → Read t s b n k x next d → Read (opening t) s b n k x next d
   opening-record s b n k x next d f =
       record {
-        good = after9 (f .good);
-        marked = rw (at 0 (omega arith), at 1 (omega arith)) (f .marked);
+        good = good x (f .good);
+        marked = marked-there x (f .marked);
         sectors = f .sectors ∙ sym same-n;
         shades = f .shades ∙ sym same-k;
         follows = f .follows;
-        ring = rw (same-sectors (omega (arith, f .good .0 .0 .0 .0 .1))) (f .ring);
+        ring = rw (same-ring x (after3 x t (f .good .0) .0 .0)) (f .ring);
       }
 
   -- what stands behind the mark is refused so there
-  opening-spoilt : (s : ℕ) (r : Refusal) → Spoilt t s r → Spoilt (opening t) s r
-  opening-spoilt s r (size e k) = size e (rw same-n k)
-  opening-spoilt s r (shades e h k) = shades e (after1 h) (rw same-k k)
-  opening-spoilt s r (body e h k) = body e (after2 h) (rw (same-n, length-take) (omega arith))
-  opening-spoilt s r (unfit h u) = unfit (after7 h) (rw (same-k, same-sectors (omega arith)) u)
+  opening-faulty : (x : Kind) (s : ℕ) (r : Refusal) → Faulty x t s r → Faulty x (opening t) s r
+  opening-faulty x s r (size e k) = size e (rw same-n k)
+  opening-faulty x s r (shades e h k) = shades e (after1 h) (rw same-k k)
+  opening-faulty x s r (body e h k) = body e (after2 h) (rw (same-n, same-k, length-take) (omega (arith, few x h)))
+  opening-faulty x s r (unfit h u) = unfit (after7 x h) (rw (same-body x (h .0), same-n, same-k) u)
 
   -- a record that is refused is refused so there
   pub opening-broken : (s : ℕ) (r : Refusal) → Broken t s r → Broken (opening t) s r
   opening-broken s r (head e h) = head e (rw length-take (omega arith))
   opening-broken s r (mark e h k m) = mark e (after-head h) (λ q. k (known-here q)) (λ q. m (back-here q))
   opening-broken s r (retired e h m) = retired e (after-head h) (back-there m)
-  opening-broken s r (spoilt h k u) = spoilt (after-head h) (known-there k) (opening-spoilt s r u)
+  opening-broken s r (faulty x h m u) = faulty x (after-head h) (marked-there x m) (opening-faulty x s r u)
 
 -- ---- any catalogue
 

@@ -8,13 +8,13 @@ use mathlib.Core.List.{List, _++_}
 use lib.ListN.{drop}
 use Rattle.catalogue_record.specs.declared.Entry.{Entry}
 use Rattle.catalogue_record.specs.declared.Entry.the-variants.{Record, End, Refused}
-use Rattle.catalogue_record.specs.Layout.{sectorsOf}
+use Rattle.catalogue_record.specs.Layout.{ringOf}
 use Rattle.catalogue_record.specs.Says.{ReadSays}
 use Rattle.catalogue_record.proofs.Chain.{fixed}
 
 -- the output after an answer; t is the part of the catalogue that begins at the start
 abbrev pub writtenOf : List ℕ → List ℕ → Entry → List ℕ
-writtenOf t b (Record n k x next) = sectorsOf t ++ drop n b
+writtenOf t b (Record n k x next) = ringOf x t ++ drop n b
 writtenOf t b End = b
 writtenOf t b (Refused r) = b
 

@@ -1,9 +1,17 @@
--- How a record lies in a catalogue (01, 'Catalogue records'; 02, j): two bytes of a mark, one each for n and k, and n sectors behind them.
--- t is the part of a catalogue that begins where the record does.
+-- How a record lies in a catalogue (01, 'Catalogue records'; 02, j and k): two bytes of a mark, one each for n and k, and behind them the sectors, in the form that
+-- the mark tells. t is the part of a catalogue that begins where the record does.
 --     Begins t y                   t begins with the mark 52 y (hexadecimal)
---     secondByte x, Marked t x     the known mark: 52 46 is a ring seen from the front
+--     secondByte x, Marked t x     the known marks: 52 46 is a front ring, a byte a sector, 52 50 a front ring, packed
 --     MarkedBack t                 the retired mark: 52 42 was a ring seen from the back
---     nOf t, kOf t, sectorsOf t    what stands behind the mark
+-- The two forms, for n sectors of k shades:
+--     bodyLength x n k             how many bytes hold them
+--     stored x k v, shown x n k b  the bytes that hold the sectors v, and the sectors that the bytes b hold
+--     byteAt x k i                 which of the bytes holds the first bit of the sector i, both counted from 0
+--     isClear x n k b              the bits that hold no sector are 0
+-- A record:
+--     nOf t, kOf t                 what stands behind the mark
+--     bodyOf x t, ringOf x t       the bytes behind the head, in a record of kind x, and the sectors that they hold
+--     sectorsOf t                  the sectors, where they stand there a byte each
 --     isNecklace c                 a reading of class c is a necklace
 -- Assumes nothing.
 use Prim.Native.Nat.{ℕ}
@@ -13,8 +21,10 @@ use mathlib.Core.List.{List}
 use lib.ListN.{getD, take, drop}
 use Rattle.rings.specs.declared.Class.{Class}
 use Rattle.rings.specs.declared.Class.the-variants.{Loose, Opening, Repeating, Single}
+use Rattle.packing.specs.Width.{width}
+use Rattle.packing.specs.Packing.{packedLength, packed, unpacked, clearPadding, byteOf}
 use Rattle.catalogue_record.specs.declared.Kind.{Kind}
-use Rattle.catalogue_record.specs.declared.Kind.the-variants.{Front}
+use Rattle.catalogue_record.specs.declared.Kind.the-variants.{Front, Packed}
 
 -- t begins with a mark of this second byte
 abbrev pub Begins : List ℕ → ℕ → Type 0
@@ -23,6 +33,7 @@ Begins t y = (getD t 0 0 ≡ 0x52) × (getD t 1 0 ≡ y)
 -- the second byte of the mark of this kind
 abbrev pub secondByte : Kind → ℕ
 secondByte Front = 0x46
+secondByte Packed = 0x50
 
 -- t begins with the mark of this kind
 abbrev pub Marked : List ℕ → Kind → Type 0
@@ -32,6 +43,35 @@ Marked t x = Begins t (secondByte x)
 abbrev pub MarkedBack : List ℕ → Type 0
 MarkedBack t = Begins t 0x42
 
+-- ---- the two forms
+
+-- how many bytes hold n sectors of k shades
+abbrev pub bodyLength : Kind → ℕ → ℕ → ℕ
+bodyLength Front n k = n
+bodyLength Packed n k = packedLength (width k) n
+
+-- the bytes that hold these sectors of k shades
+abbrev pub stored : Kind → ℕ → List ℕ → List ℕ
+stored Front k v = v
+stored Packed k v = packed (width k) v
+
+-- the n sectors of k shades that these bytes hold
+abbrev pub shown : Kind → ℕ → ℕ → List ℕ → List ℕ
+shown Front n k b = b
+shown Packed n k b = unpacked (width k) n b
+
+-- the byte that holds the first bit of the sector i
+abbrev pub byteAt : Kind → ℕ → ℕ → ℕ
+byteAt Front k i = i
+byteAt Packed k i = byteOf (width k) i
+
+-- the bits that hold no sector are 0; where a sector is a byte there are none
+abbrev pub isClear : Kind → ℕ → ℕ → List ℕ → Bool
+isClear Front n k b = true
+isClear Packed n k b = clearPadding (width k) n b
+
+-- ---- a record
+
 -- the number of sectors
 abbrev pub nOf : List ℕ → ℕ
 nOf t = getD t 2 0
@@ -40,9 +80,17 @@ nOf t = getD t 2 0
 abbrev pub kOf : List ℕ → ℕ
 kOf t = getD t 3 0
 
--- the stored sectors
+-- the bytes behind the head
+abbrev pub bodyOf : Kind → List ℕ → List ℕ
+bodyOf x t = take (bodyLength x (nOf t) (kOf t)) (drop 4 t)
+
+-- the sectors that they hold
+abbrev pub ringOf : Kind → List ℕ → List ℕ
+ringOf x t = shown x (nOf t) (kOf t) (bodyOf x t)
+
+-- the sectors, a byte each
 abbrev pub sectorsOf : List ℕ → List ℕ
-sectorsOf t = take (nOf t) (drop 4 t)
+sectorsOf t = ringOf Front t
 
 -- a reading of this class is a necklace: it is Repeating or Single
 abbrev pub isNecklace : Class → Bool

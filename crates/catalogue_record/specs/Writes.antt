@@ -1,6 +1,6 @@
--- What writing a record promises (02, a), by cases on the answer, in the words of Layout that reading is promised in: for a reading w of k shades, which shows
+-- What writing a record promises (02, a and k), by cases on the answer, in the words of Layout that reading is promised in: for a reading w of k shades, which shows
 -- the ring from the front, a mark of kind x, a buffer that held b before and holds d after, and the place p in it.
---     Unwritten w k t p r         the call is refused with r: 1, 2, 3 of the reading, then 7, where t is the part of the buffer that begins at p
+--     Unwritten w k x t p r       the call is refused with r: 1, 2, 3 of the reading, then 7, where t is the part of the buffer that begins at p
 --     Placed w k x t u            the part held t before and holds u after: the record stands at its front, and what follows is as it was
 --     Wrote w k x b p e d         the record stands at p, e is the place after it, and every other byte is as it was
 --     WriteSays w k x b p r d     the answer r
@@ -17,30 +17,30 @@ use Rattle.refusal.specs.Calls.{oneReading}
 use Rattle.catalogue_record.specs.declared.Kind.{Kind}
 use Rattle.catalogue_record.specs.declared.Written.{Written}
 use Rattle.catalogue_record.specs.declared.Written.the-variants.{After, Refused}
-use Rattle.catalogue_record.specs.Layout.{Marked, nOf, kOf, sectorsOf}
+use Rattle.catalogue_record.specs.Layout.{Marked, bodyLength, stored, nOf, kOf, bodyOf}
 
--- the checks of the reading, and then whether the buffer has 4 + n bytes from the place on; past its end it has none
-pub data Unwritten (w : List ℕ) (k : ℕ) (t : List ℕ) (p : ℕ) (r : Refusal) : Type 0 where
-  reading : Given (oneReading w k) r → Unwritten w k t p r
-  cut : r ≡ Cut p → Passed (oneReading w k) → length t < 4 + length w → Unwritten w k t p r
+-- the checks of the reading, and then whether the buffer has the bytes of head and sectors from the place on; past its end it has none
+pub data Unwritten (w : List ℕ) (k : ℕ) (x : Kind) (t : List ℕ) (p : ℕ) (r : Refusal) : Type 0 where
+  reading : Given (oneReading w k) r → Unwritten w k x t p r
+  cut : r ≡ Cut p → Passed (oneReading w k) → length t < 4 + bodyLength x (length w) k → Unwritten w k x t p r
 
 -- the part that begins at the place: the record, and behind it what was there
 pub record Placed (w : List ℕ) (k : ℕ) (x : Kind) (t u : List ℕ) : Type 0 where
   pub marked : Marked u x
   pub sectors : length w ≡ nOf u
   pub shades : k ≡ kOf u
-  pub ring : home w ≡ sectorsOf u
-  pub behind : drop (4 + length w) u ≡ drop (4 + length w) t
+  pub ring : stored x k (home w) ≡ bodyOf x u
+  pub behind : drop (4 + bodyLength x (length w) k) u ≡ drop (4 + bodyLength x (length w) k) t
 
 -- the record was written
 pub record Wrote (w : List ℕ) (k : ℕ) (x : Kind) (b : List ℕ) (p e : ℕ) (d : List ℕ) : Type 0 where
   pub passed : Passed (oneReading w k)
-  pub fits : 4 + length w ≤ length (drop p b)
-  pub follows : e ≡ p + 4 + length w
+  pub fits : 4 + bodyLength x (length w) k ≤ length (drop p b)
+  pub follows : e ≡ p + 4 + bodyLength x (length w) k
   pub before : take p d ≡ take p b
   pub here : Placed w k x (drop p b) (drop p d)
 
 -- a refusal writes nothing
 abbrev pub WriteSays : List ℕ → ℕ → Kind → List ℕ → ℕ → Written → List ℕ → Type 0
 WriteSays w k x b p (After e) d = Wrote w k x b p e d
-WriteSays w k x b p (Refused r) d = Unwritten w k (drop p b) p r × (d ≡ b)
+WriteSays w k x b p (Refused r) d = Unwritten w k x (drop p b) p r × (d ≡ b)

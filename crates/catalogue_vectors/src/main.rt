@@ -1,4 +1,4 @@
-// Catalogues read and compared: document 01's two records, of which the back record is retired, the ends of a catalogue, catalogues read record by record, the bounds of n and k, each refusal behind
+// Catalogues read and compared: document 01's two records, of which the back record is retired, request k's packed one and others, the ends of a catalogue, catalogues read record by record, the bounds of n and k, each refusal behind
 // several records, every clash of two faults, and starts near the greatest number. The expected text, stdout, is written from the document.
 // The cases are the lines of stdin: `say` and a heading; `at`, a start and a catalogue in hexadecimal digits, which is read with an output of 64 bytes, each 9
 // before the call; `into`, the same with the output's bytes between start and catalogue; `each` and a catalogue, which is read from record to record.
@@ -9,6 +9,7 @@ use catalogue::Kind;
 fn print_kind(x: Kind) {
     match x {
         Kind::Front => show::text(b"front"),
+        Kind::Packed => show::text(b"packed"),
     }
 }
 

@@ -1,5 +1,5 @@
 -- The mark of a record, and the ring of a good one.
---     not-front       a second byte that is not the front mark's is of no known mark
+--     not-known       a second byte of neither known mark
 --     retired-byte, other-byte    the test of the retired second byte
 --     copied-ring     the sectors copied to the output are the front ring in its first n bytes
 -- Assumes nothing.
@@ -14,16 +14,17 @@ use lib.Seq.{take-all, length-take-le}
 use borrow.Author.Tests.{eqb-true, eq-eqb}
 use Rattle.words.proofs.Split.{clash}
 use Rattle.catalogue_record.specs.declared.Kind.{Kind}
-use Rattle.catalogue_record.specs.declared.Kind.the-variants.{Front}
+use Rattle.catalogue_record.specs.declared.Kind.the-variants.{Front, Packed}
 use Rattle.catalogue_record.specs.Layout.{Marked, MarkedBack, nOf, sectorsOf}
 use Rattle.catalogue_record.specs.Order.{Known}
 
--- a second byte that is not the front mark's is of no known mark
-pub not-front : (t : List ℕ) → (getD t 1 0 ≡ 0x46 → ⊥) → Known t → ⊥
-not-front t f (x, m) = go x m
+-- a second byte of neither known mark
+pub not-known : (t : List ℕ) → (getD t 1 0 ≡ 0x46 → ⊥) → (getD t 1 0 ≡ 0x50 → ⊥) → Known t → ⊥
+not-known t f p (x, m) = go x m
   where
     go : (x : Kind) → Marked t x → ⊥
     go Front m = f (m .1)
+    go Packed m = p (m .1)
 
 -- the test of the retired second byte
 pub retired-byte : (t : List ℕ) (b : Bool) → b ≡ eqb (getD t 1 0) 0x42 → b ≡ true → getD t 1 0 ≡ 0x42

@@ -5,6 +5,7 @@ use catalogue_record::FRONT_MARK;
 use catalogue_record::HEAD;
 use catalogue_record::Kind;
 use catalogue_record::MARK;
+use catalogue_record::PACKED_MARK;
 use catalogue_record::RETIRED_MARK;
 use refusal::Checked;
 use refusal::Refusal;
@@ -12,12 +13,13 @@ ghost use mathlib.Core.Path.{_≡_};
 ghost use Prim.Native.Nat.{_+_, _≤_};
 ghost use lib.ListN.{length, getD};
 ghost use lib.Dec.{eqb};
+ghost use Rattle.catalogue_record.specs.declared.Kind.the-variants.{Front};
 ghost use Rattle.catalogue_record.specs.Layout.{Marked};
 ghost use Rattle.catalogue_record.specs.Order.{After9};
 ghost use Rattle.catalogue_record.specs.Says.{Read};
 ghost use Rattle.catalogue_record.specs.Steps.{Held, RecordSays};
 
-// The head and the mark: 7, 8, 16; then the checks behind the mark.
+// The head and the mark: 7, 8, 16; then the record of its kind.
 pub fn read_head(rest: &[u8], start: usize, out: &mut [u8]) -> Entry
     requires { ⌜ Held (start + length (now rest)) × (length (now out) ≡ 64) ⌝ }
     ensures { λ r. ⌜ RecordSays (now (rest .entry)) start (now (out .entry)) r (now (out .exit)) ⌝ }
@@ -31,12 +33,23 @@ pub fn read_head(rest: &[u8], start: usize, out: &mut [u8]) -> Entry
     if is_retired(rest) {
         return Entry::Refused(Refusal::Retired(start));
     }
-    if rest[1] != FRONT_MARK {
-        return Entry::Refused(Refusal::Mark(start));
+    if rest[1] == FRONT_MARK {
+        return read_front(rest, start, out);
     }
+    if rest[1] == PACKED_MARK {
+        return packed_record_inner::read_packed(rest, start, out);
+    }
+    Entry::Refused(Refusal::Mark(start))
+}
+
+// A front record: the checks behind the mark, and then the ring.
+fn read_front(rest: &[u8], start: usize, out: &mut [u8]) -> Entry
+    requires { ⌜ Held (start + length (now rest)) × (length (now out) ≡ 64) × (4 ≤ length (now rest)) × Marked (now rest) Front ⌝ }
+    ensures { λ r. ⌜ RecordSays (now (rest .entry)) start (now (out .entry)) r (now (out .exit)) ⌝ }
+{
     match record_inner::check_rest(rest, start) {
         Checked::Refused(r) => Entry::Refused(r),
-        Checked::Good => read_good(rest, start, Kind::Front, out),
+        Checked::Good => read_good(rest, start, out),
     }
 }
 
@@ -48,9 +61,9 @@ fn is_retired(rest: &[u8]) -> bool
     rest[1] == RETIRED_MARK
 }
 
-// Writes the ring of a good record, and answers what it is.
-fn read_good(rest: &[u8], start: usize, kind: Kind, out: &mut [u8]) -> Entry
-    requires { ⌜ Held (start + length (now rest)) × (length (now out) ≡ 64) × After9 (now rest) × Marked (now rest) kind ⌝ }
+// Writes the ring of a good front record, and answers what it is.
+fn read_good(rest: &[u8], start: usize, out: &mut [u8]) -> Entry
+    requires { ⌜ Held (start + length (now rest)) × (length (now out) ≡ 64) × After9 (now rest) × Marked (now rest) Front ⌝ }
     ensures { λ r. ⌜ RecordSays (now (rest .entry)) start (now (out .entry)) r (now (out .exit)) ⌝ }
 {
     let n = rest[2] as usize;
@@ -60,7 +73,7 @@ fn read_good(rest: &[u8], start: usize, kind: Kind, out: &mut [u8]) -> Entry
     Entry::Record {
         n: n,
         k: k,
-        kind: kind,
+        kind: Kind::Front,
         next: start + e,
     }
 }

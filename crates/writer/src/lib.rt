@@ -1,4 +1,4 @@
-// Writing the records of a catalogue (02, a). A record and what is promised of writing it stand in `catalogue_record`.
+// Writing the records of a catalogue (02, a and k). A record and what is promised of writing it stand in `catalogue_record`.
 
 use catalogue_record::HEAD;
 pub use catalogue_record::Kind;
@@ -7,7 +7,7 @@ use refusal::Checked;
 use refusal::Refusal;
 ghost use Rattle.catalogue_record.specs.Writes.{WriteSays};
 
-// Writes the record of the ring of `reading`, which shows it from the front, at the place `at` of the buffer, and answers the place after it; or refusal 1, 2, 3
+// Writes the record of the ring of `reading`, which shows it from the front, in the form of that kind, at the place `at` of the buffer, and answers the place after it; or refusal 1, 2, 3
 // or 7, in this order.
 pub fn write_record(reading: &[u8], k: usize, kind: Kind, buffer: &mut [u8], at: usize) -> Written
     ensures { λ r. ⌜ WriteSays (now (reading .entry)) k kind (now (buffer .entry)) at r (now (buffer .exit)) ⌝ }
@@ -19,7 +19,7 @@ pub fn write_record(reading: &[u8], k: usize, kind: Kind, buffer: &mut [u8], at:
             if end < at {
                 return Written::Refused(Refusal::Cut(at));
             }
-            let size = HEAD + reading.len();
+            let size = HEAD + stored_inner::body_length(kind, reading.len(), k);
             if end - at < size {
                 return Written::Refused(Refusal::Cut(at));
             }

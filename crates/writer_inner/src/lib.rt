@@ -1,28 +1,29 @@
-// A record written at the front of a part of a buffer, which has room for it: its head, and its sectors behind it. No public calls: `writer` checks what these
+// A record written at the front of a part of a buffer, which has room for it: its head, and its sectors behind it, in either form. No public calls: `writer` checks what these
 // ask for.
 
 use catalogue_record::FRONT_MARK;
 use catalogue_record::HEAD;
 use catalogue_record::Kind;
 use catalogue_record::MARK;
+use catalogue_record::PACKED_MARK;
 ghost use mathlib.Core.Path.{_≡_};
 ghost use Prim.Native.Nat.{_+_, _≤_};
 ghost use lib.ListN.{length};
 ghost use Rattle.refusal.specs.Order.{Passed};
 ghost use Rattle.refusal.specs.Calls.{oneReading};
-ghost use Rattle.catalogue_record.specs.Layout.{secondByte};
+ghost use Rattle.catalogue_record.specs.Layout.{secondByte, bodyLength};
 ghost use Rattle.catalogue_record.specs.Writes.{Placed};
 ghost use Rattle.writer_inner.specs.Head.{headed};
 
 // Writes the record to the front of `rest`.
 pub fn put_record(reading: &[u8], k: usize, kind: Kind, rest: &mut [u8])
-    requires { ⌜ Passed (oneReading (now reading) k) × (4 + length (now reading) ≤ length (now rest)) ⌝ }
+    requires { ⌜ Passed (oneReading (now reading) k) × (4 + bodyLength kind (length (now reading)) k ≤ length (now rest)) ⌝ }
     ensures { λ r. ⌜ Placed (now (reading .entry)) k kind (now (rest .entry)) (now (rest .exit)) ⌝ }
 {
     let n = reading.len();
-    let e = HEAD + n;
+    let e = HEAD + stored_inner::body_length(kind, n, k);
     put_head(rest, second_byte(kind), n, k);
-    stored_inner::put_home(reading, &mut rest[HEAD..e]);
+    stored_inner::put_body(reading, k, kind, &mut rest[HEAD..e]);
 }
 
 // Writes the head: the mark, n and k.
@@ -42,5 +43,6 @@ fn second_byte(kind: Kind) -> u8
 {
     match kind {
         Kind::Front => FRONT_MARK,
+        Kind::Packed => PACKED_MARK,
     }
 }

@@ -33,8 +33,8 @@ part-copy-end c = search needs
 copy-requires : tie.Need-copy-requires
 copy-requires c κs = search needs
 
-add-t11 : tie.Need-add-t11
-add-t11 c = search needs
+add-t10 : tie.Need-add-t10
+add-t10 c = search needs
 
 same-length : tie.Need-same-length
 same-length c = search needs
@@ -55,6 +55,6 @@ read-good-spec =
     part-copy-start
     part-copy-end
     copy-requires
-    add-t11
+    add-t10
     same-length
     returns)

@@ -1,8 +1,7 @@
--- `head_inner::read_head` meets its contract: a cut head, an unknown or a retired mark, what the check of the rest answers, or the record. Assumes nothing.
+-- `head_inner::read_head` meets its contract: a cut head, an unknown or a retired mark, or what the record of its kind answers. Assumes nothing.
 use mathlib.Core.Path.{refl}
-use Rattle.catalogue_record.specs.Order.Broken.{head, mark, retired, spoilt}
-use Rattle.catalogue_record.specs.declared.Kind.the-variants.{Front}
-use Rattle.head_inner.proofs.Reading.{not-front, retired-byte, other-byte}
+use Rattle.catalogue_record.specs.Order.Broken.{head, mark, retired}
+use Rattle.head_inner.proofs.Reading.{not-known, retired-byte, other-byte}
 use borrow.Author.Needs.{needs}
 use Rattle.head_inner.proofs.read_head.Statement.{statement}
 use Rattle.head_inner.proofs.read_head.Tie as tie
@@ -25,29 +24,29 @@ returns-3 c = (retired refl (search needs) (c .before .before .if2 .left, retire
 shared-slice-read-if4 : tie.Need-shared-slice-read-if4
 shared-slice-read-if4 c = search needs
 
-returns-4 : tie.Need-returns-4
-returns-4 c = let t = c .before .before .before .before .before .before .before .before .before .args .rest .now in (mark refl (search needs) (not-front t (c .if4 .taken)) (other-byte t (c .before .before .before .is-retired .result) (c .before .before .before .is-retired .ensures) (c .before .before .if3 .left)), refl)
-
-check-rest-requires : tie.Need-check-rest-requires
-check-rest-requires c κs = search needs
-
-enum-known-r : tie.Need-enum-known-r
-enum-known-r c = search needs
-
-enum-told : tie.Need-enum-told
-enum-told c = search needs
-
-read-good-requires : tie.Need-read-good-requires
-read-good-requires c κs = (c .before .before .before .before .before .before .before .before .before .before .before .before .before .pre .0, c .before .before .before .before .before .before .before .before .before .before .before .before .before .pre .1, rw (c .before .enum-told .given .1) at (c .before .before .before .check-rest .ensures), (c .before .before .before .before .before .before .before .before .if2 .left, c .before .before .before .before .if4 .left))
-
-returns-5 : tie.Need-returns-5
-returns-5 c = (spoilt (search needs) (Front, (c .before .before .before .before .before .before .before .before .if2 .left, c .before .before .before .before .if4 .left)) (rw (c .before .r .given .1) at (c .before .before .before .check-rest .ensures)), refl)
+read-front-requires : tie.Need-read-front-requires
+read-front-requires c κs = search needs
 
 same-length : tie.Need-same-length
 same-length c = search needs
 
+returns-4 : tie.Need-returns-4
+returns-4 c = search needs
+
+shared-slice-read-if5 : tie.Need-shared-slice-read-if5
+shared-slice-read-if5 c = search needs
+
+read-packed-requires : tie.Need-read-packed-requires
+read-packed-requires c κs = search needs
+
+same-length-2 : tie.Need-same-length-2
+same-length-2 c = search needs
+
+returns-5 : tie.Need-returns-5
+returns-5 c = search needs
+
 returns-6 : tie.Need-returns-6
-returns-6 c = search needs
+returns-6 c = let t = c .before .before .before .before .before .before .before .before .before .before .before .args .rest .now in (mark refl (search needs) (not-known t (c .before .before .if4 .left) (c .if5 .left)) (other-byte t (c .before .before .before .before .before .is-retired .result) (c .before .before .before .before .before .is-retired .ensures) (c .before .before .before .before .if3 .left)), refl)
 
 pub read-head-spec : {M : Type 1} → statement M
 read-head-spec =
@@ -59,11 +58,11 @@ read-head-spec =
     is-retired-requires
     returns-3
     shared-slice-read-if4
-    returns-4
-    check-rest-requires
-    enum-known-r
-    enum-told
-    read-good-requires
-    returns-5
+    read-front-requires
     same-length
+    returns-4
+    shared-slice-read-if5
+    read-packed-requires
+    same-length-2
+    returns-5
     returns-6)

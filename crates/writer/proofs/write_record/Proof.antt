@@ -1,9 +1,9 @@
 -- `writer::write_record` meets its contract: what the check of the reading answers, a cut buffer, or the record in its place. Assumes nothing.
-use Rattle.writer.proofs.Places.{wrote}
-use Rattle.catalogue_record.specs.Writes.Unwritten.{reading, cut}
-use lib.ListN.{length-take, length-drop}
-use native.Mathlib.Omega.{arith}
 use mathlib.Core.Path.{refl}
+use native.Mathlib.Omega.{arith}
+use lib.ListN.{length-take, length-drop}
+use Rattle.catalogue_record.specs.Writes.Unwritten.{reading, cut}
+use Rattle.writer.proofs.Places.{short, wrote}
 use borrow.Author.Needs.{needs}
 use Rattle.writer.proofs.write_record.Statement.{statement}
 use Rattle.writer.proofs.write_record.Tie as tie
@@ -20,11 +20,14 @@ enum-told c = search needs
 returns : tie.Need-returns
 returns c = let a = c .before .before .before .before .before .before .args in (cut refl (rw (c .before .enum-told .given .1) at (c .before .before .before .check-reading .ensures)) (omega (arith, c .if1 .taken, length-drop (a .at) (a .buffer .now))), refl)
 
+body-length-requires : tie.Need-body-length-requires
+body-length-requires c κs = let g = rw (c .before .enum-told .given .1) at (c .before .before .before .check-reading .ensures) in (g .0 .0 .0 .0 .0 .0, g .0 .0 .0 .0 .1)
+
 add-size : tie.Need-add-size
-add-size c = search needs
+add-size c = let a = c .before .before .before .before .before .before .before .args in let g = rw (c .before .before .enum-told .given .1) at (c .before .before .before .before .check-reading .ensures) in omega (arith, short (a .reading .now) (a .k) (a .kind) _ g (c .body-length .ensures))
 
 returns-2 : tie.Need-returns-2
-returns-2 c = let a = c .before .before .before .before .before .before .before .args in (cut refl (rw (c .before .before .enum-told .given .1) at (c .before .before .before .before .check-reading .ensures)) (omega (arith, c .if2 .taken, c .before .if1 .left, length-drop (a .at) (a .buffer .now))), refl)
+returns-2 c = let a = c .before .before .before .before .before .before .before .before .args in (cut refl (rw (c .before .before .before .enum-told .given .1) at (c .before .before .before .before .before .check-reading .ensures)) (omega (arith, c .if2 .taken, c .before .before .if1 .left, c .before .body-length .ensures, length-drop (a .at) (a .buffer .now))), refl)
 
 sub-put-record : tie.Need-sub-put-record
 sub-put-record c = search needs
@@ -36,7 +39,7 @@ part-put-record-end : tie.Need-part-put-record-end
 part-put-record-end c = search needs
 
 put-record-requires : tie.Need-put-record-requires
-put-record-requires c κs = (rw (c .before .before .before .enum-told .given .1) at (c .before .before .before .before .before .check-reading .ensures), simp (length-take, length-drop) (omega (arith, c .before .if2 .left, c .before .before .if1 .left)))
+put-record-requires c κs = let g = rw (c .before .before .before .before .enum-told .given .1) at (c .before .before .before .before .before .before .check-reading .ensures) in (g, simp (length-take, length-drop) (omega (arith, c .before .if2 .left, c .before .before .before .if1 .left, c .before .before .body-length .ensures)))
 
 add-t13 : tie.Need-add-t13
 add-t13 c = search needs
@@ -48,7 +51,7 @@ same-length : tie.Need-same-length
 same-length c = search needs
 
 returns-4 : tie.Need-returns-4
-returns-4 c = let a = c .before .before .before .before .before .before .before .before .before .before .before .args in wrote (a .reading .now) (a .k) (a .kind) (a .buffer .now) (a .at) _ (rw (c .before .before .before .before .before .before .enum-told .given .1) at (c .before .before .before .before .before .before .before .before .check-reading .ensures)) (c .before .before .before .before .before .if1 .left) (c .before .before .before .before .if2 .left) (c .before .before .put-record .ensures)
+returns-4 c = let a = c .before .before .before .before .before .before .before .before .before .before .before .before .args in let g = rw (c .before .before .before .before .before .before .before .enum-told .given .1) at (c .before .before .before .before .before .before .before .before .before .check-reading .ensures) in wrote (a .reading .now) (a .k) (a .kind) (a .buffer .now) (a .at) _ _ (c .before .before .before .before .before .body-length .ensures) g (c .before .before .before .before .before .before .if1 .left) (c .before .before .before .before .if2 .left) (c .before .before .put-record .ensures)
 
 pub write-record-spec : {M : Type 1} → statement M
 write-record-spec =
@@ -58,6 +61,7 @@ write-record-spec =
     enum-known-r
     enum-told
     returns
+    body-length-requires
     add-size
     returns-2
     sub-put-record

@@ -1,10 +1,13 @@
--- `writer_inner::put_record` meets its contract: the head, and the sectors behind it. Assumes nothing.
-use Rattle.writer_inner.proofs.Heads.{placed}
+-- `writer_inner::put_record` meets its contract: the head, and the bytes behind it. Assumes nothing.
 use mathlib.Core.Path.{refl}
 use native.Mathlib.Omega.{arith}
+use Rattle.writer_inner.proofs.Heads.{placed}
 use borrow.Author.Needs.{needs}
 use Rattle.writer_inner.proofs.put_record.Statement.{statement}
 use Rattle.writer_inner.proofs.put_record.Tie as tie
+
+body-length-requires : tie.Need-body-length-requires
+body-length-requires c κs = search needs
 
 add-e : tie.Need-add-e
 add-e c = search needs
@@ -15,34 +18,35 @@ second-byte-requires c κs = search needs
 put-head-requires : tie.Need-put-head-requires
 put-head-requires c κs = search needs
 
-sub-put-home : tie.Need-sub-put-home
-sub-put-home c = search needs
+sub-put-body : tie.Need-sub-put-body
+sub-put-body c = search needs
 
-part-put-home-start : tie.Need-part-put-home-start
-part-put-home-start c = search needs
+part-put-body-start : tie.Need-part-put-body-start
+part-put-body-start c = search needs
 
-part-put-home-end : tie.Need-part-put-home-end
-part-put-home-end c = search needs
+part-put-body-end : tie.Need-part-put-body-end
+part-put-body-end c = search needs
 
-put-home-requires : tie.Need-put-home-requires
-put-home-requires c κs = search needs
+put-body-requires : tie.Need-put-body-requires
+put-body-requires c κs = search needs
 
 same-length : tie.Need-same-length
 same-length c = search needs
 
 returns : tie.Need-returns
-returns c = let a = c .before .before .before .before .before .before .before .before .before .before .before .args in placed (a .reading .now) (a .k) (a .kind) (a .rest .now) _ _ _ (c .before .before .before .before .before .before .before .second-byte .result) (c .before .before .before .before .before .before .before .before .before .before .before .pre .0 .0 .0 .0 .0 .0 .0 .0) (omega (arith, c .before .before .before .before .before .before .before .before .before .before .before .pre .1)) (c .before .before .before .before .before .before .before .second-byte .ensures) (c .before .before .before .before .before .before .put-head .ensures) (c .before .before .put-home .ensures) refl
+returns c = let e = c .before .before .before .before .before .before .before .before .before .before .before .before in let a = e .args in let m = c .before .before .before .before .before .before .before .before .before .body-length in placed (a .reading .now) (a .k) (a .kind) (a .rest .now) _ _ _ (c .before .before .before .before .before .before .before .second-byte .result) (m .result) (e .pre .0) (m .ensures) (omega (arith, e .pre .1, m .ensures)) (c .before .before .before .before .before .before .before .second-byte .ensures) (c .before .before .before .before .before .before .put-head .ensures) (c .before .before .put-body .ensures) refl
 
 pub put-record-spec : {M : Type 1} → statement M
 put-record-spec =
     tie.close
     (tie.spec
+    body-length-requires
     add-e
     second-byte-requires
     put-head-requires
-    sub-put-home
-    part-put-home-start
-    part-put-home-end
-    put-home-requires
+    sub-put-body
+    part-put-body-start
+    part-put-body-end
+    put-body-requires
     same-length
     returns)

@@ -1,0 +1,1 @@
+-- What it promises stands in `catalogue_record`; nothing is defined here.

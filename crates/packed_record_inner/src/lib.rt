@@ -1,0 +1,63 @@
+// What stands behind the mark of a packed record: n and k, whether the packed bytes are all there, and then those: 1, 2, 7, 3, 17, 9; and the ring of a good one. No
+// public calls.
+
+use catalogue_record::Entry;
+use catalogue_record::HEAD;
+use catalogue_record::Kind;
+use refusal::Checked;
+use refusal::Refusal;
+ghost use mathlib.Core.Path.{_≡_};
+ghost use Prim.Native.Nat.{_+_, _≤_};
+ghost use lib.ListN.{length};
+ghost use Rattle.catalogue_record.specs.declared.Kind.the-variants.{Packed};
+ghost use Rattle.catalogue_record.specs.Layout.{Marked};
+ghost use Rattle.catalogue_record.specs.Order.{Good};
+ghost use Rattle.catalogue_record.specs.Steps.{Held, BehindSays, RecordSays};
+
+// The checks, and then the ring.
+pub fn read_packed(rest: &[u8], start: usize, out: &mut [u8]) -> Entry
+    requires { ⌜ Held (start + length (now rest)) × (length (now out) ≡ 64) × (4 ≤ length (now rest)) × Marked (now rest) Packed ⌝ }
+    ensures { λ r. ⌜ RecordSays (now (rest .entry)) start (now (out .entry)) r (now (out .exit)) ⌝ }
+{
+    match check_packed(rest, start) {
+        Checked::Refused(r) => Entry::Refused(r),
+        Checked::Good => unpack_good(rest, start, out),
+    }
+}
+
+fn check_packed(rest: &[u8], start: usize) -> Checked
+    requires { ⌜ Held (start + length (now rest)) × (4 ≤ length (now rest)) ⌝ }
+    ensures { λ r. ⌜ BehindSays Packed (now (rest .entry)) start r ⌝ }
+{
+    match record_inner::check_counts(rest, start) {
+        Checked::Refused(r) => Checked::Refused(r),
+        Checked::Good => {
+            let n = rest[2] as usize;
+            let k = rest[3] as usize;
+            let l = bits_inner::packed_length(bits_inner::width_of(k), n);
+            let e = HEAD + l;
+            if rest.len() < e {
+                return Checked::Refused(Refusal::Cut(start));
+            }
+            packed_body_inner::check_packed_body(&rest[HEAD..e], start, n, k)
+        }
+    }
+}
+
+// Unpacks the ring of a good record to the output, and answers what it is.
+fn unpack_good(rest: &[u8], start: usize, out: &mut [u8]) -> Entry
+    requires { ⌜ Held (start + length (now rest)) × (length (now out) ≡ 64) × Good Packed (now rest) × Marked (now rest) Packed ⌝ }
+    ensures { λ r. ⌜ RecordSays (now (rest .entry)) start (now (out .entry)) r (now (out .exit)) ⌝ }
+{
+    let n = rest[2] as usize;
+    let k = rest[3] as usize;
+    let b = bits_inner::width_of(k);
+    let e = HEAD + bits_inner::packed_length(b, n);
+    unpacking_inner::unpack_into(&rest[HEAD..e], b, &mut out[..n]);
+    Entry::Record {
+        n: n,
+        k: k,
+        kind: Kind::Packed,
+        next: start + e,
+    }
+}
