@@ -1,7 +1,7 @@
-// Records written, and each read back from where it was written: document 01's front record, rings that are even-handed and rings that are not, records one behind the
+// Records written in either form, and each read back from where it was written: document 01's front record, request k's packed one, rings that are even-handed and rings that are not, records one behind the
 // other, buffers that just fit and that are a byte short, the bounds of n and k, places past the end and the greatest one, and each refusal. The expected
 // text, stdout, is written from the documents.
-// The cases are the lines of stdin: `put`, k, the place, a reading, and the buffer in hexadecimal digits; `say` and a heading.
+// The cases are the lines of stdin: `put`, k, the place, a reading, and the buffer in hexadecimal digits; `pack`, the same for a packed record; `say` and a heading.
 
 use catalogue::Entry;
 use writer::Kind;
@@ -9,15 +9,23 @@ use writer::Written;
 
 // ---- printing
 
-fn print_numbers(n: usize, k: usize, next: usize) {
-    show::named(b", read n ", n);
+fn print_kind(x: Kind) {
+    match x {
+        Kind::Front => show::text(b", read front"),
+        Kind::Packed => show::text(b", read packed"),
+    }
+}
+
+fn print_numbers(n: usize, k: usize, kind: Kind, next: usize) {
+    print_kind(kind);
+    show::named(b" n ", n);
     show::named(b" k ", k);
     show::named(b" next ", next);
 }
 
 fn print_entry(r: Entry) {
     match r {
-        Entry::Record { n, k, next, .. } => print_numbers(n, k, next),
+        Entry::Record { n, k, kind, next } => print_numbers(n, k, kind, next),
         Entry::End => show::text(b", end"),
         Entry::Refused(r) => show::refused(r),
     }
@@ -51,9 +59,17 @@ fn print_written(r: Written, buffer: &[u8], at: usize) {
     show::newline();
 }
 
-fn put(reading: &[u8], k: usize, buffer: &mut [u8], at: usize) {
-    let r = writer::write_record(reading, k, Kind::Front, buffer, at);
+fn put(reading: &[u8], k: usize, kind: Kind, buffer: &mut [u8], at: usize) {
+    let r = writer::write_record(reading, k, kind, buffer, at);
     print_written(r, buffer, at);
+}
+
+// The kind of a case, by its second letter.
+fn kind_of(x: u8) -> Kind {
+    if x == b'a' {
+        return Kind::Packed;
+    }
+    Kind::Front
 }
 
 // One line.
@@ -73,6 +89,7 @@ fn run(line: &[u8]) {
     put(
         &reading[..n],
         cases::number(line, 1),
+        kind_of(line[1]),
         &mut buffer[..m],
         cases::number(line, 2),
     );
