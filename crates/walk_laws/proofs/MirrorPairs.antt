@@ -1,6 +1,4 @@
 -- One ring from each mirror pair (02, request c), of the rings that `walk::start` and `walk::next_bracelet` hand out one after another until Done.
---     Arrivals                 such steps, as their contract tells them
---     PairsHandedOut           a start from the all-zero ring, and the steps from it
 --     arrivals-walk            the steps from a record are the full walk by bracelets from its ring
 --     pairs-bracelets          all rings handed out are bracelets of n and k
 --     pairs-order              in increasing order
@@ -15,7 +13,7 @@ use Prim.Native.Nat.{ℕ, _+_, _<_}
 use mathlib.Core.Path.{_≡_, refl, sym, subst, ap, _∙_}
 use mathlib.Core.Bool.{true}
 use mathlib.Core.Option.{some}
-use mathlib.Core.List.{List, [], _∷_}
+use mathlib.Core.List.{List, _∷_}
 use native.Mathlib.Omega.{arith}
 use lib.ListN.{length}
 use Rattle.words.specs.Readings.{Sized, Shaded, Reading}
@@ -33,23 +31,9 @@ use Rattle.walk_record.specs.declared.Walk.{Walk}
 use Rattle.walk_record.specs.Record.{ringOf, walkOf}
 use Rattle.walk_record.specs.Says.{StartSays}
 use Rattle.walk_record.proofs.Good.{ring-of, walk-good}
-use Rattle.bracelet_answers.specs.declared.Arrival.the-variants.{Moved, Done}
-use Rattle.bracelet_answers.specs.Says.{ArrivalSays, Onward}
+use Rattle.bracelet_answers.specs.Says.{Onward}
+use Rattle.walk_laws.specs.Arrivals.{Arrivals, PairsHandedOut, ends, goes}
 use Rattle.walk_laws.proofs.OneRing.{handed-out}
-
--- steps one after another until Done, as the contract tells them: the rings they came to
-pub data Arrivals : Walk → List (List ℕ) → Type 0 where
-  ends : {w v : Walk} → ArrivalSays w v Done → Arrivals w []
-  goes : {w v : Walk} {rings : List (List ℕ)} → ArrivalSays w v Moved → Arrivals v rings → Arrivals w (ringOf v ∷ rings)
-
--- a start from the all-zero ring of n sectors and k shades, and the steps to the next bracelet from it until Done
-pub record PairsHandedOut (n k : ℕ) : Type 0 where
-  -- the record that the start hands out
-  pub first : Walk
-  pub started : StartSays (zeros n) k first C.Good
-  -- the rings of the records that the steps hand out
-  pub rings : List (List ℕ)
-  pub steps : Arrivals first rings
 
 -- ---- the steps are a full walk
 
