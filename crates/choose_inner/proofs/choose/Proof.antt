@@ -41,7 +41,7 @@ enum-told : tie.Need-enum-told Inv-loop μ-loop
 enum-told c = search needs
 
 returns : tie.Need-returns Inv-loop μ-loop
-returns c = let a = c .before .before .before .before .before .before .before .before .args in let q = c .before .before .before .before .before .before .before .before .pre in let l = c .before .before .before .loop in let r = c .before .next-word in along-ended (a .n) (a .k) (a .d) (a .wanted) q (l .w) (l .places) (l .taken) (l .inv) (stops (a .n) (a .k) (a .d) (a .wanted) q (l .w) (l .places) (l .taken) (l .inv) (r .result .walk) (r .result .outcome) (c .match .keys2) (r .ensures)) (c .before .before .loop-test .taken)
+returns c = let a = c .before .before .before .before .before .before .before .before .args in let q = c .before .before .before .before .before .before .before .before .pre in let l = c .before .before .before .loop in let r = c .before .next-word in along-ended (a .n) (a .k) (a .d) (a .wanted) q (l .w) (l .places) (l .taken) (l .inv) (stops (a .n) (a .k) (a .d) (a .wanted) q (l .w) (l .places) (l .taken) (l .inv) (r .result .walk) (r .result .outcome) (c .match .keys2) (r .ensures)) (omega (arith, c .before .before .loop-test .taken))
 
 slice-aggregate-offer : tie.Need-slice-aggregate-offer Inv-loop μ-loop
 slice-aggregate-offer c = let a = c .before .before .before .before .before .before .before .before .before .before .before .before .args in let q = c .before .before .before .before .before .before .before .before .before .before .before .before .pre in let l = c .before .before .before .before .before .before .before .loop in sym (along-size (a .n) (a .k) (a .d) (a .wanted) q (l .w) (l .places) (l .taken) (l .inv))
@@ -59,10 +59,10 @@ loop-less : tie.Need-loop-less Inv-loop μ-loop
 loop-less c = let a = c .before .before .before .before .before .before .before .before .before .before .before .before .before .before .before .args in let q = c .before .before .before .before .before .before .before .before .before .before .before .before .before .before .before .pre in let l = c .before .before .before .before .before .before .before .before .before .before .loop in let r = c .before .before .before .before .before .before .before .before .next-word in let o = c .before .before .before .before .before .before .enum-told .given in let cm = came (a .n) (a .k) (a .d) (a .wanted) q (l .w) (l .places) (l .taken) (l .inv) (r .result .walk) (o .0 .0) (rw (o .1) at (r .ensures)) in along-less (a .n) (a .k) (a .d) (a .wanted) q (l .w) (l .places) (l .taken) (l .inv) (r .result .walk) cm
 
 loop-again : tie.Need-loop-again Inv-loop μ-loop
-loop-again c = let a = c .before .before .before .before .before .before .before .before .before .before .before .before .before .before .before .args in let q = c .before .before .before .before .before .before .before .before .before .before .before .before .before .before .before .pre in let l = c .before .before .before .before .before .before .before .before .before .before .loop in let r = c .before .before .before .before .before .before .before .before .next-word in let o = c .before .before .before .before .before .before .enum-told .given in let cm = came (a .n) (a .k) (a .d) (a .wanted) q (l .w) (l .places) (l .taken) (l .inv) (r .result .walk) (o .0 .0) (rw (o .1) at (r .ensures)) in along-on (a .n) (a .k) (a .d) (a .wanted) q (l .w) (l .places) (l .taken) (l .inv) (r .result .walk) cm _ _ (c .before .before .before .before .before .before .before .before .before .loop-test .taken) (c .before .offer .ensures)
+loop-again c = let a = c .before .before .before .before .before .before .before .before .before .before .before .before .before .before .before .args in let q = c .before .before .before .before .before .before .before .before .before .before .before .before .before .before .before .pre in let l = c .before .before .before .before .before .before .before .before .before .before .loop in let r = c .before .before .before .before .before .before .before .before .next-word in let o = c .before .before .before .before .before .before .enum-told .given in let cm = came (a .n) (a .k) (a .d) (a .wanted) q (l .w) (l .places) (l .taken) (l .inv) (r .result .walk) (o .0 .0) (rw (o .1) at (r .ensures)) in along-on (a .n) (a .k) (a .d) (a .wanted) q (l .w) (l .places) (l .taken) (l .inv) (r .result .walk) cm _ _ (omega (arith, c .before .before .before .before .before .before .before .before .before .loop-test .taken)) (c .before .offer .ensures)
 
 returns-2 : tie.Need-returns-2 Inv-loop μ-loop
-returns-2 c = let a = c .before .before .before .before .before .before .args in let q = c .before .before .before .before .before .before .pre in let l = c .before .loop in along-full (a .n) (a .k) (a .d) (a .wanted) q (l .w) (l .places) (l .taken) (l .inv) (c .loop-test .left)
+returns-2 c = let a = c .before .before .before .before .before .before .args in let q = c .before .before .before .before .before .before .pre in let l = c .before .loop in along-full (a .n) (a .k) (a .d) (a .wanted) q (l .w) (l .places) (l .taken) (l .inv) (omega (arith, c .loop-test .left))
 
 pub choose-spec : {M : Type 1} → statement M
 choose-spec =
