@@ -32,10 +32,10 @@ add-t15 : tie.Need-add-t15
 add-t15 c = search needs
 
 byte-of-requires : tie.Need-byte-of-requires
-byte-of-requires c κs = let e = c .before .before .before .before .before .before .before .before in let a = e .args in let g = rw (c .before .i .given .1) at (c .before .before .before .look .ensures) in byte-asks (a .k) (length (a .sectors .now)) _ _ (e .pre .1) (e .pre .2) (c .before .before .before .before .before .width-of .ensures) (g .within)
+byte-of-requires c κs = let e = c .before .before .before .before .before .before .before .before in let a = e .args in let g = rw (c .before .i .given .1) at (c .before .before .before .look .ensures) in byte-asks (a .k) (length (a .sectors .now)) _ _ (e .pre .1) (e .pre .2) (c .before .before .before .before .before .width-of .ensures) (omega (arith, g .within))
 
 add-t17 : tie.Need-add-t17
-add-t17 c = let e = c .before .before .before .before .before .before .before .before .before in let a = e .args in let g = rw (c .before .before .i .given .1) at (c .before .before .before .before .look .ensures) in omega (arith, e .pre .0, byte-in (a .sectors .now) (a .bytes .now) (a .k) (a .start) _ (e .pre .3) (e .pre .4) (c .before .before .before .before .before .before .width-of .ensures) _ _ (e .pre .2) (g .within) (c .byte-of .ensures))
+add-t17 c = let e = c .before .before .before .before .before .before .before .before .before in let a = e .args in let g = rw (c .before .before .i .given .1) at (c .before .before .before .before .look .ensures) in omega (arith, e .pre .0, byte-in (a .sectors .now) (a .bytes .now) (a .k) (a .start) _ (e .pre .3) (e .pre .4) (c .before .before .before .before .before .before .width-of .ensures) _ _ (e .pre .2) (omega (arith, g .within)) (c .byte-of .ensures))
 
 enum-told : tie.Need-enum-told
 enum-told c = search needs
@@ -50,10 +50,10 @@ add-t22 : tie.Need-add-t22
 add-t22 c = search needs
 
 byte-of-requires-2 : tie.Need-byte-of-requires-2
-byte-of-requires-2 c κs = let e = c .before .before .before .before .before .before .before .before .before in let a = e .args in let g = rw (c .before .before .j .given .1) at (c .before .before .before .before .look .ensures) in byte-asks (a .k) (length (a .sectors .now)) _ _ (e .pre .1) (e .pre .2) (c .before .before .before .before .before .before .width-of .ensures) (look-in (a .sectors .now) _ (e .pre .1) (g .0))
+byte-of-requires-2 c κs = let e = c .before .before .before .before .before .before .before .before .before in let a = e .args in let g = rw (c .before .before .j .given .1) at (c .before .before .before .before .look .ensures) in byte-asks (a .k) (length (a .sectors .now)) _ _ (e .pre .1) (e .pre .2) (c .before .before .before .before .before .before .width-of .ensures) (omega (arith, look-in (a .sectors .now) _ (e .pre .1) (g .0)))
 
 add-t24 : tie.Need-add-t24
-add-t24 c = let e = c .before .before .before .before .before .before .before .before .before .before in let a = e .args in let g = rw (c .before .before .before .j .given .1) at (c .before .before .before .before .before .look .ensures) in omega (arith, e .pre .0, byte-in (a .sectors .now) (a .bytes .now) (a .k) (a .start) _ (e .pre .3) (e .pre .4) (c .before .before .before .before .before .before .before .width-of .ensures) _ _ (e .pre .2) (look-in (a .sectors .now) _ (e .pre .1) (g .0)) (c .byte-of2 .ensures))
+add-t24 c = let e = c .before .before .before .before .before .before .before .before .before .before in let a = e .args in let g = rw (c .before .before .before .j .given .1) at (c .before .before .before .before .before .look .ensures) in omega (arith, e .pre .0, byte-in (a .sectors .now) (a .bytes .now) (a .k) (a .start) _ (e .pre .3) (e .pre .4) (c .before .before .before .before .before .before .before .width-of .ensures) _ _ (e .pre .2) (omega (arith, look-in (a .sectors .now) _ (e .pre .1) (g .0))) (c .byte-of2 .ensures))
 
 returns-2 : tie.Need-returns-2
 returns-2 c = let e = c .before .before .before .before .before .before .before .before .before .before in let a = e .args in let g = rw (c .before .before .before .j .given .1) at (c .before .before .before .before .before .look .ensures) in not-home (a .sectors .now) (a .bytes .now) (a .k) (a .start) _ (e .pre .3) (e .pre .4) (c .before .before .before .before .before .before .before .width-of .ensures) (g .1) (c .before .before .before .before .before .before .padding-clear .result) (c .before .before .before .before .before .before .padding-clear .ensures) _ _ (c .byte-of2 .ensures) (g .0) (g .2) (c .before .if2 .taken)
