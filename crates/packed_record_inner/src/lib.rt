@@ -1,5 +1,5 @@
-// What stands behind the mark of a packed record: n and k, whether the packed bytes are all there, and then those: 1, 2, 7, 3, 17, 9; and the ring of a good one. No
-// public calls.
+// What stands behind the mark of a packed record: n and k, whether the packed bytes are all there, and then those: 1, 2, 7, 3, 17, 9; and the ring of a good one.
+// No public calls: `head_inner` checks what these ask for.
 
 use catalogue_record::Entry;
 use catalogue_record::HEAD;
