@@ -1,6 +1,7 @@
 -- The search for the place to raise, and the shades behind it.
 --     Lifting k w s i      s is the first i sectors of w, filled up, and from place i on w is stuck
 --     lifting-start, lifting-full, lifting-stuck, lifting-none     the search from the end
+--     lifting-shade                                                what stands at the place is a shade
 --     lifting-below, lifting-settles, lifting-found                the place is found: its least shade
 --     led-settles, led-on                                          the least shade at a place behind it
 --     Leading k c m s i, leading-start, leading-settles, leading-on, leading-end    place by place, up to the end
@@ -38,6 +39,10 @@ module _ (k : ℕ) (w : List ℕ) (ready : ByteReading k w) where
   module _ (s : List ℕ) (i l t : ℕ) (f : Lifting k w s i) (e : suc l ≡ i) (q : t ≡ k - 1) where
     in-w : l < length w
     in-w = omega (arith, f .inside)
+
+    -- it is a shade
+    pub lifting-shade : getD s l 0 < k
+    lifting-shade = omega (arith, f .low l (omega arith), ready .reading .shades l in-w)
 
     past : Stuck k w (suc l)
     past = rw e (f .stuck)

@@ -4,7 +4,7 @@ use mathlib.Core.Path.{_∙_, sym, refl}
 use native.Mathlib.Omega.{arith}
 use lib.ListN.{length-set}
 use borrow.Author.Needs.{needs}
-use Rattle.bracelet_inner.proofs.Lifting.{Lifting, lifting-start, lifting-long, lifting-full, lifting-stuck, lifting-below, lifting-settles, lifting-found, lifting-none}
+use Rattle.bracelet_inner.proofs.Lifting.{Lifting, lifting-start, lifting-long, lifting-full, lifting-stuck, lifting-shade, lifting-below, lifting-settles, lifting-found, lifting-none}
 use Rattle.bracelet_inner.proofs.lift.Statement.{statement}
 use Rattle.bracelet_inner.proofs.lift.Tie as tie
 
@@ -46,7 +46,7 @@ add-settle c =
     let g = c .before .before .before .before .before .before .before .before .before in
     let a = g .args in
     let l = c .before .before .before .before .before .before .before .loop in
-    omega (arith, g .pre .shades, lifting-below (a .k) (a .s .now) (g .pre) (l .s) (l .i) (l .i - 1) (a .k - 1) (l .inv) (omega arith) refl (sym (c .before .before .is-bracelet .ensures) ∙ c .before .if2 .taken) (c .before .before .before .before .if1 .left))
+    omega (arith, g .pre .shades, lifting-shade (a .k) (a .s .now) (g .pre) (l .s) (l .i) (l .i - 1) (a .k - 1) (l .inv) (omega arith) refl)
 
 settle-requires : tie.Need-settle-requires Inv-loop μ-loop
 settle-requires c κs =
