@@ -4,7 +4,8 @@ use libc::STDIN_FILENO;
 use libc::STDOUT_FILENO;
 use reports::Fed;
 use reports::Pending;
-ghost use Prim.Native.Nat.{_*_, _≤_, _<_};
+ghost use Prim.Native.Nat.{_+_, _*_, _≤_, _<_};
+ghost use mathlib.Core.Path.{_≡_};
 ghost use lib.ListN.{length};
 ghost use Rattle.reports.specs.Blocks.{lineRoom};
 ghost use Rattle.reporting_inner.specs.Says.{WholeSays};
@@ -12,7 +13,7 @@ ghost use Rattle.reporting_inner.specs.Says.{WholeSays};
 // A proved loop has to end, and nothing says that an input does: the blocks are counted down from a number that no run uses up. A block that is not full is the last.
 fn turns_left(turns: u64, got: usize) -> u64
     requires { ⌜ 0 < turns ⌝ }
-    ensures { λ r. ⌜ r < turns ⌝ }
+    ensures { λ r. ⌜ (r < turns) × (got < 2048 → r ≡ 0) × (2048 ≤ got → r + 1 ≡ turns) ⌝ }
 {
     if got < 2048 {
         return 0;
