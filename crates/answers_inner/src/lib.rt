@@ -1,5 +1,6 @@
 // What a line of the report prints (02, request f), placed into a lent buffer. No public calls: crate `report` sees to the room.
 
+use how_many::MOST;
 use limits::Planned;
 use refusal::Refusal;
 ghost use Prim.Native.Nat.{_+_, _≤_};
@@ -10,12 +11,10 @@ ghost use Rattle.refusal.specs.Numbers.{numberOf};
 ghost use Rattle.limits.specs.Limits.{Listable};
 ghost use Rattle.text.specs.Text.{refusedLine};
 ghost use Rattle.text.specs.Put.{Placed};
-ghost use Rattle.reports.specs.Lines.{most, countsLine};
+ghost use Rattle.how_many.specs.Says.{most};
+ghost use Rattle.reports.specs.Lines.{countsLine};
 ghost use Rattle.reports.specs.Blocks.{lineRoom};
 ghost use Rattle.answers_inner.specs.Says.{AnswerSays};
-
-// The greatest power that is not Too many: 2 to the power 32.
-const MOST: usize = 4294967296;
 
 // Two numbers, a space between them, and a newline.
 fn place_counts(buf: &mut [u8], at: usize, x: usize, y: usize) -> usize

@@ -12,7 +12,7 @@ pub enum Counted {
 }
 
 // The greatest power that is not Too many: 2 to the power 32.
-const MOST: usize = 4294967296;
+pub const MOST: usize = 4294967296;
 
 // How many necklaces of n sectors and k shades there are.
 pub fn necklaces(k: usize, n: usize) -> Counted

@@ -17,7 +17,8 @@ use Rattle.line.specs.Line.{Spells}
 use Rattle.line.proofs.Lines.{line-short}
 use Rattle.plan.specs.Plan.{malformed, spelt, PlanSays}
 use Rattle.plan.proofs.First.{plan-first}
-use Rattle.reports.specs.Lines.{most, Answers, counted, refused}
+use Rattle.how_many.specs.Says.{most}
+use Rattle.reports.specs.Lines.{Answers, counted, refused}
 use Rattle.reports.specs.Blocks.{keep}
 
 -- what is kept of what is kept and a byte more

@@ -19,7 +19,8 @@ use Rattle.text.proofs.Digits.{length-decimal}
 use Rattle.text.proofs.Put.{length-refused}
 use Rattle.limits.specs.Limits.{Listable}
 use Rattle.plan.proofs.Plans.{plan-number}
-use Rattle.reports.specs.Lines.{most, countsLine, Answers, counted, refused}
+use Rattle.how_many.specs.Says.{most}
+use Rattle.reports.specs.Lines.{countsLine, Answers, counted, refused}
 use Rattle.reports.specs.Blocks.{lineRoom}
 
 -- there are at most as many as readings

@@ -17,9 +17,10 @@ use Rattle.text.specs.Text.{refusedLine}
 use Rattle.limits.specs.declared.Planned.{Planned}
 use Rattle.limits.specs.declared.Planned.the-variants.{Accepted, Refused}
 use Rattle.plan.proofs.Unique.{one-plan}
+use Rattle.how_many.specs.Says.{most}
 use Rattle.reports.specs.declared.Pending.{Pending}
 use Rattle.reports.specs.declared.Fed.{Fed}
-use Rattle.reports.specs.Lines.{most, countsLine, Answers, counted, refused, ended, under, lastOf, lines, Texts, done, more, Reports}
+use Rattle.reports.specs.Lines.{countsLine, Answers, counted, refused, ended, under, lastOf, lines, Texts, done, more, Reports}
 use Rattle.reports.specs.Blocks.{lineRoom, lineOf, stateOf, bytesFor, FeedSays, EndSays, small, last}
 
 -- the text of a plan

@@ -1,5 +1,4 @@
 -- What the report prints for an input (02, request f).
---     most               the report's limit of Too many
 --     countsLine x y     6 3: the necklaces, a space, the Lyndon words
 --     Answers s text     text is what the line s, without its newline, prints: the two numbers, or the line of its refusal as in the listing program
 --     ended u s          the lines that end in s, each without its newline, where u is the beginning of the first
@@ -8,7 +7,7 @@
 --     Texts ls text      text is what the lines ls print, one after another
 --     Reports s text     text is what the input s prints
 -- That an input prints one text: proofs/Unique. Assumes nothing.
-use Prim.Native.Nat.{ℕ, _^_}
+use Prim.Native.Nat.{ℕ}
 use mathlib.Core.Path.{_≡_}
 use mathlib.Core.Bool.{true, false}
 use mathlib.Core.List.{List, [], _∷_, _++_}
@@ -22,10 +21,7 @@ use Rattle.text.specs.Decimal.{decimal}
 use Rattle.text.specs.Text.{refusedLine}
 use Rattle.limits.specs.declared.Planned.the-variants.{Accepted, Refused}
 use Rattle.plan.specs.Plan.{PlanSays}
-
--- 2 to the power 32
-abbrev pub most : ℕ
-most = 2 ^ 32
+use Rattle.how_many.specs.Says.{most}
 
 -- the necklaces, a space, the Lyndon words
 unfoldable pub countsLine : ℕ → ℕ → List ℕ

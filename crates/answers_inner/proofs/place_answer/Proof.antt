@@ -1,4 +1,5 @@
 -- `answers_inner::place_answer` meets its contract. Assumes nothing.
+use native.Mathlib.Omega.{arith}
 use Rattle.text.proofs.Put.{placed-length}
 use Rattle.answers_inner.proofs.Placing.{refusal-fits, answer-refused, accepted-few, answer-counted}
 use borrow.Author.Needs.{needs}
@@ -15,7 +16,7 @@ place-refusal-requires : tie.Need-place-refusal-requires
 place-refusal-requires c κs =
     let a = c .before .before .before .before .before .before .before .args in
     let g = c .before .before .r .given in
-    refusal-fits (a .line .now) (c .before .before .before .before .plan-line .result) (c .before .before .before .before .plan-line .ensures) (g .0 .0) (g .1) _ _ (c .before .before .before .before .before .before .before .pre)
+    refusal-fits _ (a .line .now) (c .before .before .before .before .plan-line .result) (c .before .before .before .before .plan-line .ensures) (g .0 .0) (g .1) _ _ (c .before .before .before .before .before .before .before .pre)
 
 enum-known-k : tie.Need-enum-known-k
 enum-known-k c = search needs
@@ -24,7 +25,7 @@ place-numbers-requires : tie.Need-place-numbers-requires
 place-numbers-requires c κs =
     let a = c .before .before .before .before .before .before .before .args in
     let g = c .before .before .k .given in
-    (accepted-few (a .line .now) (c .before .before .before .before .plan-line .result) (c .before .before .before .before .plan-line .ensures) (g .0 .0) (g .0 .1 .0) (g .1), c .before .before .before .before .before .before .before .pre)
+    (accepted-few _ (a .line .now) (c .before .before .before .before .plan-line .result) (c .before .before .before .before .plan-line .ensures) (g .0 .0) (g .0 .1 .0) (g .1) (omega arith), c .before .before .before .before .before .before .before .pre)
 
 same-length : tie.Need-same-length
 same-length c = placed-length _ _ _ _ _ (c .before .before .place-refusal .ensures)
