@@ -33,7 +33,7 @@ fn write_listable(n: usize, k: usize, out: &mut [u8]) -> Written
     requires { ⌜ Listable 4096 k n ⌝ }
     ensures { λ r. ⌜ WriteSays n k (now (out .entry)) r (now (out .exit)) ⌝ }
 {
-    if out.len() != strip_inner::size(n, k) {
+    if out.len() != power_inner::power(k, n) {
         return Written::Refused(Refusal::Room);
     }
     strip_inner::write_whole(n, k, out);
@@ -70,7 +70,7 @@ fn place_good(reading: &[u8], k: usize) -> Position
     if limits::power_above(k, n, MOST) {
         return Position::Refused(Refusal::TooMany);
     }
-    let m = strip_inner::size(n, k);
+    let m = power_inner::power(k, n);
     let mut sectors = [0u8; 4096];
     Position::Place(place_on(reading, k, &mut sectors[..m]))
 }

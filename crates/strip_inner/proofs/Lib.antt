@@ -1,4 +1,3 @@
--- Laws of writing the strip: one word laid down (Piece), and the loop from necklace to necklace (Writing); powers (Powers).
+-- Laws of writing the strip: one word laid down (Piece), and the loop from necklace to necklace (Writing).
 pub mod Piece
 pub mod Writing
-pub mod Powers

@@ -52,17 +52,3 @@ pub fn write_whole(n: usize, k: usize, out: &mut [u8])
     let mut ring = [0u8; 64];
     write_from(&mut ring[..n], k, out);
 }
-
-// k to the power n.
-pub fn size(n: usize, k: usize) -> usize
-    requires { ⌜ Listable 4096 k n ⌝ }
-    ensures { λ r. ⌜ r ≡ k ^ n ⌝ }
-{
-    let mut p: usize = 1;
-    let mut i = 0;
-    while i < n {
-        p *= k;
-        i += 1;
-    }
-    p
-}

@@ -1,6 +1,6 @@
 // The divisor formulas (001, equation 1; 02, request f): their sums over the divisors of n, and how many rings they say there are. No public calls: crate `how_many`
 // sees to it that n and k are a ring's numbers and that k to the power n is at most 2 to the power 32, so that nothing wraps.
-ghost use Prim.Native.Nat.{_/_, _^_, _≤_, _<_};
+ghost use Prim.Native.Nat.{_/_, _≤_, _<_};
 ghost use mathlib.Core.Path.{_≡_};
 ghost use Rattle.rings.specs.Necklace.{necklace, lyndon};
 ghost use Rattle.rings.specs.Steps.{howMany};
@@ -27,21 +27,6 @@ fn weigh(w: Weight, d: usize) -> usize
     }
 }
 
-// k to the power e.
-fn power(k: usize, e: usize) -> usize
-    requires { ⌜ 0 < k ⌝ }
-    requires { ⌜ k ^ e ≤ 4294967296 ⌝ }
-    ensures { λ r. ⌜ r ≡ k ^ e ⌝ }
-{
-    let mut p: usize = 1;
-    let mut i = 0;
-    while i < e {
-        p *= k;
-        i += 1;
-    }
-    p
-}
-
 // What d adds to the sum: nothing where it does not divide n.
 fn summand(w: Weight, k: usize, n: usize, d: usize) -> usize
     requires { ⌜ Small k n ⌝ }
@@ -53,7 +38,7 @@ fn summand(w: Weight, k: usize, n: usize, d: usize) -> usize
         return 0;
     }
     let e = n / d;
-    weigh(w, d) * power(k, e)
+    weigh(w, d) * power_inner::power(k, e)
 }
 
 // The sum over the divisors of n: at most 64 summands of at most 64 times 2 to the power 32 each.

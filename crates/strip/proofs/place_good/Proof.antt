@@ -15,24 +15,27 @@ power-above-requires c κs = search needs
 returns : tie.Need-returns
 returns c = many refl (c .before .before .before .pre) (ltb-true _ _ (sym (c .before .power-above .ensures) ∙ c .if1 .taken))
 
-size-requires : tie.Need-size-requires
-size-requires c κs = let g = c .before .before .before in passed-listable (g .args .reading .now) (g .args .k) (g .pre) (sym (c .if1 .left) ∙ c .before .power-above .ensures)
+power-requires : tie.Need-power-requires
+power-requires c κs =
+    let g = c .before .before .before in
+    let l = passed-listable (g .args .reading .now) (g .args .k) (g .pre) (sym (c .if1 .left) ∙ c .before .power-above .ensures) in
+    (omega (arith, l .shaded .0), omega (arith, l .few))
 
 array-borrow-prefix-sectors : tie.Need-array-borrow-prefix-sectors
 array-borrow-prefix-sectors c =
     let g = c .before .before .before .before in
-    omega (arith, c .size .ensures, passed-listable (g .args .reading .now) (g .args .k) (g .pre) (sym (c .before .if1 .left) ∙ c .before .before .power-above .ensures) .few)
+    omega (arith, c .power .ensures, passed-listable (g .args .reading .now) (g .args .k) (g .pre) (sym (c .before .if1 .left) ∙ c .before .before .power-above .ensures) .few)
 
 slice-aggregate-place-on : tie.Need-slice-aggregate-place-on
 slice-aggregate-place-on c =
     let g = c .before .before .before .before .before in
-    simp length-take (omega (arith, c .before .size .ensures, passed-listable (g .args .reading .now) (g .args .k) (g .pre) (sym (c .before .before .if1 .left) ∙ c .before .before .before .power-above .ensures) .few))
+    simp length-take (omega (arith, c .before .power .ensures, passed-listable (g .args .reading .now) (g .args .k) (g .pre) (sym (c .before .before .if1 .left) ∙ c .before .before .before .power-above .ensures) .few))
 
 place-on-requires : tie.Need-place-on-requires
 place-on-requires c κs =
     let g = c .before .before .before .before .before in
     let l = passed-listable (g .args .reading .now) (g .args .k) (g .pre) (sym (c .before .before .if1 .left) ∙ c .before .before .before .power-above .ensures) in
-    (g .pre, (l, simp length-take (omega (arith, c .before .size .ensures, l .few))))
+    (g .pre, (l, simp length-take (omega (arith, c .before .power .ensures, l .few))))
 
 returns-2 : tie.Need-returns-2
 returns-2 c =
@@ -45,7 +48,7 @@ place-good-spec =
     (tie.spec
     power-above-requires
     returns
-    size-requires
+    power-requires
     array-borrow-prefix-sectors
     slice-aggregate-place-on
     place-on-requires

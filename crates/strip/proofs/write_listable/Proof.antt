@@ -6,21 +6,21 @@ use Rattle.strip.specs.Says.{room}
 use Rattle.strip.proofs.write_listable.Statement.{statement}
 use Rattle.strip.proofs.write_listable.Tie as tie
 
-size-requires : tie.Need-size-requires
-size-requires c κs = search needs
+power-requires : tie.Need-power-requires
+power-requires c κs = (omega (arith, c .before .pre .shaded .0), omega (arith, c .before .pre .few))
 
 returns : tie.Need-returns
-returns c = (room refl (c .before .before .before .pre) (λ e. c .if1 .taken (e ∙ sym (c .before .size .ensures))), refl)
+returns c = (room refl (c .before .before .before .pre) (λ e. c .if1 .taken (e ∙ sym (c .before .power .ensures))), refl)
 
 write-whole-requires : tie.Need-write-whole-requires
-write-whole-requires c κs = (c .before .before .before .before .pre, c .before .if1 .left ∙ c .before .before .size .ensures)
+write-whole-requires c κs = (c .before .before .before .before .pre, c .before .if1 .left ∙ c .before .before .power .ensures)
 
 same-length : tie.Need-same-length
 same-length c = search needs
 
 returns-2 : tie.Need-returns-2
 returns-2 c =
-    (c .before .before .before .before .before .before .before .pre, c .before .before .before .before .if1 .left ∙ c .before .before .before .before .before .size .ensures, c .before .before .write-whole .ensures)
+    (c .before .before .before .before .before .before .before .pre, c .before .before .before .before .if1 .left ∙ c .before .before .before .before .before .power .ensures, c .before .before .write-whole .ensures)
 
 pub write-listable-spec : {M : Type 1} → statement M
-write-listable-spec = tie.close (tie.spec size-requires returns write-whole-requires same-length returns-2)
+write-listable-spec = tie.close (tie.spec power-requires returns write-whole-requires same-length returns-2)

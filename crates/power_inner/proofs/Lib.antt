@@ -1,0 +1,2 @@
+-- One factor more (Powers).
+pub mod Powers
