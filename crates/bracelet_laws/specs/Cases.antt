@@ -35,12 +35,6 @@ Holds (walked n k vs) =
     ((m : ℕ) × FullWalk bracelet k (zeros n) (map (ring n) vs) m)
     × (map (λ w. count (ofPair w) (zeros n ∷ map (ring n) vs)) (readings n k) ≡ replicate (k ^ n) 1)
 
--- every row of a table holds
-unfoldable pub Hold : List Case → Type 0
-unfolding Holds
-Hold [] = Unit {0}
-Hold (c ∷ cs) = Holds c × Hold cs
-
 unfoldable pub table : List Case
 table =
     many 6 2 13 ∷

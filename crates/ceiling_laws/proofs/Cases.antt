@@ -4,6 +4,7 @@
 use Prim.Native.Nat.{ℕ}
 use mathlib.Core.Path.{_≡_, refl}
 use mathlib.Core.List.{List, [], _∷_}
+use Rattle.words.specs.Table.{Hold}
 use Rattle.rings.specs.Necklace.{necklace, lyndon}
 use Rattle.rings.specs.Open.{open-all}
 use Rattle.rings.specs.Cases.{digits, ring}
@@ -30,12 +31,6 @@ Holds (full-lyndon k n w) = stepMoves lyndon k (ring n w) ≡ lyndonCeiling n
 Holds (full-necklace k n w) = stepMoves necklace k (ring n w) ≡ necklaceCeiling n
 Holds (ceilings n a b) = (lyndonCeiling n ≡ a) × (necklaceCeiling n ≡ b)
 Holds (starts k n w v) = (lyndonStart k n ≡ ring n w) × (necklaceStart k n ≡ ring n v)
-
--- every row of a table holds
-unfoldable pub Hold : List Case → Type 0
-unfolding Holds
-Hold [] = Unit {0}
-Hold (c ∷ cs) = Holds c × Hold cs
 
 unfoldable pub table : List Case
 table =
@@ -66,6 +61,6 @@ table =
     []
 
 -- the one claim
-pub cases : Hold table
+pub cases : Hold Holds table
 unfolding digits ring Holds Hold table stepMoves notch notched open-all
 cases = (refl, (refl, (refl, (refl, (refl, (refl, (refl, (refl, (refl, (refl, (refl, (refl, ((refl, refl), ((refl, refl), ((refl, refl), ((refl, refl), tt))))))))))))))))

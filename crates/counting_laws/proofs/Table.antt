@@ -1,13 +1,14 @@
 -- Every row of the table of specs/Cases holds, by computing the definitions. Assumes nothing.
 use mathlib.Core.Path.{refl}
+use Rattle.words.specs.Table.{Hold}
 use Rattle.rings.specs.Steps.{done, step}
 use Rattle.rings.specs.Open.{open-all}
 use Rattle.rings.specs.Cases.{digits, ring}
 use Rattle.counting_laws.specs.Turns.{isTurn}
-use Rattle.counting_laws.specs.Cases.{Holds, Hold, table}
+use Rattle.counting_laws.specs.Cases.{Holds, table}
 
 -- the one claim
-pub cases : Hold table
+pub cases : Hold Holds table
 unfolding digits ring isTurn Holds Hold table open-all
 cases = (
   refl,

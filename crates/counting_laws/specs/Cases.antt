@@ -30,12 +30,6 @@ Holds (walked n k vs) =
     × (map (λ w. ringsOf w (zeros n) (map (ring n) vs)) (readings n k) ≡ replicate (k ^ n) 1)
     × PeriodsAddUp n k (zeros n) (map (ring n) vs)
 
--- every row of a table holds
-unfoldable pub Hold : List Case → Type 0
-unfolding Holds
-Hold [] = Unit {0}
-Hold (c ∷ cs) = Holds c × Hold cs
-
 unfoldable pub table : List Case
 table =
     turned 3 011 011 true ∷

@@ -1,9 +1,10 @@
 -- Every row of the table of specs/Cases holds, by computing the definitions. Assumes nothing.
 use mathlib.Core.Path.{refl}
+use Rattle.words.specs.Table.{Hold}
 use Rattle.packing.specs.Open.{open-packing}
-use Rattle.packing.specs.Cases.{Holds, Hold, table}
+use Rattle.packing.specs.Cases.{Holds, table}
 
 -- the one claim
-pub cases : Hold table
+pub cases : Hold Holds table
 unfolding Holds Hold table open-packing
 cases = (refl, (refl, ((refl, refl, refl), (refl, (refl, (refl, (refl, (refl, ((refl, refl, refl), ((refl, refl, refl), ((refl, refl, refl), ((refl, refl, refl), ((refl, refl, refl), ((refl, refl, refl), ((refl, refl, refl), ((refl, refl, refl), ((refl, refl, refl), ((refl, refl, refl), ((refl, refl, refl), (refl, (refl, (refl, (refl, (refl, (refl, (refl, (refl, (refl, (refl, (refl, (refl, (refl, (refl, (refl, (refl, (refl, (refl, (refl, (refl, (refl, (refl, (refl, (refl, tt)))))))))))))))))))))))))))))))))))))))))))

@@ -33,12 +33,6 @@ Holds (takes k n l) = packedLength (width k) n ≡ l
 Holds (starts k i j) = byteOf (width k) i ≡ j
 Holds (lit b x m y) = bitAt b x m ≡ y
 
--- every row of a table holds
-unfoldable pub Hold : List Case → Type 0
-unfolding Holds
-Hold [] = Unit {0}
-Hold (c ∷ cs) = Holds c × Hold cs
-
 unfoldable pub table : List Case
 table =
     needs 2 1 ∷

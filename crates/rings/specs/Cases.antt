@@ -83,12 +83,6 @@ Holds (counted-first n cs w) = firstOf (countedNecklace cs) n (lib.ListN.length 
 Holds (counted-next n cs w v) = nextOf (countedNecklace cs) (lib.ListN.length cs) (ring n w) ≡ some (ring n v)
 Holds (counted-done n cs w) = nextOf (countedNecklace cs) (lib.ListN.length cs) (ring n w) ≡ none
 
--- every row of a table holds
-unfoldable pub Hold : List Case → Type 0
-unfolding Holds
-Hold [] = Unit {0}
-Hold (c ∷ cs) = Holds c × Hold cs
-
 unfoldable pub table : List Case
 table =
     classed 4 0001 Single ∷

@@ -4,6 +4,7 @@
 use Prim.Native.Nat.{ℕ, _^_}
 use mathlib.Core.Path.{_≡_, refl}
 use mathlib.Core.List.{List, [], _∷_}
+use Rattle.words.specs.Table.{Hold}
 use Rattle.rings.specs.Cases.{digits, ring}
 use Rattle.strips.specs.Strip.{dictionary, stripWords, strip}
 use Rattle.strips.specs.Places.{window, occurrences}
@@ -30,12 +31,6 @@ Holds (listed n k us) = dictionary n k ≡ us
 Holds (seen m s p n w) = window n (ring m s) p ≡ ring n w
 Holds (met m s n w c) = occurrences (ring m s) (ring n w) ≡ c
 
--- every row of a table holds
-unfoldable pub Hold : List Case → Type 0
-unfolding Holds
-Hold [] = Unit {0}
-Hold (c ∷ cs) = Holds c × Hold cs
-
 unfoldable pub table : List Case
 table =
     laid 3 2 00010111 ∷
@@ -58,6 +53,6 @@ table =
     []
 
 -- the one claim
-pub cases : Hold table
+pub cases : Hold Holds table
 unfolding digits ring Holds Hold table open-strips
 cases = (refl, (refl, (refl, (refl, (refl, (refl, (refl, (refl, (refl, (refl, (refl, (refl, (refl, tt)))))))))))))
