@@ -15,7 +15,7 @@ use lib.ListN.{length, set}
 use Rattle.words.specs.Readings.{Reading}
 use Rattle.rings.specs.Steps.{nextOf}
 use Rattle.rings.specs.Alike.{bracelet}
-use Rattle.bracelet_laws.proofs.Next.{Leads}
+use Rattle.bracelet_laws.specs.Beginnings.{Leads}
 
 -- a reading of k shades, two or more that fit into a byte, of one sector at least
 pub record ByteReading (k : ℕ) (w : List ℕ) : Type 0 where

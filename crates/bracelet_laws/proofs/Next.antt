@@ -6,7 +6,7 @@
 --     tried-rises          where a shade can be taken, each greater one can
 --     Stuck k w l          from place l on, no raised sector makes a beginning that can be completed
 --     stuck-end, stuck-on, stuck-at, stuck-full, stuck-none        the search for the place to raise, from the end; nothing above where it finds none
---     Leads k w c m        the first m sectors of c lead to the next bracelet after w, and c is they, filled up
+--     Leads k w c m        the first m sectors of c lead to the next bracelet after w (specs/Beginnings, passed on)
 --     lead-start, lead-letter, lead-set, lead-on, lead-end      the search for the sectors behind it, place by place, up to the next bracelet
 -- Assumes nothing.
 use Prim.Native.Nat.{ℕ, suc, _+_, _-_, _<_, _≤_}
@@ -26,6 +26,7 @@ use Rattle.words.proofs.Readings.{first-is, first-nothing}
 use Rattle.rings.specs.Alike.{bracelet}
 use Rattle.rings.specs.Steps.{aboveOf, nextOf}
 use Rattle.bracelet_laws.specs.Beginnings.{tried}
+pub use Rattle.bracelet_laws.specs.Beginnings.{Leads}
 use Rattle.bracelet_laws.proofs.Absorb.{length-filled, filled-low, filled-high, absorbs}
 
 -- ---- a beginning tried
@@ -159,15 +160,6 @@ stuck-none k w s =
     (λ h. omega (arith, stuck-past k w v 0 s r (both-right (before w v) (bracelet v) h) (first-above k w v r (both-left (before w v) (bracelet v) h)))))
 
 -- ---- the sectors behind it, place by place
-
--- the first m sectors of c lead to the next bracelet after w, and c is they, filled up
-pub record Leads (k : ℕ) (w c : List ℕ) (m : ℕ) : Type 0 where
-  pub reading : Reading (length w) k c
-  pub whole : bracelet c ≡ true
-  pub inside : m ≤ length w
-  pub full : (j : ℕ) → m ≤ j → j < length w → getD c j 0 ≡ k - 1
-  pub above : Less (sec w) (sec c) m
-  pub least : (v : List ℕ) → Reading (length w) k v → bracelet v ≡ true → before w v ≡ true → Less (sec v) (sec c) m → ⊥
 
 -- the last place that can be raised, raised to the least shade that can be completed
 pub lead-start : (k : ℕ) (w : List ℕ) (l b : ℕ) → Reading (length w) k w → l < length w → getD w l 0 < b → b < k → bracelet (tried k w l b) ≡ true →

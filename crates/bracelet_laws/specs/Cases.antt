@@ -9,9 +9,8 @@ use mathlib.Core.List.{List, [], _∷_, map}
 use lib.ListN.{replicate}
 use Rattle.words.specs.Readings.{readings, count}
 use Rattle.rings.specs.Alike.{bracelet}
-use Rattle.rings.specs.Steps.{howMany, FullWalk}
+use Rattle.rings.specs.Steps.{howMany, zeros, FullWalk}
 use Rattle.rings.specs.Cases.{ring}
-use Rattle.necklace_laws.proofs.FullWalk.{zeros}
 use Rattle.bracelet_laws.specs.Pairs.{ofPair}
 use Rattle.bracelet_laws.specs.Beginnings.{filled, tried}
 

@@ -1,5 +1,4 @@
--- A record's bytes, as Layout finds them.
---     bytes x n k v    a mark of kind x, n, k and the bytes v behind the head
+-- A record's bytes (`bytes` of Layout), as Layout finds them.
 --     laid-sectors     the bytes behind the head are v
 --     whole            a part that begins with a record is its bytes and what follows
 -- Assumes nothing.
@@ -11,10 +10,7 @@ use lib.ListN.{length, drop, take-append-drop}
 use lib.Seq.{take-at, drop-drop}
 use Rattle.catalogue_record.specs.declared.Kind.{Kind}
 use Rattle.catalogue_record.specs.Layout.{secondByte, Marked, bodyLength, nOf, kOf, bodyOf}
-
--- a mark, n, k, and what stands behind the head
-abbrev pub bytes : Kind → ℕ → ℕ → List ℕ → List ℕ
-bytes x n k v = 0x52 ∷ (secondByte x ∷ (n ∷ (k ∷ v)))
+pub use Rattle.catalogue_record.specs.Layout.{bytes}
 
 -- the bytes behind the head; where a sector is a byte, they are the sectors
 pub laid-sectors : (x : Kind) (n k : ℕ) (v t : List ℕ) → length v ≡ bodyLength x n k → bodyOf x (bytes x n k v ++ t) ≡ v

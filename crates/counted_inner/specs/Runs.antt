@@ -6,8 +6,8 @@ use Prim.Native.Nat.{ℕ, _<_, _≤_}
 use mathlib.Core.Path.{_≡_}
 use mathlib.Core.List.{List}
 use lib.ListN.{length}
-use Rattle.words.proofs.Sequence.{sec}
-use Rattle.necklace_laws.proofs.Run.{Lyn, Run}
+use Rattle.words.specs.Sequence.{sec}
+use Rattle.necklace_laws.specs.Run.{Lyn, Run}
 
 -- the first p sectors are a Lyndon word
 pub record Repeatable (s : List ℕ) (p : ℕ) : Type 0 where

@@ -9,9 +9,8 @@ use mathlib.Core.List.{List, [], _∷_, map}
 use lib.ListN.{replicate}
 use Rattle.words.specs.Readings.{readings}
 use Rattle.rings.specs.Necklace.{necklace}
-use Rattle.rings.specs.Steps.{FullWalk}
+use Rattle.rings.specs.Steps.{zeros, FullWalk}
 use Rattle.rings.specs.Cases.{ring}
-use Rattle.necklace_laws.proofs.FullWalk.{zeros}
 use Rattle.counting_laws.specs.Turns.{isTurn}
 use Rattle.counting_laws.specs.OneRing.{ringsOf, PeriodsAddUp}
 

@@ -4,7 +4,7 @@ ghost use mathlib.Core.List.{_++_};
 ghost use Prim.Native.Nat.{_-_, _≤_};
 ghost use lib.ListN.{length, take, replicate};
 ghost use Rattle.words.specs.Sum.{sumOf};
-ghost use Rattle.pool_laws.proofs.Letters.{letters};
+ghost use Rattle.pool_laws.specs.Letters.{letters};
 ghost use Rattle.fill_inner.specs.Fillable.{Fillable};
 
 // The letter x at the places from i up to e.

@@ -3,7 +3,7 @@
 --     walk-exists      from every reading a full walk leads to its end
 --     walk-moves       its moves add up to the prenecklaces above its start
 --     walk-each, walk-kind, walk-increasing    it comes to each reading of the kind above its start exactly once, to nothing else, and in increasing order
---     zeros, zeros-necklace                    the all-zero ring, the first necklace
+--     zeros, zeros-necklace                    the all-zero ring (`rings`, specs/Steps, passed on), the first necklace
 --     walk-sum, walk-sum-bound                 over the full walk by necklaces from the all-zero ring the moves add up to one less than the prenecklaces
 --                                              of n and k, and to at most one less than the necklaces of lengths 1 to n together
 -- Assumes nothing.
@@ -24,6 +24,7 @@ use Rattle.words.proofs.Count.{count-split, count-one, count-zero, total-le, to
 use Rattle.rings.specs.Necklace.{necklace}
 use Rattle.rings.specs.Prenecklace.{prenecklace}
 use Rattle.rings.specs.Steps.{aboveOf, nextOf, passed, moves, howMany, howManyTo, FullWalk, done, step}
+pub use Rattle.rings.specs.Steps.{zeros}
 use Rattle.necklace_laws.proofs.Words.{of-pre, of-neck}
 use Rattle.necklace_laws.proofs.Moves.{moves-join, before-not-same, after-not-same}
 use Rattle.necklace_laws.proofs.Sums.{prenecklaces-necklaces}
@@ -104,10 +105,6 @@ module _ (kind : List ℕ → Bool) (k : ℕ) where
       ]
 
 -- ---- from the all-zero ring
-
--- the all-zero ring of n sectors
-abbrev pub zeros : ℕ → List ℕ
-zeros n = replicate n 0
 
 pub length-zeros : (n : ℕ) → length (zeros n) ≡ n
 length-zeros n = length-replicate n 0

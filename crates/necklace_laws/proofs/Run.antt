@@ -1,7 +1,5 @@
 -- Prenecklaces and Lyndon words as sequences, and the fundamental theorem (000, Theorem 2.1).
---     Pre a n         no ending of the first n is below the beginning of the same length
---     Lyn a n         the first n are below each of their proper endings, at a difference
---     Run a n p       the first p are Lyndon, and from p on every sector repeats the one p places before: lyn of the first n is p
+--     Pre, Lyn, Run             specs/Run, passed on
 --     same, greater, smaller    the fundamental theorem: what a further sector does to a Run
 --     run-pre, has-run          a Run is a prenecklace, and a prenecklace of at least one sector is a Run
 --     longest, run-one          no longer beginning is Lyndon, so p is unique
@@ -11,21 +9,7 @@ use mathlib.Core.Path.{_≡_, refl, sym, _∙_}
 use native.Mathlib.Omega.{arith}
 use Rattle.words.proofs.Split.{lt, eq, gt, tri}
 use Rattle.words.proofs.Sequence.{from, Less, place, widen, less-asym}
-
--- each ending of the first n is not below the beginning of the same length
-abbrev pub Pre : (ℕ → ℕ) → ℕ → Type 0
-Pre a n = (i : ℕ) → Less (from i a) a (n - i) → ⊥
-
--- the first n are below each of their proper endings, and differ from it within it
-abbrev pub Lyn : (ℕ → ℕ) → ℕ → Type 0
-Lyn a n = (i : ℕ) → 0 < i → i < n → Less a (from i a) (n - i)
-
--- the first p are Lyndon, and the first n repeat them
-pub record Run (a : ℕ → ℕ) (n p : ℕ) : Type 0 where
-  pub pos : 0 < p
-  pub fits : p ≤ n
-  pub again : (i j : ℕ) → p + j ≡ i → i < n → a i ≡ a j
-  pub lyn : Lyn a p
+pub use Rattle.necklace_laws.specs.Run.{Pre, Lyn, Run}
 
 module _ (a : ℕ → ℕ) where
   -- a Lyndon word is its own run

@@ -10,9 +10,8 @@ use lib.ListN.{drop}
 use Rattle.refusal.specs.declared.Checked.{Checked}
 use Rattle.refusal.specs.declared.Checked.the-variants.{Good, Refused}
 use Rattle.catalogue_record.specs.declared.Kind.the-variants.{Front}
-use Rattle.catalogue_record.specs.Layout.{nOf, kOf}
+use Rattle.catalogue_record.specs.Layout.{nOf, kOf, bytes}
 use Rattle.catalogue_record.specs.Order.{After9}
-use Rattle.catalogue_record.proofs.Laid.{bytes}
 use Rattle.old_record.specs.Sides.{Side, SideMarked, frontRing}
 use Rattle.old_record.specs.Reads.{OldBroken}
 use Rattle.old_record.specs.Converts.{Sound, Damaged}

@@ -1,5 +1,5 @@
 -- How many rings and how many moves a listing has behind it when it stands at a ring.
---     ringsTo k v, movesTo k v              the necklaces of v's length not above v, and the moves from the all-zero ring to v
+--     ringsTo, movesTo                      specs/Standing, passed on
 --     count-bound                           no test passes for more readings of n and k than there are, k to the power n
 --     zeros-upTo                            the all-zero ring is the least reading
 --     rings-start, rings-next, rings-end    one ring at the all-zero ring, one more at each next, all at the last
@@ -32,14 +32,7 @@ use Rattle.necklace_laws.proofs.Next.{low-or-full, none-before}
 use Rattle.necklace_laws.proofs.Moves.{before-not-same, after-not-same, moves-start, moves-full, moves-join}
 use Rattle.necklace_laws.proofs.FullWalk.{next-facts, length-zeros, zeros-at, zeros-reading, zeros-necklace, walk-sum, walk-exists, walk-moves}
 use Rattle.pages.specs.Listing.{zeroRing}
-
--- the necklaces of the same n and k that are not above v
-unfoldable pub ringsTo : ℕ → List ℕ → ℕ
-ringsTo k v = count (λ u. necklace u && upTo u v) (readings (length v) k)
-
--- the moves from the all-zero ring to v
-unfoldable pub movesTo : ℕ → List ℕ → ℕ
-movesTo k v = moves k (zeroRing (length v)) (some v)
+unfoldable pub use Rattle.pages_laws.specs.Standing.{ringsTo, movesTo}
 
 -- ---- how many readings there are
 

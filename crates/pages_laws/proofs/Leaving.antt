@@ -1,8 +1,9 @@
 -- What a page leaves. A state stands where its ring's numbers may be listed and its counts are those of its ring; a page from there leaves such a state, or none.
---     Counted, counted-start, counted-next    a necklace with the rings and moves up to it: the all-zero ring, and the next
+--     Counted, Stands                   specs/Standing, passed on
+--     counted-start, counted-next       a necklace with the rings and moves up to it: the all-zero ring, and the next
 --     goes-true                         the ring that a page leaves is counted right
 --     goes-least, goes-some             where there is room for a line a page has one, and counts one ring more unless it is the last
---     Stands, stands-good               a state that stands is good
+--     stands-good                       a state that stands is good
 --     stands-behind, empty-bad          the state that a page leaves stands, or is the empty one, which is not good
 -- Assumes nothing.
 use Prim.Native.Nat.{ℕ, suc, _+_, _^_, _<_, _≤_}
@@ -26,16 +27,10 @@ use Rattle.pages.specs.Listing.{row, zeroRing}
 use Rattle.pages.specs.Prints.{most}
 use Rattle.pages.specs.State.{ringOf, Good, emptyState, startState, Rest, over, on, stateBehind}
 use Rattle.pages.specs.Paging.{lineRoom, Goes, full, total, line, Next, bad, good}
+pub use Rattle.pages_laws.specs.Standing.{Counted, Stands}
 use Rattle.pages_laws.proofs.Counting.{ringsTo, movesTo, rings-bound, moves-bound, rings-start, rings-next, moves-begin, moves-next}
 
 -- ---- rings and their counts
-
--- v is a necklace of n and k, and the counts are those up to it
-pub record Counted (n k : ℕ) (v : List ℕ) (rings sum : ℕ) : Type 0 where
-  pub reading : Reading n k v
-  pub member : necklace v ≡ true
-  pub rings-are : rings ≡ ringsTo k v
-  pub sum-is : sum ≡ movesTo k v
 
 -- what is left behind a page
 abbrev pub Left : ℕ → ℕ → Rest → Type 0
@@ -84,10 +79,6 @@ goes-some {rings = rings} {sum = sum} (total h e) r = (omega (arith, length-last
 goes-some {k} {v = v} (line {x = x} {text = text} h e p) r = (omega (arith, length-append (row k v x) text, row-some k v x), goes-least p)
 
 -- ---- states
-
-pub record Stands (s : State) : Type 0 where
-  pub numbers : Listable most (s .k) (s .n)
-  pub counted : Counted (s .n) (s .k) (ringOf s) (s .rings) (s .moves)
 
 -- such a state is good
 pub stands-good : (s : State) → Stands s → Good s

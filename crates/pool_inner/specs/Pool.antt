@@ -7,7 +7,7 @@ use mathlib.Core.Path.{_≡_}
 use mathlib.Core.List.{List}
 use lib.ListN.{length, getD, take}
 use Rattle.words.specs.Sum.{sumOf}
-use Rattle.pool_laws.proofs.Held.{Leads}
+use Rattle.pool_laws.specs.Arrays.{Leads}
 
 -- there are t words, and their letters are in w
 pub record Laid (t : ℕ) (len w : List ℕ) : Type 0 where

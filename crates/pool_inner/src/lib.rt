@@ -2,7 +2,7 @@
 ghost use mathlib.Core.Path.{_≡_};
 ghost use Prim.Native.Nat.{_+_, _≤_};
 ghost use Rattle.words.specs.Order.{before, same};
-ghost use Rattle.pool_laws.proofs.Cut.{Moved};
+ghost use Rattle.pool_laws.specs.Arrays.{Moved};
 ghost use Rattle.pool_inner.specs.Pool.{Laid, Leading};
 
 // Whether v stands before w.

@@ -1,6 +1,6 @@
 -- A pool laid out in two arrays: the letters of all its words one behind the other, and the length of each word.
 --     cut ls w             the words of these lengths that stand one behind the other in w; what stands behind them in w does not matter
---     Moved o g l w v      v is w with its g letters before place l moved to place o
+--     Moved o g l w v      specs/Arrays, passed on
 -- In order: sums; the words by their places; words of one letter; what moving the last word behind another does (`cut-moved`).
 -- Assumes nothing.
 use Prim.Native.Nat.{ℕ, zero, suc, _+_, _*_, _<_, _≤_}
@@ -11,6 +11,7 @@ use native.Mathlib.Nat.{suc-mul}
 use lib.ListN.{length, getD, take, drop, replicate, length-drop}
 use lib.Seq.{length-take-le, take-suc, getD-take, getD-drop, drop-drop, take-add, ext-getD}
 use Rattle.words.specs.Sum.{sumOf}
+pub use Rattle.pool_laws.specs.Arrays.{Moved}
 use Rattle.words.proofs.Sequence.{sec, place}
 use Rattle.pool_laws.proofs.Copies.{singles}
 use Rattle.pool_laws.proofs.Pool.{glued, glued-at}
@@ -94,13 +95,6 @@ cut-ones (suc n) [] h = absurd (omega arith)
 cut-ones (suc n) (a ∷ w) h = ap (λ x. (a ∷ []) ∷ x) (cut-ones n w (omega arith))
 
 -- ---- moving the last word
-
--- v is w with its g letters before place l moved to place o
-pub record Moved (o g l : ℕ) (w v : List ℕ) : Type 0 where
-  pub long : length v ≡ length w
-  pub low : (i : ℕ) → i < o → sec v i ≡ sec w i
-  pub mid : (i j : ℕ) → i < g → j + g ≡ l + i → sec v (o + i) ≡ sec w j
-  pub high : (i : ℕ) → o + g + i < l → sec v (o + g + i) ≡ sec w (o + i)
 
 -- moving the last word behind another joins the two
 pub cut-moved : (xs ys : List ℕ) (a g l : ℕ) (w v : List ℕ) → sumOf xs + a + sumOf ys + g ≡ l → l ≤ length w → Moved (sumOf xs + a) g l w v →

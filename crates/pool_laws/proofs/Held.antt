@@ -1,7 +1,7 @@
 -- The pool as two arrays hold it: w has the letters, len the lengths of the first t words; l letters in all. Each law is a step of the loop that tests
 -- whether al can be completed, told by places of the arrays.
 --     Held al u l t len w    the arrays hold a pool for al and the letters u
---     Leads q a len w        the first q words have length a and the same letters
+--     Leads q a len w        specs/Arrays, passed on
 -- In order: the words by their places; the leading copies (`leads-one`, `leads-more`, `leads-next`);
 -- the laws of the loop (`held-start`, `held-some`, `held-room`, `held-glue`, `held-stuck`).
 -- Assumes nothing.
@@ -24,6 +24,7 @@ use Rattle.pool_laws.proofs.Made.{Completed}
 use Rattle.pool_laws.proofs.Pool.{Sorted, Pool, glued, pool-start, pool-glue, pool-stuck, pool-yes}
 use Rattle.pool_laws.proofs.Cut.{cut, sum-append, sum-take-suc, sum-take-le, sum-take-equal, length-cut, cut-at, parts, cut-ones, Moved, cut-moved}
 use Rattle.words.specs.Sum.{sumOf}
+pub use Rattle.pool_laws.specs.Arrays.{Leads}
 
 -- the arrays hold a pool for al and the letters u: t words, l letters
 pub record Held (al u : List ℕ) (l t : ℕ) (len w : List ℕ) : Type 0 where
@@ -31,11 +32,6 @@ pub record Held (al u : List ℕ) (l t : ℕ) (len w : List ℕ) : Type 0 where
   pub total : sumOf (take t len) ≡ l
   pub room : l ≤ length w
   pub pool : Pool al u (cut (take t len) w)
-
--- the first q words have length a and the letters of the first
-pub record Leads (q a : ℕ) (len w : List ℕ) : Type 0 where
-  pub lengths : (i : ℕ) → i < q → getD len i 0 ≡ a
-  pub letters : (i m : ℕ) → i < q → m < a → sec w (i * a + m) ≡ sec w m
 
 -- ---- words by their places
 

@@ -1,6 +1,5 @@
 -- The letters of given counts in increasing order: what a pool starts from.
---     lettersFrom d cs     as many letters d as the first count says, then as many d + 1, and so on
---     letters cs           the same from 0
+--     lettersFrom, letters    specs/Letters, passed on
 -- In order: how many there are, how often each stands there, and that they do not fall.
 -- Assumes nothing.
 use Prim.Native.Nat.{ℕ, zero, suc, _+_, _<_, _≤_}
@@ -14,15 +13,8 @@ use Rattle.rings.specs.Counts.{occurs}
 use Rattle.pool_laws.proofs.Copies.{occurs-append}
 use Rattle.pool_laws.proofs.Pool.{Sorted}
 use Rattle.words.specs.Sum.{sumOf}
-
--- as many letters d as the first count says, then as many d + 1, and so on
-unfoldable pub lettersFrom : ℕ → List ℕ → List ℕ
-lettersFrom d [] = []
-lettersFrom d (c ∷ cs) = replicate c d ++ lettersFrom (suc d) cs
-
--- the letters of these counts in increasing order
-abbrev pub letters : List ℕ → List ℕ
-letters cs = lettersFrom 0 cs
+unfoldable pub use Rattle.pool_laws.specs.Letters.{lettersFrom}
+pub use Rattle.pool_laws.specs.Letters.{letters}
 
 -- there are as many letters as the counts say
 pub length-letters : (d : ℕ) (cs : List ℕ) → length (lettersFrom d cs) ≡ sumOf cs

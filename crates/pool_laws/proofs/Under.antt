@@ -1,7 +1,6 @@
 -- One word lies under another where their first difference stands inside both and the first word is smaller there. Neither is then a beginning of
 -- the other, so the relation survives whatever is put behind or in front of both.
---     v ≪ w           v lies under w
---     v ≼ w           v lies under w or is w
+--     v ≪ w, v ≼ w    specs/Under, passed on
 --     Short v w       v lies under w, or w goes on where v ends: what `before` of `words` tests
 -- In order: the two relations and what may be put around them; their bridges to `before` and to the first difference of sequences.
 -- Assumes nothing.
@@ -16,17 +15,7 @@ use borrow.Author.Tests.{ltb-true, eqb-true, lt-ltb, eq-eqb}
 use Rattle.words.specs.Order.{before}
 use Rattle.words.proofs.Split.{left, right, either, either-left, either-right, both, both-left, both-right}
 use Rattle.words.proofs.Sequence.{sec, Less}
-
-infix 4 _≪_ _≼_
--- v lies under w
-pub data _≪_ : List ℕ → List ℕ → Type 0 where
-  here : {a b : ℕ} {v w : List ℕ} → a < b → (a ∷ v) ≪ (b ∷ w)
-  later : {a b : ℕ} {v w : List ℕ} → a ≡ b → v ≪ w → (a ∷ v) ≪ (b ∷ w)
-
--- v lies under w or is w
-pub data _≼_ (v w : List ℕ) : Type 0 where
-  is : v ≡ w → v ≼ w
-  under : v ≪ w → v ≼ w
+pub use Rattle.pool_laws.specs.Under.{_≪_, here, later, _≼_, is, under}
 
 -- what lies under a word under w lies under w
 pub under-trans : {u v w : List ℕ} → u ≪ v → v ≪ w → u ≪ w

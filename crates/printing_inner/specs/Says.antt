@@ -11,7 +11,7 @@ use lib.ListN.{length, take}
 use Rattle.pages.specs.declared.Page.{Page}
 use Rattle.pages.specs.State.{emptyState}
 use Rattle.pages.specs.Paging.{First, Paged}
-use Rattle.pages_laws.proofs.Leaving.{Stands}
+use Rattle.pages_laws.specs.Standing.{Stands}
 
 -- a line has at most 8 bytes, so 9 tell
 abbrev pub lineBytes : ℕ

@@ -13,7 +13,7 @@ use mathlib.Core.Bool.{Bool, true, false}
 use mathlib.Core.List.{List, [], _∷_, _++_}
 use lib.ListN.{length, take, getD}
 use Rattle.words.specs.Readings.{Reading}
-use Rattle.words.proofs.Sequence.{sec}
+use Rattle.words.specs.Sequence.{sec}
 use Rattle.rings.specs.Necklace.{necklace, lyndon}
 use Rattle.rings.specs.Prenecklace.{prenecklace}
 use Rattle.rings.specs.Counts.{occurs, countedNecklace}

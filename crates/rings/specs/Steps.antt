@@ -6,7 +6,7 @@ use mathlib.Core.Path.{_≡_}
 use mathlib.Core.Bool.{Bool, _&&_}
 use mathlib.Core.Option.{Option, none, some}
 use mathlib.Core.List.{List, [], _∷_}
-use lib.ListN.{length}
+use lib.ListN.{length, replicate}
 use Rattle.words.specs.Order.{before, upTo}
 use Rattle.words.specs.Readings.{readings, count, first}
 use Rattle.rings.specs.Prenecklace.{prenecklace}
@@ -40,6 +40,10 @@ howMany kind n k = count kind (readings n k)
 unfoldable pub howManyTo : (List ℕ → Bool) → ℕ → ℕ → ℕ
 howManyTo kind zero k = 0
 howManyTo kind (suc n) k = howManyTo kind n k + howMany kind (suc n) k
+
+-- the all-zero ring of n sectors, the first of all, from which the full walks of the page start
+abbrev pub zeros : ℕ → List ℕ
+zeros n = replicate n 0
 
 -- a full walk from w: the rings it comes to, each the next of the kind after the one before, until there is none; and the sum of the moves
 pub data FullWalk (kind : List ℕ → Bool) (k : ℕ) : List ℕ → List (List ℕ) → ℕ → Type 0 where

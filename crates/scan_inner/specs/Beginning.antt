@@ -3,8 +3,8 @@
 use Prim.Native.Nat.{ℕ, _-_, _<_, _≤_}
 use mathlib.Core.List.{List}
 use lib.ListN.{length}
-use Rattle.words.proofs.Sequence.{sec}
-use Rattle.necklace_laws.proofs.Run.{Run}
+use Rattle.words.specs.Sequence.{sec}
+use Rattle.necklace_laws.specs.Run.{Run}
 use Rattle.scan_inner.specs.declared.Begun.{Begun}
 
 -- the first `end` sectors are a prenecklace with this lyn, and with the next one they are none

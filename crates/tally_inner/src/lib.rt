@@ -3,8 +3,8 @@ ghost use mathlib.Core.Path.{_≡_};
 ghost use Prim.Native.Nat.{_≤_};
 ghost use lib.ListN.{length};
 ghost use Rattle.rings.specs.Counts.{occurs, hasCounts, countedNecklace};
-ghost use Rattle.necklace_laws.proofs.Run.{Run};
-ghost use Rattle.words.proofs.Sequence.{sec};
+ghost use Rattle.necklace_laws.specs.Run.{Run};
+ghost use Rattle.words.specs.Sequence.{sec};
 ghost use Rattle.tally_inner.specs.Remaining.{Beside};
 
 // How often the shade b stands in s.

@@ -24,9 +24,9 @@ use Rattle.counting_laws.proofs.OneRing.{one-ring, period-sum}
 use Rattle.refusal.specs.declared.Checked.the-variants as C
 use Rattle.walk_record.specs.declared.Walk.{Walk}
 use Rattle.walk_record.specs.Record.{ringOf, walkOf}
-use Rattle.walk_record.specs.Says.{StartSays}
+use Rattle.walk_record.specs.Says.{StartSays, Steps, ends, goes}
 use Rattle.walk_record.proofs.Good.{ring-of, walk-good}
-use Rattle.walk_record.proofs.Sums.{Steps, ends, goes, steps-walk}
+use Rattle.walk_record.proofs.Sums.{steps-walk}
 use Rattle.walk_laws.specs.HandedOut.{HandedOut, OneRingHandedOut, PeriodsHandedOut}
 
 -- ---- the two sentences

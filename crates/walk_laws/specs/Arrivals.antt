@@ -4,7 +4,7 @@
 -- What is true of them: proofs/MirrorPairs. Assumes nothing.
 use Prim.Native.Nat.{ℕ}
 use mathlib.Core.List.{List, [], _∷_}
-use Rattle.necklace_laws.proofs.FullWalk.{zeros}
+use Rattle.rings.specs.Steps.{zeros}
 use Rattle.refusal.specs.declared.Checked.the-variants as C
 use Rattle.walk_record.specs.declared.Walk.{Walk}
 use Rattle.walk_record.specs.Record.{ringOf}

@@ -7,13 +7,12 @@
 use Prim.Native.Nat.{ℕ}
 use mathlib.Core.List.{List}
 use Rattle.rings.specs.Necklace.{necklace}
-use Rattle.necklace_laws.proofs.FullWalk.{zeros}
+use Rattle.rings.specs.Steps.{zeros}
 use Rattle.counting_laws.specs.OneRing.{OneRingEach, PeriodsAddUp}
 use Rattle.refusal.specs.declared.Checked.the-variants as C
 use Rattle.walk_record.specs.declared.Walk.{Walk}
 use Rattle.walk_record.specs.Record.{ringOf}
-use Rattle.walk_record.specs.Says.{StartSays}
-use Rattle.walk_record.proofs.Sums.{Steps}
+use Rattle.walk_record.specs.Says.{StartSays, Steps}
 
 -- a start from the all-zero ring of n sectors and k shades, and the steps by necklaces from it until Done, as their contracts tell them
 pub record HandedOut (n k : ℕ) : Type 0 where

@@ -1,7 +1,7 @@
 -- Demand 3 of the code, through its contracts alone.
 --     step-bound       a step to the next necklace reports at most (n + 1) / 2 moves, rounded down, from any record that it accepts
 --     step-last        0 at the last ring
---     Steps, steps-walk         steps one after another until Done are a full walk of the theory
+--     steps-walk                steps one after another until Done (`Steps` of Says) are a full walk of the theory
 --     steps-sum, steps-bound    from the all-zero ring their moves add up to one less than the prenecklaces of n and k, and to at most one less than
 --                               the necklaces of lengths 1 to n together
 -- Assumes nothing.
@@ -21,7 +21,7 @@ use Rattle.refusal.specs.declared.Checked.the-variants as C
 use Rattle.walk_record.specs.declared.Walk.{Walk}
 use Rattle.walk_record.specs.declared.Outcome.the-variants.{Moved, Done}
 use Rattle.walk_record.specs.Record.{ringOf}
-use Rattle.walk_record.specs.Says.{StartSays, StepSays}
+use Rattle.walk_record.specs.Says.{StartSays, StepSays, Steps, ends, goes}
 use Rattle.walk_record.proofs.Good.{good-ready, good-long, ring-of}
 
 -- ---- one step
@@ -42,11 +42,6 @@ step-last kind w v m size p e =
     p .counted ∙ sym (ap (moves (w .k) (ringOf w)) (p .next)) ∙ bound-last kind (w .k) (ringOf w) (low-or-full (w .n) (w .k) (ringOf w) (rw (good-long w (p .good) size) at (r .reading)) .1 e)
 
 -- ---- all steps
-
--- steps one after another until Done, as the contract tells them: the rings they came to, and the sum of their moves
-pub data Steps (kind : List ℕ → Bool) : Walk → List (List ℕ) → ℕ → Type 0 where
-  ends : {w v : Walk} {m : ℕ} → StepSays kind w v (Done m) → Steps kind w [] m
-  goes : {w v : Walk} {m s : ℕ} {rings : List (List ℕ)} → StepSays kind w v (Moved m) → Steps kind v rings s → Steps kind w (ringOf v ∷ rings) (m + s)
 
 -- they are a full walk
 pub steps-walk : (kind : List ℕ → Bool) {w : Walk} {rings : List (List ℕ)} {m : ℕ} → Steps kind w rings m → FullWalk kind (w .k) (ringOf w) rings m

@@ -1,10 +1,10 @@
--- What a start and a step promise (01, 'Walks', 'Refusal numbers'), by cases on the answer. v is the record that is handed out.
+-- What a start and a step promise (01, 'Walks', 'Refusal numbers'), by cases on the answer. v is the record that is handed out. Last, steps one after another (Steps).
 -- That no two different answers fit: proofs/Unique. Assumes nothing.
-use Prim.Native.Nat.{ℕ}
+use Prim.Native.Nat.{ℕ, _+_}
 use mathlib.Core.Path.{_≡_}
 use mathlib.Core.Bool.{Bool}
 use mathlib.Core.Option.{none, some}
-use mathlib.Core.List.{List}
+use mathlib.Core.List.{List, [], _∷_}
 use Rattle.rings.specs.Necklace.{necklace, period}
 use Rattle.rings.specs.Prenecklace.{prenecklace}
 use Rattle.rings.specs.Steps.{nextOf, moves}
@@ -48,3 +48,8 @@ abbrev pub WentSays : ℕ → List ℕ → List ℕ → Outcome → ℕ → Type
 WentSays k s v (Moved m) p = (nextOf necklace k s ≡ some v) × (m ≡ moves k s (some v)) × (p ≡ period v)
 WentSays k s v (Done m) p = (nextOf necklace k s ≡ none) × (m ≡ moves k s none) × (v ≡ s)
 WentSays k s v (Refused r) p = ⊥
+
+-- steps one after another until Done, as the contract tells them: the rings they came to, and the sum of their moves
+pub data Steps (kind : List ℕ → Bool) : Walk → List (List ℕ) → ℕ → Type 0 where
+  ends : {w v : Walk} {m : ℕ} → StepSays kind w v (Done m) → Steps kind w [] m
+  goes : {w v : Walk} {m s : ℕ} {rings : List (List ℕ)} → StepSays kind w v (Moved m) → Steps kind v rings s → Steps kind w (ringOf v ∷ rings) (m + s)

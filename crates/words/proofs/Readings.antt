@@ -1,9 +1,9 @@
 -- The list of all readings of n sectors and k shades (specs/Readings): it holds readings and nothing else, it holds each (`each-reading`; exactly
 -- once: `count-one` of Count), and it is in increasing order; so the first that passes a test is the least that passes.
---     All P ws                              P holds of each word of the list
+--     All P ws, Increasing ws               specs/Readings, passed on
 --     all-of-each, all-weaken, all-append, all-left, all-right, all-map, all-unmap      its laws
 --     readings-all, each-reading            what is in the list is a reading, and what holds of all in the list holds of each reading
---     Increasing ws, readings-increasing    each word of the list is before all that follow it
+--     readings-increasing                   each word of the list is before all that follow it
 --     first-none                            where nothing is found, nothing passes
 --     first-some, first-is                  what is found is the least reading that passes, and the other way round
 --     nothing-first, first-nothing          nothing is found exactly where no reading passes
@@ -17,13 +17,9 @@ use native.Mathlib.Omega.{arith}
 use lib.ListN.{getD}
 use Rattle.words.specs.Order.{before, upTo}
 use Rattle.words.specs.Readings.{Reading, fan, readings, first}
+pub use Rattle.words.specs.Readings.{All, nothing, also, Increasing, empty, more}
 use Rattle.words.proofs.Split.{passes, fails, test, lt, eq, gt, tri, clash}
 use Rattle.words.proofs.Lex.{before-lt, before-cons, before-upTo, upTo-refl, upTo-antisym}
-
--- P holds of each word of the list
-pub data All (P : List ℕ → Type 0) : List (List ℕ) → Type 0 where
-  nothing : All P []
-  also : {w : List ℕ} {ws : List (List ℕ)} → P w → All P ws → All P (w ∷ ws)
 
 -- ---- laws of All
 
@@ -108,11 +104,6 @@ each-reading (suc n) k h [] r = absurd (omega (arith, r .long))
 each-reading {P} (suc n) k h (b ∷ u) r = each-reading {P = λ w. P (b ∷ w)} n k (fan-at k (readings n k) h b (r .shades 0 (omega arith))) u (reading-rest n k b u r)
 
 -- ---- the list is in increasing order
-
--- each word of the list is before all that follow it
-pub data Increasing : List (List ℕ) → Type 0 where
-  empty : Increasing []
-  more : {w : List ℕ} {ws : List (List ℕ)} → All (λ v. before w v ≡ true) ws → Increasing ws → Increasing (w ∷ ws)
 
 -- two increasing lists, all of the one before all of the other, make one
 pub increasing-append : (vs ws : List (List ℕ)) → Increasing vs → Increasing ws → All (λ v. All (λ w. before v w ≡ true) ws) vs → Increasing (vs ++ ws)

@@ -1,8 +1,6 @@
 -- Words as sequences. A word is a function from places to shades together with a length n: a beginning is a smaller n, an ending is the function
 -- shifted, appending a sector is going from n to suc n. Nothing here cuts or joins lists.
---     sec w              the sectors of a list, 0 past its end
---     from i a           the sequence a from place i on
---     Less f g n         f is below g within n places, with the first difference as witness
+--     sec, from, Less    specs/Sequence, passed on
 --     Cmp f g n, cmp     within n places f is below g, or they agree, or g is below f
 -- Assumes nothing.
 use Prim.Native.Nat.{ℕ, zero, suc, _+_, _<_, _≤_}
@@ -10,22 +8,8 @@ use mathlib.Core.Path.{_≡_, sym, ap, _∙_}
 use mathlib.Core.List.{List}
 use native.Mathlib.Omega.{arith}
 use lib.ListN.{getD}
+pub use Rattle.words.specs.Sequence.{sec, from, Less}
 use Rattle.words.proofs.Split.{Tri, lt, eq, gt, tri}
-
--- the sectors of a word
-abbrev pub sec : List ℕ → ℕ → ℕ
-sec w i = getD w i 0
-
--- the sequence from place i on
-abbrev pub from : ℕ → (ℕ → ℕ) → ℕ → ℕ
-from i a m = a (i + m)
-
--- f is below g within n places: they agree up to the first difference, where f is smaller
-pub record Less (f g : ℕ → ℕ) (n : ℕ) : Type 0 where
-  pub at : ℕ
-  pub bound : at < n
-  pub agree : (m : ℕ) → m < at → f m ≡ g m
-  pub less : f at < g at
 
 pub data Cmp (f g : ℕ → ℕ) (n : ℕ) : Type 0 where
   below : Less f g n → Cmp f g n

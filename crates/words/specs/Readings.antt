@@ -4,6 +4,8 @@
 --     readings n k         every reading of n and k, in increasing order
 --     count f ws           how many of the list pass the test f
 --     first f ws           the first of the list that passes, or none
+--     All P ws             P holds of each word of the list
+--     Increasing ws        each word of the list is before all that follow it
 -- That `readings n k` holds each reading exactly once, nothing else, and in increasing order: proofs/Readings.
 -- Assumes nothing.
 use Prim.Native.Nat.{ℕ, zero, suc, _+_, _≤_, _<_}
@@ -12,6 +14,7 @@ use mathlib.Core.Bool.{Bool, true, false}
 use mathlib.Core.Option.{Option, none, some}
 use mathlib.Core.List.{List, [], _∷_, _++_, map}
 use lib.ListN.{length, getD}
+use Rattle.words.specs.Order.{before}
 
 -- a ring has 1 to 64 sectors
 abbrev pub Sized : ℕ → Type 0
@@ -54,3 +57,13 @@ count f ws = total (λ w. bit (f w)) ws
 unfoldable pub first : (List ℕ → Bool) → List (List ℕ) → Option (List ℕ)
 first f [] = none
 first f (w ∷ ws) = elim (f w) [ true ↦ some w | false ↦ first f ws ]
+
+-- P holds of each word of the list
+pub data All (P : List ℕ → Type 0) : List (List ℕ) → Type 0 where
+  nothing : All P []
+  also : {w : List ℕ} {ws : List (List ℕ)} → P w → All P ws → All P (w ∷ ws)
+
+-- each word of the list is before all that follow it
+pub data Increasing : List (List ℕ) → Type 0 where
+  empty : Increasing []
+  more : {w : List ℕ} {ws : List (List ℕ)} → All (λ v. before w v ≡ true) ws → Increasing ws → Increasing (w ∷ ws)
