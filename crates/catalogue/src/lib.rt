@@ -6,7 +6,7 @@ use refusal::Refusal;
 use rings::MOST_SECTORS;
 ghost use Rattle.catalogue_record.specs.Says.{ReadSays};
 
-// Reads the record at `start` and writes its front ring, or answers End, or refusal 4, 7, 8, 16, 1, 2, 7, 3 or 9, in this order.
+// Reads the record at `start` and writes its front ring, or answers End, or refusal 4, 7, 8, 16, 1, 2, 7, 3, 17 or 9, in this order.
 pub fn read_record(catalogue: &[u8], start: usize, out: &mut [u8]) -> Entry
     ensures { λ r. ⌜ ReadSays (now (catalogue .entry)) start (now (out .entry)) r (now (out .exit)) ⌝ }
 {

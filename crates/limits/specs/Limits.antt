@@ -1,5 +1,6 @@
--- Which numbers k and n may be listed, counted or written out whole (01, 'Refusal numbers': 1, 2 and 12). `limit` is the greatest power that is not Too many: 2 to
--- the power 24 for the listing program, and another for each request that sets one.
+-- Which numbers k and n may be listed, counted or written out whole (01, 'Refusal numbers': 1, 2 and 12). `limit` is the greatest power that is not Too many:
+-- `mostListed` for the listing program and for a target set, and another for each request that sets one.
+--     mostListed                2 to the power 24
 --     Listable limit k n        1, 2 and 12 passed
 --     GivenFor limit k n r      the numbers k and n are refused with r: 1, 2, 12
 --     NumbersSay limit k n p    what the plan p of the numbers k and n promises
@@ -11,6 +12,10 @@ use Rattle.refusal.specs.declared.Refusal.{Refusal}
 use Rattle.refusal.specs.declared.Refusal.the-variants.{Length, Shades, TooMany}
 use Rattle.limits.specs.declared.Planned.{Planned}
 use Rattle.limits.specs.declared.Planned.the-variants.{Accepted, Refused}
+
+-- the greatest power that is not Too many in the listing program (01), and for a target set (02, g)
+abbrev pub mostListed : ℕ
+mostListed = 2 ^ 24
 
 -- n and k are a ring's numbers, and there are at most `limit` readings of them
 pub record Listable (limit k n : ℕ) : Type 0 where

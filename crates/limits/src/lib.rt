@@ -2,10 +2,16 @@
 // a limit. The limit is a parameter: each program and call has its own.
 
 use refusal::Refusal;
+use rings::FEWEST_SHADES;
+use rings::MOST_SECTORS;
+use rings::MOST_SHADES;
 ghost use Prim.Native.Nat.{_^_};
 ghost use mathlib.Core.Path.{_≡_};
 ghost use lib.Dec.{ltb};
 ghost use Rattle.limits.specs.Limits.{NumbersSay};
+
+// The greatest power that is not Too many in the listing program and for a target set: 2 to the power 24.
+pub const MOST_LISTED: usize = 16777216;
 
 // What two numbers ask for: the rings of k shades and n sectors, or a refusal.
 pub enum Planned {
@@ -46,13 +52,13 @@ pub fn plan_numbers(k: usize, n: usize, limit: usize) -> Planned
     if n < 1 {
         return Planned::Refused(Refusal::Length(0));
     }
-    if 64 < n {
+    if MOST_SECTORS < n {
         return Planned::Refused(Refusal::Length(0));
     }
-    if k < 2 {
+    if k < FEWEST_SHADES {
         return Planned::Refused(Refusal::Shades(0));
     }
-    if 16 < k {
+    if MOST_SHADES < k {
         return Planned::Refused(Refusal::Shades(0));
     }
     if power_above(k, n, limit) {

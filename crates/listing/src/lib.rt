@@ -1,5 +1,6 @@
 // The listing program's calls (01, 'The listing program'): what a line asks for, and its output page after page.
 
+use limits::MOST_LISTED;
 use limits::Planned;
 use pages::Page;
 use pages::State;
@@ -12,9 +13,6 @@ ghost use Rattle.pages.specs.Prints.{most};
 ghost use Rattle.pages.specs.Paging.{lineRoom, First, Next, Paged};
 ghost use Rattle.listing.specs.Says.{emptyPage, RefusedSays};
 
-// The greatest power that is not Too many: 2 to the power 24.
-const MOST: usize = 16777216;
-
 // No line is longer, nor are the first two together.
 const LINE_ROOM: usize = 107;
 
@@ -22,7 +20,7 @@ const LINE_ROOM: usize = 107;
 pub fn plan(line: &[u8]) -> Planned
     ensures { λ r. ⌜ PlanSays most (now (line .entry)) r ⌝ }
 {
-    plan::plan_line(line, MOST)
+    plan::plan_line(line, MOST_LISTED)
 }
 
 // ---- pages

@@ -54,6 +54,7 @@ pub fn advance(ring: &mut [u8], k: usize, kind: Kind) -> Reached
     requires { ⌜ Ready k (now ring) ⌝ }
     ensures { λ r. ⌜ Found kind k (now (ring .entry)) (now (ring .exit)) r ⌝ }
 {
+    // `lyn` is that of the prenecklace under way, 0 before the first move. The code never reads it: the proof that the loop ends speaks of it, since it grows.
     let mut lyn: usize = 0;
     let mut moves: usize = 0;
     loop {

@@ -2,19 +2,20 @@
 --     most              the listing program's limit of Too many
 --     Prints s text     text is the whole output for the input s
 -- That an input has at most one output: proofs/Unique. Assumes nothing.
-use Prim.Native.Nat.{ℕ, _^_}
+use Prim.Native.Nat.{ℕ}
 use mathlib.Core.Path.{_≡_}
 use mathlib.Core.List.{List}
 use Rattle.refusal.specs.declared.Refusal.{Refusal}
 use Rattle.refusal.specs.Numbers.{numberOf}
 use Rattle.text.specs.Text.{refusedLine}
 use Rattle.limits.specs.declared.Planned.the-variants.{Accepted, Refused}
+use Rattle.limits.specs.Limits.{mostListed}
 use Rattle.plan.specs.Plan.{PlanSays}
 use Rattle.pages.specs.Listing.{Listing}
 
 -- 2 to the power 24
 abbrev pub most : ℕ
-most = 2 ^ 24
+most = mostListed
 
 pub data Prints (s text : List ℕ) : Type 0 where
   listed : (k n : ℕ) → PlanSays most s (Accepted k n) → Listing k n text → Prints s text

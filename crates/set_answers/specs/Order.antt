@@ -11,15 +11,15 @@ use Rattle.refusal.specs.declared.Refusal.{Refusal}
 use Rattle.refusal.specs.declared.Refusal.the-variants.{Length, Set}
 use Rattle.refusal.specs.declared.Checked.{Checked}
 use Rattle.refusal.specs.declared.Checked.the-variants.{Good, Refused}
-use Rattle.limits.specs.Limits.{Listable, GivenFor}
+use Rattle.limits.specs.Limits.{mostListed, Listable, GivenFor}
 
 -- a ring of a set has at most 24 sectors
 abbrev pub mostSectors : ℕ
 mostSectors = 24
 
--- the greatest power that is not Too many: 2 to the power 24
+-- the greatest power that is not Too many, as in the listing program
 abbrev pub mostReadings : ℕ
-mostReadings = 16777216
+mostReadings = mostListed
 
 -- the distance is 1 to n, and the wanted number 1 to 32
 pub record Settable (n d want : ℕ) : Type 0 where

@@ -1,16 +1,14 @@
 // The checks of a target set's numbers (02, g): 1, 2, 12, 13. No public calls: crate `sets` makes them.
 
+use limits::MOST_LISTED;
 use limits::Planned;
 use refusal::Checked;
 use refusal::Refusal;
 ghost use Rattle.set_answers.specs.Order.{CheckSays};
 ghost use Rattle.set_checks_inner.specs.Says.{DistanceSays};
 
-// A ring of a set has at most 24 sectors.
-const MOST_SECTORS: usize = 24;
-
-// The greatest power that is not Too many: 2 to the power 24.
-const MOST_READINGS: usize = 16777216;
+// A ring of a set has at most 24 sectors: a place has room for no more.
+const PLACE_SECTORS: usize = 24;
 
 // There are 32 places.
 const MOST_WANTED: usize = 32;
@@ -38,10 +36,10 @@ fn check_distance(n: usize, d: usize, wanted: usize) -> Checked
 pub fn check_set(n: usize, k: usize, d: usize, wanted: usize) -> Checked
     ensures { λ r. ⌜ CheckSays n k d wanted r ⌝ }
 {
-    if MOST_SECTORS < n {
+    if PLACE_SECTORS < n {
         return Checked::Refused(Refusal::Length(0));
     }
-    match limits::plan_numbers(k, n, MOST_READINGS) {
+    match limits::plan_numbers(k, n, MOST_LISTED) {
         Planned::Refused(r) => Checked::Refused(r),
         Planned::Accepted(_, _) => check_distance(n, d, wanted),
     }

@@ -1,1 +1,1 @@
--- What it promises stands in `catalogue_record`; nothing is defined here.
+-- No definitions of its own: the functions promise `mirrored` and `home` of `rings`, `turn` of `words` and a reversed list.

@@ -1,15 +1,13 @@
 // Whether a listing can go on from a state (01, 'The listing program'). No public calls: crate `listing` asks.
 
 use classify::Classified;
+use limits::MOST_LISTED;
 use limits::Planned;
 use pages::State;
 use rings::Class;
 ghost use mathlib.Core.Path.{_≡_};
 ghost use Rattle.pages.specs.State.{Good};
 ghost use Rattle.states_inner.specs.Says.{closed, Ring, Decides};
-
-// The greatest power that is not Too many: 2 to the power 24.
-const MOST: usize = 16777216;
 
 // Whether a class is that of a necklace.
 fn is_closed(c: Class) -> bool
@@ -37,16 +35,16 @@ fn is_ring(ring: &[u8], k: usize) -> bool
 pub fn is_good(s: State) -> bool
     ensures { λ r. ⌜ Decides r (Good s) ⌝ }
 {
-    if MOST < s.rings {
+    if MOST_LISTED < s.rings {
         return false;
     }
-    if MOST < s.moves {
+    if MOST_LISTED < s.moves {
         return false;
     }
     let n = s.n;
     let k = s.k;
     let ring = s.ring;
-    match limits::plan_numbers(k, n, MOST) {
+    match limits::plan_numbers(k, n, MOST_LISTED) {
         Planned::Refused(_) => false,
         Planned::Accepted(_, _) => is_ring(&ring[..n], k),
     }

@@ -9,7 +9,6 @@ pub use walk_record::Outcome;
 pub use walk_record::Started;
 pub use walk_record::Stepped;
 pub use walk_record::Walk;
-pub use walk_record::Went;
 ghost use Rattle.rings.specs.Necklace.{necklace, lyndon};
 ghost use Rattle.rings.specs.Prenecklace.{prenecklace};
 ghost use Rattle.moves_inner.specs.Kinds.{kindOf};
