@@ -5,8 +5,9 @@
 --     step-reached        from the record of a ring that reaches a ceiling a step is not refused, and reports as many moves
 --     lyndon-step-ceiling, necklace-step-ceiling    `walk::next_lyndon` and `walk::next_necklace` stay within n / 2 + 1 and (n + 1) / 2
 --     lyndon-step-reached, necklace-step-reached    and reach them
+--     accepted-lyndon     at a record that passes its checks a step to the next Lyndon word is not refused, and reports at most n / 2 + 1 moves
 -- Assumes nothing.
-use Prim.Native.Nat.{ℕ}
+use Prim.Native.Nat.{ℕ, _+_, _/_, _≤_}
 use mathlib.Core.Path.{_≡_, sym, ap, _∙_}
 use mathlib.Core.Bool.{Bool}
 use mathlib.Core.Option.{Option, none, some}
@@ -29,6 +30,7 @@ use Rattle.walk_record.specs.Record.{ringOf, walkOf, walkAsked}
 use Rattle.walk_record.specs.Says.{StepSays}
 use Rattle.walk_record.proofs.Good.{good-ready, good-long, ring-of, walk-good}
 use Rattle.walk_laws.specs.Reports.{ReportsUpTo, Reports}
+use Rattle.walk_laws.proofs.Reports.{reports-within, accepted-reports}
 
 -- ---- any kind
 
@@ -66,6 +68,12 @@ step-reached kind n k m s sized shaded best v (Refused r) says =
 -- request h, of the code: Moved and Done report at most half of n, rounded down, plus 1 moves
 pub lyndon-step-ceiling : (w v : Walk) (o : Outcome) → length (w .ring) ≡ 64 → StepSays lyndon w v o → ReportsUpTo (lyndonCeiling (w .n)) o
 lyndon-step-ceiling w v o size says = step-ceiling lyndon (lyndonCeiling (w .n)) w v o size (lyndon-ceiling (w .n) (w .k)) says
+
+-- so at a record that passes its checks a step is not refused, and reports at most n / 2 + 1 moves, whatever answer the contract admits
+pub accepted-lyndon : (w v : Walk) (o : Outcome) → length (w .ring) ≡ 64 → Passed (walkAsked w) → StepSays lyndon w v o → (m : ℕ) × Reports m o × (m ≤ w .n / 2 + 1)
+accepted-lyndon w v o size good says =
+    let r = accepted-reports lyndon w v o good says in
+    (r .0, r .1, reports-within (lyndonCeiling (w .n)) (r .0) o (lyndon-step-ceiling w v o size says) (r .1))
 
 -- and from the record of `lyndonStart` as many
 pub lyndon-step-reached : (n k : ℕ) → Sized n → (n ≡ 2 → ⊥) → Shaded k → (v : Walk) (o : Outcome) → StepSays lyndon (walkOf k (lyndonStart k n)) v o → Reports (lyndonCeiling n) o
