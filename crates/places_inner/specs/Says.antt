@@ -12,9 +12,8 @@ use mathlib.Core.List.{List, []}
 use lib.ListN.{length, getD}
 use Rattle.words.specs.Search.{allBelow}
 use Rattle.words.specs.Readings.{Shaded, Reading}
-use Rattle.set_choice.specs.Greedy.{farFrom}
+use Rattle.set_choice.specs.Greedy.{farFrom, offered}
 use Rattle.set_choice.specs.Places.{laid, placeAt}
-use Rattle.set_laws.proofs.Choice.{offered}
 
 -- n and k are numbers of this product
 pub record Fit (n k : ℕ) : Type 0 where

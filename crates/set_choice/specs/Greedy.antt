@@ -4,6 +4,7 @@
 --     clear d taken w             w is at least d apart from all taken
 --     greedy d left taken ws      the choice from ws, where `taken` are taken and `left` more are wanted: all that are taken then, in the order taken
 --     looked d left taken ws      the words of ws that the choice looks at
+--     offered d taken w           what is taken after the word w was offered
 --     kept f ws                   the words of the list that pass, in order
 --     lyndons n k                 the Lyndon words of n and k in increasing order
 --     picked n k d want           the set
@@ -38,6 +39,10 @@ unfoldable pub looked : ℕ → ℕ → List (List ℕ) → List (List ℕ) → 
 looked d zero taken ws = []
 looked d (suc left) taken [] = []
 looked d (suc left) taken (w ∷ ws) = w ∷ elim (clear d taken w) [ true ↦ looked d left (taken ++ (w ∷ [])) ws | false ↦ looked d (suc left) taken ws ]
+
+-- the set after the word w was offered
+unfoldable pub offered : ℕ → List (List ℕ) → List ℕ → List (List ℕ)
+offered d taken w = elim (clear d taken w) [ true ↦ taken ++ (w ∷ []) | false ↦ taken ]
 
 -- the words of the list that pass
 unfoldable pub kept : (List ℕ → Bool) → List (List ℕ) → List (List ℕ)

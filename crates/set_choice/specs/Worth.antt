@@ -1,5 +1,5 @@
 -- What a set is to be worth (02, 'g'), sentence by sentence, over the set ts and the words that were looked at, in the order taken and looked at.
---     OneOf ts u                      u is one of the list
+--     OneOf ts u, lastOf ts           u is one of the list; the last of the list
 --     LyndonWords n k ts              each is a Lyndon word of n and k
 --     Rising ts                       they stand in increasing order
 --     Spread d ts                     any two are at least d apart
@@ -7,7 +7,7 @@
 --     Settled d ts u                  u is taken, or nearer than d to an earlier one taken
 --     Worth n k d want ts seen full   all that is asked of a set
 -- That the greedy choice is worth it: `set_laws`. Assumes nothing.
-use Prim.Native.Nat.{ℕ, _<_, _≤_}
+use Prim.Native.Nat.{ℕ, _-_, _<_, _≤_}
 use mathlib.Core.Path.{_≡_}
 use mathlib.Core.Bool.{Bool, true, false}
 use mathlib.Core.List.{List, []}
@@ -22,6 +22,10 @@ pub record OneOf (ts : List (List ℕ)) (u : List ℕ) : Type 0 where
   pub at : ℕ
   pub inside : at < length ts
   pub is : getD ts at [] ≡ u
+
+-- the last of the list, where it has any
+abbrev pub lastOf : List (List ℕ) → List ℕ
+lastOf ts = getD ts (length ts - 1) []
 
 -- a Lyndon word of n and k
 pub record LyndonOf (n k : ℕ) (u : List ℕ) : Type 0 where
@@ -56,6 +60,10 @@ pub record Worth (n k d want : ℕ) (ts seen : List (List ℕ)) (full : Bool) : 
   pub members : LyndonWords n k ts
   pub rising : Rising ts
   pub spread : Spread d ts
+  -- each one taken is one of those looked at
+  pub looked-at : (i : ℕ) → i < length ts → OneOf seen (getD ts i [])
+  -- where the set is full, the last one taken is the last one looked at
+  pub last-looked : full ≡ true → lastOf ts ≡ lastOf seen
   -- each Lyndon word up to one that was looked at is taken or nearer than d to an earlier one taken
   pub settled : (u v : List ℕ) → LyndonOf n k u → OneOf seen v → upTo u v ≡ true → Settled d ts u
   -- full is exactly the wanted number

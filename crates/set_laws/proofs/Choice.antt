@@ -2,17 +2,18 @@
 --     greedy-take, greedy-skip      the next word is clear, or it is not
 --     greedy-none, greedy-enough    there is none left, or there are enough
 --     greedy-first                  the first word is taken
---     offered d ts w                the set after the word w was offered; `greedy-offer`: the choice from it on
+--     offered-yes, offered-no, offered-most, greedy-offer    the set after a word was offered, and the choice from it on
 --     greedy-begins                 what is taken stays taken, at its place
 --     greedy-spread                 any two taken are at least d apart
 --     greedy-most                   no more are taken than wanted
 --     greedy-increasing             they are taken in increasing order
 --     greedy-all                    what holds of all words holds of all taken
+--     greedy-looked, greedy-last    each word taken is one of those looked at, and where enough are taken the last taken is the last looked at
 --     looked-begins, short-looked   the words looked at are a beginning of the words, and all of them where fewer are taken than wanted
 --     greedy-settles                each word looked at is taken or nearer than d to an earlier one taken
 -- Assumes nothing.
 use Prim.Native.Nat.{ℕ, zero, suc, _+_, _-_, _<_, _≤_}
-use mathlib.Core.Path.{_≡_, refl, ap, _∙_}
+use mathlib.Core.Path.{_≡_, refl, sym, ap, _∙_}
 use mathlib.Core.Bool.{true, false, not}
 use mathlib.Core.List.{List, [], _∷_, _++_}
 use native.Mathlib.Omega.{arith}
@@ -26,7 +27,8 @@ use Rattle.words.proofs.Search.{all-at, not-all}
 use Rattle.words.proofs.Readings.{All, nothing, also, all-weaken, all-append, Increasing, empty, more, increasing-append}
 use Rattle.rings.specs.Alike.{apart}
 use Rattle.set_choice.specs.Greedy.{farFrom, clear, greedy, looked}
-use Rattle.set_choice.specs.Worth.{Spread, Near, Settled, took, left-out}
+unfoldable pub use Rattle.set_choice.specs.Greedy.{offered}
+use Rattle.set_choice.specs.Worth.{lastOf, Spread, Near, Settled, took, left-out}
 use Rattle.set_laws.proofs.Lists.{length-more, at-old, at-new, all-place, Begins, none-yet, one-more}
 
 -- ---- the next word
@@ -51,10 +53,6 @@ greedy-enough d left ts ws e = rw e refl
 pub greedy-first : (d left : ℕ) (ws : List (List ℕ)) (w : List ℕ) → greedy d (suc left) [] (w ∷ ws) ≡ greedy d left (w ∷ []) ws
 unfolding clear allBelow
 greedy-first d left ws w = greedy-take d left [] ws w refl
-
--- the set after the word w was offered
-unfoldable pub offered : ℕ → List (List ℕ) → List ℕ → List (List ℕ)
-offered d ts w = elim (clear d ts w) [ true ↦ ts ++ (w ∷ []) | false ↦ ts ]
 
 pub offered-yes : (d : ℕ) (ts : List (List ℕ)) (w : List ℕ) → clear d ts w ≡ true → offered d ts w ≡ ts ++ (w ∷ [])
 unfolding offered
@@ -180,6 +178,52 @@ short-looked d (suc left) ts (w ∷ ws) h =
     elim (test (clear d ts w)) [
       | passes e ↦ rw (e, looked) (ap (λ (x : List (List ℕ)). w ∷ x) (short-looked d left (ts ++ (w ∷ [])) ws (omega (arith, length-more ts w, rw (e, greedy) at h))))
       | fails e ↦ rw (e, looked) (ap (λ (x : List (List ℕ)). w ∷ x) (short-looked d (suc left) ts ws (rw (e, greedy) at h)))
+    ]
+
+-- what holds of all taken before and of all looked at holds of all taken
+pub greedy-looked : {P : List ℕ → Type 0} (d left : ℕ) (ts ws : List (List ℕ)) → All P ts → All P (looked d left ts ws) → All P (greedy d left ts ws)
+unfolding greedy looked
+greedy-looked d zero ts ws a b = a
+greedy-looked d (suc left) ts [] a b = a
+greedy-looked {P} d (suc left) ts (w ∷ ws) a (also p b) =
+    elim (test (clear d ts w)) [
+      | passes e ↦ rw (e, greedy) (greedy-looked d left (ts ++ (w ∷ [])) ws (all-append a (also p nothing)) (rw e at b))
+      | fails e ↦ rw (e, greedy) (greedy-looked d (suc left) ts ws a (rw e at b))
+    ]
+
+-- the last of a list is that of its rest, where there is one
+last-rest : (w : List ℕ) (ws : List (List ℕ)) → 0 < length ws → lastOf (w ∷ ws) ≡ lastOf ws
+last-rest w [] h = absurd (omega arith)
+last-rest w (v ∷ ws) h = let e : suc (suc (length ws)) - 1 ≡ suc (length ws) = omega arith in let f : suc (length ws) - 1 ≡ length ws = omega arith in rw (e, f) refl
+
+-- the last of a list with one word more is that word
+last-new : (ts : List (List ℕ)) (w : List ℕ) → lastOf (ts ++ (w ∷ [])) ≡ w
+last-new ts w = let e : length (ts ++ (w ∷ [])) - 1 ≡ length ts = omega (arith, length-more ts w) in rw e (at-new ts w)
+
+-- where one more is taken, one was looked at
+looked-some : (d left : ℕ) (ts ws : List (List ℕ)) → length (greedy d (suc left) ts ws) ≡ length ts + suc left → 0 < length (looked d (suc left) ts ws)
+unfolding greedy looked
+looked-some d left ts [] h = absurd (omega arith)
+looked-some d left ts (w ∷ ws) h = omega arith
+
+-- where all that are wanted are taken, and one at least is, the last one taken is the last one looked at
+pub greedy-last : (d left : ℕ) (ts ws : List (List ℕ)) → length (greedy d (suc left) ts ws) ≡ length ts + suc left → lastOf (greedy d (suc left) ts ws) ≡ lastOf (looked d (suc left) ts ws)
+unfolding greedy looked
+greedy-last d left ts [] h = absurd (omega arith)
+greedy-last d zero ts (w ∷ ws) h =
+    elim (test (clear d ts w)) [
+      | passes e ↦ rw (e, greedy, looked) (last-new ts w)
+      | fails e ↦ let g = rw (e, greedy) at h in rw (e, greedy, looked) (greedy-last d zero ts ws g ∙ sym (last-rest w (looked d 1 ts ws) (looked-some d zero ts ws g)))
+    ]
+greedy-last d (suc left) ts (w ∷ ws) h =
+    elim (test (clear d ts w)) [
+      | passes e ↦
+          let us = ts ++ (w ∷ []) in
+          let g : length (greedy d (suc left) us ws) ≡ length us + suc left = omega (arith, rw (e, greedy) at h, length-more ts w) in
+          rw (e, greedy, looked) (greedy-last d left us ws g ∙ sym (last-rest w (looked d (suc left) us ws) (looked-some d left us ws g)))
+      | fails e ↦
+          let g = rw (e, greedy) at h in
+          rw (e, greedy, looked) (greedy-last d (suc left) ts ws g ∙ sym (last-rest w (looked d (suc (suc left)) ts ws) (looked-some d (suc left) ts ws g)))
     ]
 
 -- ---- in order

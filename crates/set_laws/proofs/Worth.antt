@@ -2,7 +2,7 @@
 --     picked-most      it takes at most the wanted number
 --     picked-worth     every sentence of `Worth`, where `full` says whether the wanted number was taken
 -- Assumes nothing.
-use Prim.Native.Nat.{ℕ, _<_, _≤_}
+use Prim.Native.Nat.{ℕ, zero, suc, _<_, _≤_}
 use mathlib.Core.Path.{_≡_, refl, sym, subst, _∙_}
 use mathlib.Core.Bool.{Bool, true, false}
 use mathlib.Core.List.{List, []}
@@ -15,10 +15,16 @@ use Rattle.words.specs.Readings.{readings}
 use Rattle.words.proofs.Readings.{All, nothing, all-weaken, Increasing, empty, readings-all, readings-increasing, each-reading}
 use Rattle.rings.specs.Necklace.{lyndon}
 use Rattle.set_choice.specs.Greedy.{greedy, looked, lyndons, picked, lookedAt}
-use Rattle.set_choice.specs.Worth.{OneOf, LyndonOf, LyndonWords, Rising, Spread, Settled, Worth}
+use Rattle.set_choice.specs.Worth.{OneOf, lastOf, LyndonOf, LyndonWords, Rising, Spread, Settled, Worth}
 use Rattle.set_laws.proofs.Lists.{all-place, place-all, increasing-rising, begins-down}
 use Rattle.set_laws.proofs.Kept.{kept-all, kept-each, kept-increasing}
-use Rattle.set_laws.proofs.Choice.{Ordered, greedy-all, greedy-spread, greedy-most, greedy-increasing, greedy-settles, looked-begins, short-looked}
+use Rattle.set_laws.proofs.Choice.{Ordered, greedy-all, greedy-spread, greedy-most, greedy-increasing, greedy-settles, greedy-looked, greedy-last, looked-begins, short-looked}
+
+-- where all that are wanted are taken, the last one taken is the last one looked at; both are none where none is wanted
+last-of-all : (d want : ℕ) (ws : List (List ℕ)) → length (greedy d want [] ws) ≡ want → lastOf (greedy d want [] ws) ≡ lastOf (looked d want [] ws)
+unfolding greedy looked
+last-of-all d zero ws e = refl
+last-of-all d (suc left) ws e = greedy-last d left [] ws (omega arith)
 
 module _ (n k d want : ℕ) where
   rises : Increasing (lyndons n k)
@@ -62,6 +68,12 @@ module _ (n k d want : ℕ) where
   unfolding picked
   spread = greedy-spread d want [] (lyndons n k) (λ i j b h. absurd (omega arith))
 
+  -- each one taken was looked at
+  looked-at : (i : ℕ) → i < length (picked n k d want) → OneOf (lookedAt n k d want) (getD (picked n k d want) i [])
+  unfolding picked lookedAt
+  looked-at =
+      all-place (greedy-looked {P = OneOf (lookedAt n k d want)} d want [] (lyndons n k) nothing (place-all (lookedAt n k d want) (λ j h. record { at = j; inside = h; is = refl })))
+
   -- a Lyndon word up to one that was looked at was looked at, and so it is settled
   settled : (u v : List ℕ) → LyndonOf n k u → OneOf (lookedAt n k d want) v → upTo u v ≡ true → Settled d (picked n k d want) u
   unfolding lookedAt
@@ -81,12 +93,19 @@ module _ (n k d want : ℕ) where
   fewer : (full : Bool) → full ≡ eqb (length (picked n k d want)) want → full ≡ false → length (picked n k d want) < want
   fewer full e f = omega (arith, picked-most, eqb-false (length (picked n k d want)) want (sym e ∙ f))
 
+  -- full: the last one taken is the last one looked at
+  last-looked : length (picked n k d want) ≡ want → lastOf (picked n k d want) ≡ lastOf (lookedAt n k d want)
+  unfolding picked lookedAt
+  last-looked e = last-of-all d want (lyndons n k) e
+
   pub picked-worth : (full : Bool) → full ≡ eqb (length (picked n k d want)) want → Worth n k d want (picked n k d want) (lookedAt n k d want) full
   picked-worth full e =
       record {
         members = members;
         rising = rising;
         spread = spread;
+        looked-at = looked-at;
+        last-looked = λ f. last-looked (eqb-true (length (picked n k d want)) want (sym e ∙ f));
         settled = settled;
         enough = λ f. eqb-true (length (picked n k d want)) want (sym e ∙ f);
         short = fewer full e;
