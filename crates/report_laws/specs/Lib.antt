@@ -1,1 +1,2 @@
--- No definitions: this crate holds theorems only (proofs/).
+-- How many lines an input has, said without cutting it (LineCount). All else that the theorems of this crate are about is defined in `reports`.
+pub mod LineCount
