@@ -31,7 +31,7 @@ cases = (
                       (refl, refl),
                       (
                         (refl, refl, refl, refl),
-                        (refl, (refl, (refl, (refl, ((refl, refl), (refl, (refl, (refl, (refl, ((refl, refl), ((refl, refl), (refl, (refl, (refl, (refl, (refl, (refl, (refl, ((refl, refl), ((refl, refl), ((refl, refl), ((refl, refl), (refl, tt))))))))))))))))))))))),
+                        (refl, (refl, (refl, (refl, ((refl, refl), (refl, (refl, (refl, (refl, ((refl, refl), ((refl, refl), (refl, (refl, (refl, (refl, (refl, (refl, (refl, ((refl, refl), ((refl, refl), ((refl, refl), ((refl, refl), (refl, ((refl, refl, refl, refl), tt)))))))))))))))))))))))),
                       ),
                     ),
                   ),

@@ -16,7 +16,7 @@ use Rattle.rings.specs.Home.{home, shift}
 use Rattle.rings.specs.Alike.{evenHanded, sameRing, apart, mirrored, bracelet, leastOfPair}
 use Rattle.rings.specs.Next.{nextPrenecklace}
 use Rattle.rings.specs.Counts.{countedNecklace}
-use Rattle.rings.specs.Steps.{firstOf, nextOf, moves}
+use Rattle.rings.specs.Steps.{firstOf, nextOf, moves, howMany, howManyTo}
 
 -- the n decimal digits of a numeral, in front of the sectors that follow
 unfoldable pub digits : ℕ → ℕ → List ℕ → List ℕ
@@ -62,6 +62,8 @@ pub data Case : Type 0 where
   counted-next : ℕ → List ℕ → ℕ → ℕ → Case
   -- n, the counts, a reading after which there is no ring that has them
   counted-done : ℕ → List ℕ → ℕ → Case
+  -- k, n, how many prenecklaces, necklaces and Lyndon words there are, and how many necklaces of 1 to n sectors together
+  how-many : ℕ → ℕ → ℕ → ℕ → ℕ → ℕ → Case
 
 -- what a row claims
 unfoldable pub Holds : Case → Type 0
@@ -82,6 +84,7 @@ Holds (below-turns n w b) = belowOtherTurns (ring n w) ≡ b
 Holds (counted-first n cs w) = firstOf (countedNecklace cs) n (lib.ListN.length cs) ≡ some (ring n w)
 Holds (counted-next n cs w v) = nextOf (countedNecklace cs) (lib.ListN.length cs) (ring n w) ≡ some (ring n v)
 Holds (counted-done n cs w) = nextOf (countedNecklace cs) (lib.ListN.length cs) (ring n w) ≡ none
+Holds (how-many k n p c l t) = (howMany prenecklace n k ≡ p) × (howMany necklace n k ≡ c) × (howMany lyndon n k ≡ l) × (howManyTo necklace n k ≡ t)
 
 unfoldable pub table : List Case
 table =
@@ -121,4 +124,6 @@ table =
     of-pair 6 001111 true ∷
     of-pair 6 010110 false ∷
     then-bracelet 6 001011 001111 ∷
+    -- the page's numbers of k = 3 and n = 4; of 1, 2 and 3 sectors there are 3, 6 and 11 necklaces
+    how-many 3 4 32 24 18 44 ∷
     []

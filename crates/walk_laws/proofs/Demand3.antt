@@ -1,7 +1,7 @@
 -- Demand 3 of the code, for whatever answer the contract admits at a record that passes its checks. (Of Moved and of Done apart: `walk_record`, proofs/Sums.)
 --     accepted-moves    a step to the next necklace is not refused, and reports at most (n + 1) / 2 moves, rounded down
 --     accepted-last     at the last ring a step of any kind is Done with 0 moves
--- That steps from a start come to Done, so that the sums of `steps-sum` and `steps-bound` are about something: OneRing, `steps-end`. Assumes nothing.
+-- The sums over a full walk, and that steps from a start come to Done, so that they are about something: OneRing. Assumes nothing.
 use Prim.Native.Nat.{ℕ, _+_, _-_, _/_, _≤_}
 use mathlib.Core.Path.{_≡_, refl, sym, ap, _∙_}
 use mathlib.Core.Bool.{Bool}

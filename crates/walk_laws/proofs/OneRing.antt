@@ -1,10 +1,13 @@
--- Every reading has one ring (02, request n), of the rings that `walk::start` and `walk::next_necklace` hand out one after another until Done (specs/HandedOut).
+-- Every reading has one ring (02, request n), and the sums of demand 3, of what `walk::start` and `walk::next_necklace` hand out one after another until Done
+-- (specs/HandedOut).
 --     start-zeros            the ring that the start hands out is the all-zero ring
 --     steps-one-ring         each reading is a turn of exactly one ring handed out
 --     steps-period-sum       the periods of the rings handed out add up to k to the power n
+--     handed-out-sum         the moves that the steps report add up to one less than the prenecklaces of n and k
+--     handed-out-bound       and to at most one less than the necklaces of lengths 1 to n together
 --     walk-steps             steps from a record do what the full walk from its ring does
 --     steps-end              so from every record that a start hands out they come to Done
---     handed-out             for every n and k of the page there is what the two sentences speak of
+--     handed-out             for every n and k of the page there is what these sentences speak of
 -- Assumes nothing.
 use Prim.Native.Nat.{ℕ, _+_, _<_}
 use mathlib.Core.Path.{_≡_, refl, sym, subst, ap, _∙_}
@@ -18,7 +21,7 @@ use Rattle.rings.specs.Necklace.{necklace}
 use Rattle.rings.specs.Prenecklace.{prenecklace}
 use Rattle.rings.specs.Steps.{moves, FullWalk, done, step}
 use Rattle.necklace_laws.proofs.Words.{necklace-prenecklace}
-use Rattle.necklace_laws.proofs.FullWalk.{next-facts, walk-exists, zeros, length-zeros, zeros-reading, zeros-prenecklace}
+use Rattle.necklace_laws.proofs.FullWalk.{next-facts, walk-exists, zeros, length-zeros, zeros-reading, zeros-prenecklace, walk-sum, walk-sum-bound}
 use Rattle.counting_laws.specs.OneRing.{OneRingEach, PeriodsAddUp}
 use Rattle.counting_laws.proofs.OneRing.{one-ring, period-sum}
 use Rattle.refusal.specs.declared.Checked.the-variants as C
@@ -27,9 +30,9 @@ use Rattle.walk_record.specs.Record.{ringOf, walkOf}
 use Rattle.walk_record.specs.Says.{StartSays, Steps, ends, goes}
 use Rattle.walk_record.proofs.Good.{ring-of, walk-good}
 use Rattle.walk_record.proofs.Sums.{steps-walk}
-use Rattle.walk_laws.specs.HandedOut.{HandedOut, OneRingHandedOut, PeriodsHandedOut}
+use Rattle.walk_laws.specs.HandedOut.{HandedOut, OneRingHandedOut, PeriodsHandedOut, MovesHandedOut, MovesWithin}
 
--- ---- the two sentences
+-- ---- the sentences
 
 module _ (n k : ℕ) (out : HandedOut n k) where
   -- the ring that the start hands out is the all-zero ring
@@ -54,6 +57,14 @@ module _ (n k : ℕ) (out : HandedOut n k) where
   -- the periods of the rings handed out add up to k to the power n
   pub steps-period-sum : PeriodsHandedOut n k out
   steps-period-sum = subst (λ (u : List ℕ). PeriodsAddUp n k u (out .rings)) (sym start-zeros) (period-sum n k long many (out .rings) (out .sum) walked)
+
+  -- the moves add up to one less than the prenecklaces of n and k
+  pub handed-out-sum : MovesHandedOut n k out
+  handed-out-sum = walk-sum necklace n k many (out .rings) (out .sum) walked
+
+  -- and to at most one less than the necklaces of lengths 1 to n together
+  pub handed-out-bound : MovesWithin n k out
+  handed-out-bound = walk-sum-bound necklace n k long many (out .rings) (out .sum) walked
 
 -- ---- steps come to Done
 

@@ -1,13 +1,17 @@
--- Every reading has one ring (02, request n), said of the rings that `walk::start` and `walk::next_necklace` hand out one after another until Done.
+-- Every reading has one ring (02, request n), and the sums of demand 3, said of what `walk::start` and `walk::next_necklace` hand out one after another until Done.
 --     HandedOut n k             such a start, and the steps from it
 --     OneRingHandedOut          each reading is a turn of exactly one ring handed out
 --     PeriodsHandedOut          the periods of the rings handed out add up to k to the power n
--- The calls are spoken of by their contracts, which no two answers satisfy (`walk_record`, proofs/Unique): so the answers here are the code's. That the two sentences hold, and
--- that there is such a start and such steps for every n and k of the page: proofs/OneRing. Assumes nothing.
-use Prim.Native.Nat.{ℕ}
+--     MovesHandedOut, MovesWithin    demand 3: the moves that the steps report add up to one less than the prenecklaces of n and k, and to at most one less
+--                                    than the necklaces of lengths 1 to n together
+-- The calls are spoken of by their contracts, which no two answers satisfy (`walk_record`, proofs/Unique): so the answers here are the code's. That they hold, and that there
+-- is such a start and such steps for every n and k of the page: proofs/OneRing. Assumes nothing.
+use Prim.Native.Nat.{ℕ, suc, _≤_}
+use mathlib.Core.Path.{_≡_}
 use mathlib.Core.List.{List}
 use Rattle.rings.specs.Necklace.{necklace}
-use Rattle.rings.specs.Steps.{zeros}
+use Rattle.rings.specs.Prenecklace.{prenecklace}
+use Rattle.rings.specs.Steps.{howMany, howManyTo, zeros}
 use Rattle.counting_laws.specs.OneRing.{OneRingEach, PeriodsAddUp}
 use Rattle.refusal.specs.declared.Checked.the-variants as C
 use Rattle.walk_record.specs.declared.Walk.{Walk}
@@ -31,3 +35,11 @@ OneRingHandedOut n k out = OneRingEach n k (ringOf (out .first)) (out .rings)
 -- the periods of the rings handed out add up to k to the power n
 abbrev pub PeriodsHandedOut : (n k : ℕ) → HandedOut n k → Type 0
 PeriodsHandedOut n k out = PeriodsAddUp n k (ringOf (out .first)) (out .rings)
+
+-- the moves that the steps report add up to one less than the prenecklaces of n and k
+abbrev pub MovesHandedOut : (n k : ℕ) → HandedOut n k → Type 0
+MovesHandedOut n k out = suc (out .sum) ≡ howMany prenecklace n k
+
+-- and to at most one less than the necklaces of k shades and of 1 to n sectors together
+abbrev pub MovesWithin : (n k : ℕ) → HandedOut n k → Type 0
+MovesWithin n k out = suc (out .sum) ≤ howManyTo necklace n k

@@ -3,6 +3,7 @@
 --     before-less, less-before                           readings of one length: before is the first difference of Sequence
 --     upTo-not-less, not-less-upTo                       the same of upTo
 --     same-true, true-same, same-refl, same-false        same is equality
+--     beginning-first                                    a beginning comes first
 --     Lex v w, lex v w                                   v before w, v is w, or w before v: the order is total
 --     before-irrefl, before-asym, before-trans           before is a strict order
 --     not-before, upTo-not-before, not-upTo, before-not-upTo     upTo fails exactly where before passes the other way
@@ -12,7 +13,7 @@
 use Prim.Native.Nat.{ℕ, zero, suc, _<_}
 use mathlib.Core.Path.{_≡_, refl, sym, ap, _∙_}
 use mathlib.Core.Bool.{true, false, not, false≢true}
-use mathlib.Core.List.{List, [], _∷_}
+use mathlib.Core.List.{List, [], _∷_, _++_}
 use native.Mathlib.Omega.{arith}
 use lib.ListN.{length}
 use lib.Dec.{eqb}
@@ -111,6 +112,14 @@ true-same v w e = rw e (same-refl w)
 -- readings that are not equal fail the test
 pub same-false : (v w : List ℕ) → (v ≡ w → ⊥) → same v w ≡ false
 same-false v w h = refuted (same v w) (λ e. h (same-true v w e))
+
+-- ---- a beginning comes first
+
+-- a reading is before each one that goes on from it (01, 'What the catalogue covers')
+pub beginning-first : (v : List ℕ) (b : ℕ) (w : List ℕ) → before v (v ++ (b ∷ w)) ≡ true
+unfolding before
+beginning-first [] b w = refl
+beginning-first (a ∷ v) b w = before-eq a a v (v ++ (b ∷ w)) refl ∙ beginning-first v b w
 
 -- ---- the order is total
 
