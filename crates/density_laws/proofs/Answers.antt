@@ -3,10 +3,10 @@
 --     brighter-ring      of two rings that `ring_shades` wrote for one card and k, the same sector by sector, whichever sectors of either are compared
 --     ring-sector        a sector's shade in a ring that was written is the one that `sector_shade` tells of its value
 -- That the contracts admit one answer each: `density_answers`, proofs/Unique. Assumes nothing.
-use Prim.Native.Nat.{ℕ, zero, suc, _<_, _≤_}
-use mathlib.Core.Path.{_≡_, refl, sym, _∙_}
+use Prim.Native.Nat.{ℕ, _<_, _≤_}
+use mathlib.Core.Path.{_≡_}
 use mathlib.Core.Bool.{Bool, true}
-use mathlib.Core.List.{List, [], _∷_, map}
+use mathlib.Core.List.{List}
 use native.Mathlib.Omega.{arith}
 use lib.Dec.{T}
 use lib.ListN.{length, getD}
@@ -19,6 +19,7 @@ use Rattle.density_answers.specs.declared.RingRead.the-variants as R
 use Rattle.density_answers.specs.Cuts.{shadeOf}
 use Rattle.density_answers.specs.Says.{SectorSays, RingSays}
 use Rattle.density_answers.proofs.Unique.{one-told}
+use Rattle.density_answers.proofs.Places.{shade-at}
 use Rattle.density_laws.proofs.Shades.{brighter}
 
 -- a test that passes
@@ -32,16 +33,10 @@ brighter-sector c k x y s t h p q = omega (arith, p .1 .1, q .1 .1, brighter c k
 
 -- ---- a ring
 
--- the shade that stands at a place
-shade-at : (f : Float → ℕ) (xs : List Float) (i : ℕ) → i < length xs → getD (map f xs) i 0 ≡ f (getD xs i nan)
-shade-at f [] i h = absurd (omega arith)
-shade-at f (x ∷ xs) zero h = refl
-shade-at f (x ∷ xs) (suc i) h = shade-at f xs i (omega arith)
-
 module _ (c : Card) (k : ℕ) (xs : List Float) (b d : List ℕ) (wrote : RingSays xs k c b R.Written d) where
   -- each sector's shade is that of its value
   written-at : (i : ℕ) → i < length xs → getD d i 0 ≡ shadeOf c k (getD xs i nan)
-  written-at i h = rw (wrote .1) (shade-at (shadeOf c k) xs i h)
+  written-at i h = rw (wrote .1) (shade-at c k xs i h)
 
   -- and so the one that `sector_shade` tells
   pub ring-sector : (i : ℕ) (a : Sector) → i < length xs → SectorSays (getD xs i nan) k c (S.Is a) → a ≡ Shade (getD d i 0)

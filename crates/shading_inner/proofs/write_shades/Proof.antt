@@ -7,7 +7,8 @@ use borrow.Author.Needs.{needs}
 use lib.ListN.{length, length-map}
 use Rattle.copy_laws.proofs.Written.{Written, written-start, written-more, written-end}
 use Rattle.density_answers.specs.Cuts.{shadeOf}
-use Rattle.shading_inner.proofs.Telling.{has-none, has-one, shade-at}
+use Rattle.density_answers.proofs.Places.{shade-at}
+use Rattle.shading_inner.proofs.Telling.{has-none, has-one}
 use Rattle.shading_inner.proofs.write_shades.Statement.{statement}
 use Rattle.shading_inner.proofs.write_shades.Tie as tie
 
