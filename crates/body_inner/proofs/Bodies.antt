@@ -7,6 +7,7 @@
 use Prim.Native.Nat.{ℕ, _<_}
 use mathlib.Core.Path.{_≡_, refl, sym, ap, _∙_}
 use mathlib.Core.Bool.{false}
+use mathlib.Core.Logic.{inl, inr}
 use mathlib.Core.List.{List}
 use lib.ListN.{length}
 use Rattle.words.specs.Readings.{Sized, Shaded}
@@ -20,22 +21,21 @@ use Rattle.necklace_laws.proofs.Classes.{classed, lyndon-necklace, look-within}
 use Rattle.necklace_laws.proofs.Words.{necklace-prenecklace}
 use Rattle.refusal.specs.declared.Refusal.{Refusal}
 use Rattle.refusal.specs.Numbers.{placeOf}
-use Rattle.refusal.specs.Order.{Given, Passed, FirstBad}
-use Rattle.refusal.specs.Order.Given.{size, pair, shades, sector as badAt, room, counts, offWalk}
-use Rattle.refusal.specs.Calls.{oneReading}
+use Rattle.refusal.specs.Order.{Given, Passed}
+use Rattle.refusal.specs.Calls.{FirstBad, oneReading}
 use Rattle.catalogue_record.specs.Layout.{isNecklace}
 use Rattle.body_inner.specs.declared.Looked.the-variants.{NotHome}
 use Rattle.body_inner.specs.Looks.{LookSays}
 
 -- a reading whose numbers are good can only be refused for a sector
 pub only-sector : (w : List ℕ) (k : ℕ) → Sized (length w) → Shaded k → (r : Refusal) → Given (oneReading w k) r → FirstBad w (λ j. k) (placeOf r)
-only-sector w k z h r (size e f) = absurd (f z)
-only-sector w k z h r (pair e l f) = absurd (f tt)
-only-sector w k z h r (shades e l f) = absurd (f h)
-only-sector w k z h r (badAt p e l f) = rw e f
-only-sector w k z h r (room e l f) = absurd (f tt)
-only-sector w k z h r (counts e l f) = absurd (f tt)
-only-sector w k z h r (offWalk e l f) = absurd (f refl)
+only-sector w k z h r (inl (inl (inl (inl (inl (inl (e, f))))))) = absurd (f z)
+only-sector w k z h r (inl (inl (inl (inl (inl (inr (l, (e, f)))))))) = absurd (f tt)
+only-sector w k z h r (inl (inl (inl (inl (inr (l, (e, f))))))) = absurd (f h)
+only-sector w k z h r (inl (inl (inl (inr (l, (p, e, f)))))) = rw e f
+only-sector w k z h r (inl (inl (inr (l, (e, f))))) = absurd (f tt)
+only-sector w k z h r (inl (inr (l, (e, f)))) = absurd (f tt)
+only-sector w k z h r (inr (l, (e, f))) = absurd (f refl)
 
 -- a reading is a necklace exactly where its class is a necklace's
 pub necklace-class : (w : List ℕ) (c : Class) → c ≡ classOf w → isNecklace c ≡ necklace w

@@ -7,12 +7,11 @@ use mathlib.Core.Bool.{true, false}
 use mathlib.Core.List.{List}
 use Rattle.rings.specs.Necklace.{necklace}
 use Rattle.rings.specs.Class.{lookAt}
-use Rattle.refusal.specs.Order.{Below, FirstBad}
-use Rattle.refusal.specs.Calls.{oneReading}
+use Rattle.refusal.specs.Calls.{Below, FirstBad}
 use Rattle.body_inner.specs.declared.Looked.{Looked}
 use Rattle.body_inner.specs.declared.Looked.the-variants.{Home, NoShade, NotHome}
 
 abbrev pub LookSays : List ℕ → ℕ → Looked → Type 0
-LookSays w k Home = Below (oneReading w k) × (necklace w ≡ true)
+LookSays w k Home = Below w (λ j. k) × (necklace w ≡ true)
 LookSays w k (NoShade i) = FirstBad w (λ j. k) i
-LookSays w k (NotHome i) = (i ≡ lookAt w) × Below (oneReading w k) × (necklace w ≡ false)
+LookSays w k (NotHome i) = (i ≡ lookAt w) × Below w (λ j. k) × (necklace w ≡ false)

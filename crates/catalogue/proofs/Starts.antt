@@ -3,13 +3,13 @@
 -- Assumes nothing.
 use Prim.Native.Nat.{ℕ, _-_, _<_}
 use mathlib.Core.Path.{_≡_}
+use mathlib.Core.Logic.{inr}
 use mathlib.Core.List.{List}
 use native.Mathlib.Omega.{arith}
 use lib.ListN.{length, take, drop, length-drop}
 use lib.Seq.{take-all}
 use Rattle.catalogue_record.specs.declared.Entry.{Entry}
 use Rattle.catalogue_record.specs.declared.Entry.the-variants.{Record, End, Refused}
-use Rattle.catalogue_record.specs.Order.RefusedAt.{broken}
 use Rattle.catalogue_record.specs.Says.{ReadSays}
 use Rattle.catalogue_record.specs.Steps.{RecordSays}
 
@@ -20,4 +20,4 @@ record-read c s b r d z l h = go r (let q = take-all (length c - s) (drop s c) (
     go : (r : Entry) → RecordSays (drop s c) s b r d → ReadSays c s b r d
     go (Record n k x next) g = (z, l, g)
     go End g = absurd g
-    go (Refused o) g = (broken z l (g .0), g .1)
+    go (Refused o) g = (inr ((z, omega (arith, l)), (l, g .0)), g .1)

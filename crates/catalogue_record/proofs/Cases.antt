@@ -13,15 +13,15 @@ use Rattle.words.specs.Search.{least}
 use Rattle.packing.specs.Open.{open-packing}
 use Rattle.rings.specs.Open.{open-all}
 use Rattle.refusal.specs.declared.Refusal.the-variants.{Length, Shades, Sector, Room, Cut, Mark, NotHome, Retired, Padding}
-use Rattle.refusal.proofs.Facts.{within, bad, firstBad, sized, shaded, below}
-use Rattle.refusal.proofs.Chain.{unless}
+use Rattle.refusal.proofs.Facts.{within}
+use Rattle.refusal.proofs.Tests.{unless, orElse, failing, answer}
 use Rattle.catalogue_record.specs.declared.Kind.{Kind}
 use Rattle.catalogue_record.specs.declared.Kind.the-variants.{Front, Packed}
 use Rattle.catalogue_record.specs.declared.Entry.{Entry}
 use Rattle.catalogue_record.specs.declared.Entry.the-variants.{Record, End, Refused}
-use Rattle.catalogue_record.specs.Layout.{ringOf}
+use Rattle.catalogue_record.specs.Layout.{kindOf, ringOf}
 use Rattle.catalogue_record.proofs.Wrote.{recordBytes}
-use Rattle.catalogue_record.proofs.Chain.{begins, known, kindOf, from9, from17, from3, from7, from2, from1, from16, from8, recordOf, orElse, refusedOr, recordEntry, startEntry, entryOf}
+use Rattle.catalogue_record.proofs.Answer.{begins, known, behindTests, recordTests, readTests, refusedOr, recordEntry, entryOf}
 
 pub data Case : Type 0 where
   answers : List ℕ → ℕ → ℕ → Entry → Case
@@ -121,5 +121,5 @@ Hold (shows x c s v ∷ rows) = (ringOf x (drop s c) ≡ v) × Hold rows
 Hold (stores x k w c ∷ rows) = (recordBytes x k w ≡ c) × Hold rows
 
 pub records-read : Hold table
-unfolding table Hold open-all open-packing entryOf startEntry recordEntry orElse refusedOr recordOf from8 from16 from1 from2 from7 from3 from17 from9 begins known kindOf unless sized shaded below within firstBad bad least
+unfolding table Hold open-all open-packing entryOf recordEntry refusedOr readTests recordTests behindTests begins known kindOf answer unless orElse failing within least
 records-read = (refl, (refl, (refl, (refl, (refl, (refl, (refl, (refl, (refl, (refl, (refl, (refl, (refl, (refl, (refl, (refl, (refl, (refl, (refl, (refl, (refl, (refl, (refl, (refl, (refl, (refl, (refl, (refl, (refl, (refl, (refl, (refl, (refl, (refl, (refl, (refl, (refl, (refl, (refl, (refl, (refl, (refl, (refl, (refl, (refl, (refl, (refl, (refl, (refl, tt)))))))))))))))))))))))))))))))))))))))))))))))))

@@ -6,18 +6,21 @@
 --     clear-stored                     what is stored has no other bits set
 --     some-bytes, few-bytes            at least one byte, and at most one a sector
 --     byte-within                      the byte of a sector is one of them
---     after3, clear17, after17         17 has passed exactly where 3 has and the unused bits are 0
+--     kind-is, not-back                a known mark tells its kind, and is not the retired one
+--     behind-passed, behind-given      under a known mark a record is good, or refused, as what stands behind the mark is
 --     good-behind                      a record whose numbers and length are good is good, or refused, as its bytes are
 -- Assumes nothing.
 use Prim.Native.Nat.{ℕ, _<_, _≤_}
 use mathlib.Core.Path.{_≡_, refl}
 use mathlib.Core.Bool.{true}
+use mathlib.Core.Logic.{inl, inr}
 use mathlib.Core.List.{List}
 use native.Mathlib.Omega.{arith}
 use lib.ListN.{length}
 use Rattle.words.specs.Readings.{Shaded}
-use Rattle.refusal.specs.Order.{Below}
-use Rattle.refusal.specs.Calls.{oneReading}
+use Rattle.refusal.specs.declared.Refusal.{Refusal}
+use Rattle.refusal.specs.Order.{Passed, Given}
+use Rattle.refusal.specs.Calls.{Below}
 use Rattle.refusal.specs.declared.Checked.{Checked}
 use Rattle.refusal.specs.declared.Checked.the-variants as C
 use Rattle.packing.specs.Width.{width}
@@ -27,9 +30,8 @@ use Rattle.packing_laws.proofs.Lengths.{packed-some, packed-le, byte-of-lt}
 use Rattle.packing_laws.proofs.Packing.{length-packed, length-unpacked, packed-clear, unpacked-packed, packed-unpacked}
 use Rattle.catalogue_record.specs.declared.Kind.{Kind}
 use Rattle.catalogue_record.specs.declared.Kind.the-variants.{Front, Packed}
-use Rattle.catalogue_record.specs.Layout.{bodyLength, stored, shown, byteAt, isClear, nOf, kOf, bodyOf}
-use Rattle.catalogue_record.specs.Order.{After7, After3, After17, Good}
-use Rattle.catalogue_record.specs.Order.Faulty.{unfit}
+use Rattle.catalogue_record.specs.Layout.{Marked, MarkedBack, kindOf, bodyLength, stored, shown, byteAt, isClear, nOf, kOf, bodyOf}
+use Rattle.catalogue_record.specs.Order.{recordOrder, behindOrder, After7, Good}
 use Rattle.catalogue_record.specs.Steps.{BodySays, BehindSays}
 
 -- ---- bytes and sectors
@@ -42,7 +44,7 @@ pub length-shown : (x : Kind) (n k : ℕ) (b : List ℕ) → length b ≡ bodyLe
 length-shown Front n k b l = l
 length-shown Packed n k b l = length-unpacked (width k) n b
 
-pub shown-stored : (x : Kind) (k : ℕ) (v : List ℕ) → Below (oneReading v k) → shown x (length v) k (stored x k v) ≡ v
+pub shown-stored : (x : Kind) (k : ℕ) (v : List ℕ) → Below v (λ i. k) → shown x (length v) k (stored x k v) ≡ v
 shown-stored Front k v h = refl
 shown-stored Packed k v h = unpacked-packed (width k) v (shades-fit k v h)
 
@@ -50,7 +52,7 @@ pub stored-shown : (x : Kind) (n k : ℕ) (b : List ℕ) → length b ≡ bodyLe
 stored-shown Front n k b l h c = refl
 stored-shown Packed n k b l h c = packed-unpacked (width k) n b l h c
 
-pub clear-stored : (x : Kind) (k : ℕ) (v : List ℕ) → Below (oneReading v k) → isClear x (length v) k (stored x k v) ≡ true
+pub clear-stored : (x : Kind) (k : ℕ) (v : List ℕ) → Below v (λ i. k) → isClear x (length v) k (stored x k v) ≡ true
 clear-stored Front k v h = refl
 clear-stored Packed k v h = packed-clear (width k) v (shades-fit k v h)
 
@@ -71,19 +73,26 @@ module _ (n k : ℕ) where
 
 -- ---- the order
 
-pub after3 : (x : Kind) (t : List ℕ) → After17 x t → After3 x t
-after3 Front t a = a
-after3 Packed t a = a .0
+-- a known mark tells its kind
+pub kind-is : (t : List ℕ) (x : Kind) → Marked t x → kindOf t ≡ x
+unfolding kindOf
+kind-is t Front m = rw (m .1, kindOf)
+kind-is t Packed m = rw (m .1, kindOf)
 
-pub clear17 : (x : Kind) (t : List ℕ) → After17 x t → isClear x (nOf t) (kOf t) (bodyOf x t) ≡ true
-clear17 Front t a = refl
-clear17 Packed t a = a .1
+-- and is not the retired one
+pub not-back : (t : List ℕ) (x : Kind) → Marked t x → MarkedBack t → ⊥
+not-back t Front q m = omega (arith, m .1, q .1)
+not-back t Packed q m = omega (arith, m .1, q .1)
 
-pub after17 : (x : Kind) (t : List ℕ) → After3 x t → isClear x (nOf t) (kOf t) (bodyOf x t) ≡ true → After17 x t
-after17 Front t a c = a
-after17 Packed t a c = (a, c)
+-- under a known mark a record is good, or refused, as what stands behind the mark is
+module _ (x : Kind) (t : List ℕ) (s : ℕ) (m : Marked t x) where
+  pub behind-passed : Good x t → Passed (recordOrder t s)
+  behind-passed g = (((omega (arith, g .0 .1), inl (x, m)), not-back t x m), rw (kind-is t x m) g)
+
+  pub behind-given : (r : Refusal) → 4 ≤ length t → Given (behindOrder x t s) r → Given (recordOrder t s) r
+  behind-given r l g = inr (((l, inl (x, m)), not-back t x m), rw (kind-is t x m) g)
 
 -- a record whose numbers and length are good is good, or refused, as its bytes are
 pub good-behind : (x : Kind) (t : List ℕ) (s : ℕ) (v : Checked) → After7 x t → BodySays x (nOf t) (kOf t) (bodyOf x t) s v → BehindSays x t s v
-good-behind x t s C.Good a g = (after17 x t (a, g .0) (g .1), g .2)
-good-behind x t s (C.Refused r) a g = unfit a g
+good-behind x t s C.Good a g = (a, g)
+good-behind x t s (C.Refused r) a g = inr (a, g)

@@ -19,7 +19,7 @@ use Rattle.catalogue_record.specs.declared.Kind.the-variants.{Front}
 use Rattle.catalogue_record.specs.declared.Entry.the-variants.{Record}
 use Rattle.catalogue_record.specs.Layout.{bodyLength, nOf, kOf, bodyOf, ringOf, sectorsOf}
 use Rattle.catalogue_record.specs.Says.{ReadSays}
-use Rattle.catalogue_record.proofs.Forms.{length-shown, after3}
+use Rattle.catalogue_record.proofs.Forms.{length-shown}
 
 -- a record that is not cut has the bytes of n sectors
 pub length-body : (x : Kind) (t : List ℕ) → 4 + bodyLength x (nOf t) (kOf t) ≤ length t → length (bodyOf x t) ≡ bodyLength x (nOf t) (kOf t)
@@ -38,7 +38,7 @@ length-sectors t h = length-ring Front t h
 module _ (c : List ℕ) (s : ℕ) (b : List ℕ) (n k : ℕ) (x : Kind) (next : ℕ) (d : List ℕ) (h : ReadSays c s b (Record n k x next) d) where
   -- the record is not cut
   pub uncut : 4 + bodyLength x (nOf (drop s c)) (kOf (drop s c)) ≤ length (drop s c)
-  uncut = after3 x (drop s c) (h .2 .good .0) .0 .1
+  uncut = h .2 .good .0 .1
 
   -- the numbers of the answer are those of the record
   pub read-length : bodyLength x n k ≡ bodyLength x (nOf (drop s c)) (kOf (drop s c))
@@ -57,7 +57,7 @@ module _ (c : List ℕ) (s : ℕ) (b : List ℕ) (n k : ℕ) (x : Kind) (next : 
 
   -- the front ring is a necklace
   pub front-necklace : necklace (take n d) ≡ true
-  front-necklace = rw output-front (h .2 .good .1)
+  front-necklace = rw output-front (h .2 .good .1 .1)
 
   -- the next record starts past this one, in the catalogue or at its end
   pub next-inside : (s < next) × (next ≤ length c)

@@ -1,29 +1,28 @@
 -- What the reader looks at: the start, the output, and of the catalogue no more than the 68 bytes from the start on, since a record's head has 4 and n, which is at most 64, is the most bytes that its sectors take.
 --     drop-take              what is left of a beginning is a beginning of what is left
 --     opening t              those bytes of a part t
---     opening-record, opening-broken    the record that t begins with is good, or refused, exactly as it is there
+--     opening-record, opening-given     the record that t begins with is good, or refused, exactly as it is there
 --     trimmed                the answer is that for a catalogue of these bytes, with anything before them
 --     only-record            so two catalogues that agree there have one answer and one output, refusals and End included
 --     past-end               where the start is past the end, it is Cut whatever the bytes are
 -- Assumes nothing.
 use Prim.Native.Nat.{ℕ, zero, suc, _+_, _<_, _≤_}
 use mathlib.Core.Path.{_≡_, refl, sym, ap, _∙_}
+use mathlib.Core.Logic.{_⊎_, inl, inr}
 use mathlib.Core.List.{List, [], _∷_, _++_}
 use native.Mathlib.Omega.{arith}
 use lib.ListN.{length, getD, take, drop, replicate, length-append, length-take, length-drop, length-replicate}
 use lib.Seq.{getD-take, take-take, drop-at}
 use Rattle.refusal.specs.declared.Refusal.{Refusal}
 use Rattle.refusal.specs.declared.Refusal.the-variants.{Cut}
+use Rattle.refusal.specs.Order.{Given}
 use Rattle.catalogue_record.specs.declared.Kind.{Kind}
 use Rattle.catalogue_record.specs.declared.Entry.{Entry}
 use Rattle.catalogue_record.specs.declared.Entry.the-variants.{Record, End, Refused}
-use Rattle.catalogue_record.specs.Layout.{Marked, MarkedBack, bodyLength, nOf, kOf, bodyOf, ringOf}
-use Rattle.catalogue_record.specs.Order.{Known, AfterHead, After1, After2, After7, Good, Faulty, Broken, RefusedAt}
-use Rattle.catalogue_record.specs.Order.Faulty.{size, shades, body, unfit}
-use Rattle.catalogue_record.specs.Order.Broken.{head, mark, retired, faulty}
-use Rattle.catalogue_record.specs.Order.RefusedAt.{room, past, broken}
+use Rattle.catalogue_record.specs.Layout.{Marked, MarkedBack, kindOf, bodyLength, nOf, kOf, bodyOf, ringOf}
+use Rattle.catalogue_record.specs.Order.{Known, behindOrder, recordOrder, readOrder, After2, After7, Good}
 use Rattle.catalogue_record.specs.Says.{Read, ReadSays}
-use Rattle.catalogue_record.proofs.Forms.{few-bytes, after3, clear17, after17}
+use Rattle.catalogue_record.proofs.Forms.{few-bytes}
 use Rattle.catalogue_record.proofs.Unique.{one-read}
 
 -- what is left of a beginning is a beginning of what is left
@@ -64,32 +63,35 @@ module _ (t : List ℕ) where
   marked-there : (x : Kind) → Marked t x → Marked (opening t) x
   marked-there x m = rw (at 0 (omega arith), at 1 (omega arith)) m
 
-  known-here : Known (opening t) → Known t
-  known-here k = (k .0, rw (at 0 (omega arith), at 1 (omega arith)) at (k .1))
-
   back-there : MarkedBack t → MarkedBack (opening t)
   back-there m = rw (at 0 (omega arith), at 1 (omega arith)) m
 
   back-here : MarkedBack (opening t) → MarkedBack t
   back-here m = rw (at 0 (omega arith), at 1 (omega arith)) at m
 
-  after-head : AfterHead t → AfterHead (opening t)
+  known-there : Known t ⊎ MarkedBack t → Known (opening t) ⊎ MarkedBack (opening t)
+  known-there (inl k) = inl (k .0, marked-there (k .0) (k .1))
+  known-there (inr m) = inr (back-there m)
+
+  known-here : Known (opening t) ⊎ MarkedBack (opening t) → Known t ⊎ MarkedBack t
+  known-here (inl k) = inl (k .0, rw (at 0 (omega arith), at 1 (omega arith)) at (k .1))
+  known-here (inr m) = inr (back-here m)
+
+  after-head : 4 ≤ length t → 4 ≤ length (opening t)
   after-head h = simp length-take (omega arith)
 
-  after1 : After1 t → After1 (opening t)
-  after1 h = rw same-n h
+  same-kind : kindOf (opening t) ≡ kindOf t
+  unfolding kindOf
+  same-kind = rw (at 1 (omega arith), kindOf)
 
   after2 : After2 t → After2 (opening t)
-  after2 h = (after1 (h .0), rw same-k (h .1))
+  after2 h = (rw same-n (h .0), rw same-k (h .1))
 
   after7 : (x : Kind) → After7 x t → After7 x (opening t)
   after7 x h = (after2 (h .0), rw (same-n, same-k, length-take) (omega (arith, few x (h .0))))
 
   good : (x : Kind) → Good x t → Good x (opening t)
-  good x h =
-      let a = after3 x t (h .0) in
-      let l = a .0 .0 in
-      (after17 x (opening t) (after7 x (a .0), rw (same-ring x l, same-k) (a .1)) (rw (same-body x l, same-n, same-k) (clear17 x t (h .0))), rw (same-ring x l) (h .1))
+  good x h = (after7 x (h .0), rw (same-body x (h .0 .0), same-n, same-k) (h .1))
 
   -- a record that is good is good there
   pub opening-record : (s : ℕ) (b : List ℕ) (n k : ℕ) (x : Kind) (next : ℕ) (d : List ℕ) → Read t s b n k x next d → Read (opening t) s b n k x next d
@@ -100,22 +102,24 @@ module _ (t : List ℕ) where
         sectors = f .sectors ∙ sym same-n;
         shades = f .shades ∙ sym same-k;
         follows = f .follows;
-        ring = rw (same-ring x (after3 x t (f .good .0) .0 .0)) (f .ring);
+        ring = rw (same-ring x (f .good .0 .0)) (f .ring);
       }
 
   -- what stands behind the mark is refused so there
-  opening-faulty : (x : Kind) (s : ℕ) (r : Refusal) → Faulty x t s r → Faulty x (opening t) s r
-  opening-faulty x s r (size e k) = size e (rw same-n k)
-  opening-faulty x s r (shades e h k) = shades e (after1 h) (rw same-k k)
-  opening-faulty x s r (body e h k) = body e (after2 h) (rw (same-n, same-k, length-take) (omega (arith, few x h)))
-  opening-faulty x s r (unfit h u) = unfit (after7 x h) (rw (same-body x (h .0), same-n, same-k) u)
+  opening-behind : (x : Kind) (s : ℕ) (r : Refusal) → Given (behindOrder x t s) r → Given (behindOrder x (opening t) s) r
+  opening-behind x s r (inl (inl (inl (e, k)))) = inl (inl (inl (e, rw same-n k)))
+  opening-behind x s r (inl (inl (inr (h, (e, k))))) = inl (inl (inr (rw same-n h, (e, rw same-k k))))
+  opening-behind x s r (inl (inr (h, (e, k)))) =
+      inl (inr (after2 h, (e, λ l. k (omega (arith, few x h, rw (same-n, same-k, length-take) at l)))))
+  opening-behind x s r (inr (h, u)) = inr (after7 x h, rw (same-body x (h .0), same-n, same-k) u)
 
   -- a record that is refused is refused so there
-  pub opening-broken : (s : ℕ) (r : Refusal) → Broken t s r → Broken (opening t) s r
-  opening-broken s r (head e h) = head e (rw length-take (omega arith))
-  opening-broken s r (mark e h k m) = mark e (after-head h) (λ q. k (known-here q)) (λ q. m (back-here q))
-  opening-broken s r (retired e h m) = retired e (after-head h) (back-there m)
-  opening-broken s r (faulty x h m u) = faulty x (after-head h) (marked-there x m) (opening-faulty x s r u)
+  pub opening-given : (s : ℕ) (r : Refusal) → Given (recordOrder t s) r → Given (recordOrder (opening t) s) r
+  opening-given s r (inl (inl (inl (e, h)))) = inl (inl (inl (e, λ l. h (omega (arith, rw length-take at l)))))
+  opening-given s r (inl (inl (inr (h, (e, k))))) = inl (inl (inr (after-head h, (e, λ q. k (known-here q)))))
+  opening-given s r (inl (inr ((h, m), (e, k)))) = inl (inr ((after-head h, known-there m), (e, λ q. k (λ b. q (back-there b)))))
+  opening-given s r (inr (((h, m), q), u)) =
+      inr (((after-head h, known-there m), λ b. q (back-here b)), rw same-kind (opening-behind (kindOf t) s r u))
 
 -- ---- any catalogue
 
@@ -140,10 +144,10 @@ trimmed c s b r d l = go r
     go End (e, h, f) = (e, omega (arith, long, length-take 68 t, length-drop s c), f)
     go (Refused r) (g, f) = (refuse g, f)
       where
-        refuse : RefusedAt c s (length b) r → RefusedAt (replicate s 0 ++ opening t) s (length b) r
-        refuse (room e h) = room e h
-        refuse (past e h k) = absurd (omega arith)
-        refuse (broken e h k) = broken e (some h) (rw part (opening-broken t s r k))
+        refuse : Given (readOrder c s (length b)) r → Given (readOrder (replicate s 0 ++ opening t) s (length b)) r
+        refuse (inl (inl g)) = inl (inl g)
+        refuse (inl (inr (h, (e, k)))) = absurd (k l)
+        refuse (inr (h, (i, k))) = inr ((h .0, omega (arith, long)), (some i, rw part (opening-given t s r k)))
 
 -- two catalogues that agree on the 68 bytes from the start on have one answer and one output
 pub only-record : (c c′ : List ℕ) (s : ℕ) (b : List ℕ) (q r : Entry) (u v : List ℕ) → s ≤ length c → s ≤ length c′ → opening (drop s c) ≡ opening (drop s c′) →
@@ -153,4 +157,4 @@ only-record c c′ s b q r u v l l′ e f g =
 
 -- where the start is past the end, it is Cut whatever the bytes are, and the output is as it was
 pub past-end : (c : List ℕ) (s : ℕ) (b : List ℕ) (r : Entry) (d : List ℕ) → length b ≡ 64 → length c < s → ReadSays c s b r d → (r ≡ Refused (Cut s)) × (d ≡ b)
-past-end c s b r d e h f = one-read c s b r (Refused (Cut s)) d b f (past refl e h, refl)
+past-end c s b r d e h f = one-read c s b r (Refused (Cut s)) d b f (inl (inr (e, (refl, λ l. omega arith))), refl)

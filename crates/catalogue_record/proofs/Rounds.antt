@@ -19,8 +19,8 @@ use Rattle.words.specs.Readings.{Sized, Shaded, Reading}
 use Rattle.rings.specs.Necklace.{necklace}
 use Rattle.rings.specs.Home.{home}
 use Rattle.home_laws.proofs.Home.{length-home, home-necklace, necklace-home}
-use Rattle.refusal.specs.Order.{Below, Passed}
-use Rattle.refusal.specs.Calls.{oneReading}
+use Rattle.refusal.specs.Order.{Passed}
+use Rattle.refusal.specs.Calls.{Below, oneReading}
 use Rattle.packing.specs.Packing.{Bytes}
 use Rattle.catalogue_record.specs.declared.Kind.{Kind}
 use Rattle.catalogue_record.specs.declared.Entry.{Entry}
@@ -30,7 +30,7 @@ use Rattle.catalogue_record.specs.declared.Written.the-variants.{After}
 use Rattle.catalogue_record.specs.Layout.{bodyLength, stored, shown, isClear, nOf, kOf, bodyOf, ringOf}
 use Rattle.catalogue_record.specs.Says.{Read, ReadSays}
 use Rattle.catalogue_record.specs.Writes.{Wrote, WriteSays}
-use Rattle.catalogue_record.proofs.Forms.{shown-stored, stored-shown, clear-stored, after3, clear17, after17}
+use Rattle.catalogue_record.proofs.Forms.{shown-stored, stored-shown, clear-stored}
 use Rattle.catalogue_record.proofs.Unique.{one-read}
 use Rattle.catalogue_record.proofs.Laws.{length-body, length-ring, uncut, read-length, output-front}
 use Rattle.catalogue_record.proofs.Laid.{laid-sectors, whole}
@@ -51,7 +51,7 @@ module _ (w : List ℕ) (k : ℕ) (x : Kind) (z : List ℕ) (g : Passed (oneRead
   some : 0 < length w
   some = g .0 .0 .0 .0 .0 .0 .0
 
-  homely : Below (oneReading (home w) k)
+  homely : Below (home w) (λ i. k)
   homely = home-below w k g
 
   body : bodyOf x u ≡ stored x k (home w)
@@ -77,7 +77,7 @@ module _ (w : List ℕ) (k : ℕ) (x : Kind) (z : List ℕ) (g : Passed (oneRead
   reads-here p o =
       record {
         good =
-            (after17 x u (((g .0 .0 .0 .0 .0 .0, g .0 .0 .0 .0 .1), omega (arith, long)), subst (λ (v : List ℕ). Below (oneReading v k)) (sym ring) homely) clear, ap necklace ring ∙ home-necklace w some);
+            (((g .0 .0 .0 .0 .0 .0, g .0 .0 .0 .0 .1), omega (arith, long)), ((subst (λ (v : List ℕ). Below v (λ i. k)) (sym ring) homely, clear), ap necklace ring ∙ home-necklace w some));
         marked = (refl, refl);
         sectors = refl;
         shades = refl;
@@ -120,7 +120,7 @@ module _ (c : List ℕ) (s : ℕ) (b : List ℕ) (n k : ℕ) (x : Kind) (next : 
   longRing = length-ring x t cut ∙ sym (h .2 .sectors)
 
   sized : Sized n
-  sized = rw (h .2 .sectors) (after3 x t (h .2 .good .0) .0 .0 .0)
+  sized = rw (h .2 .sectors) (h .2 .good .0 .0 .0)
 
   front : take n d ≡ ringOf x t
   front = output-front c s b n k x next d h
@@ -131,14 +131,14 @@ module _ (c : List ℕ) (s : ℕ) (b : List ℕ) (n k : ℕ) (x : Kind) (next : 
 
   -- and is its own home reading
   pub answer-home : home (take n d) ≡ take n d
-  answer-home = ap home front ∙ necklace-home (ringOf x t) (omega (arith, longRing, sized .0)) (h .2 .good .1) ∙ sym front
+  answer-home = ap home front ∙ necklace-home (ringOf x t) (omega (arith, longRing, sized .0)) (h .2 .good .1 .1) ∙ sym front
 
   -- it passes the writer's checks
   pub answer-passes : Passed (oneReading (take n d) k)
   answer-passes =
       rw front
-      (reading-passed (ringOf x t) k n sized (rw (h .2 .shades) (after3 x t (h .2 .good .0) .0 .0 .1))
-      (record { long = longRing; shades = λ i l. rw (h .2 .shades) (after3 x t (h .2 .good .0) .1 i (omega (arith, longRing))) }))
+      (reading-passed (ringOf x t) k n sized (rw (h .2 .shades) (h .2 .good .0 .0 .1))
+      (record { long = longRing; shades = λ i l. rw (h .2 .shades) (h .2 .good .1 .0 .0 i (omega (arith, longRing))) }))
 
   module _ (q : Bytes c) where
     -- the bytes behind the head are bytes
@@ -152,7 +152,7 @@ module _ (c : List ℕ) (s : ℕ) (b : List ℕ) (n k : ℕ) (x : Kind) (next : 
     stands =
         ap (λ (v : List ℕ). stored x k v) (answer-home ∙ front)
         ∙ ap (λ (i : ℕ). stored x i (ringOf x t)) (h .2 .shades)
-        ∙ stored-shown x (nOf t) (kOf t) (bodyOf x t) (length-body x t cut) bodyBytes (clear17 x t (h .2 .good .0))
+        ∙ stored-shown x (nOf t) (kOf t) (bodyOf x t) (length-body x t cut) bodyBytes (h .2 .good .1 .0 .1)
 
     -- the catalogue from s on
     split : t ≡ recordBytes x k (take n d) ++ drop (4 + bodyLength x (length (take n d)) k) t

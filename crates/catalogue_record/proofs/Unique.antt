@@ -10,7 +10,7 @@ use Rattle.catalogue_record.specs.declared.Entry.{Entry}
 use Rattle.catalogue_record.specs.declared.Entry.the-variants.{Record, End, Refused}
 use Rattle.catalogue_record.specs.Layout.{ringOf}
 use Rattle.catalogue_record.specs.Says.{ReadSays}
-use Rattle.catalogue_record.proofs.Chain.{fixed}
+use Rattle.catalogue_record.proofs.Answer.{fixed}
 
 -- the output after an answer; t is the part of the catalogue that begins at the start
 abbrev pub writtenOf : List ℕ → List ℕ → Entry → List ℕ

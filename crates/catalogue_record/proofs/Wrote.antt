@@ -14,15 +14,14 @@ use lib.Seq.{drop-at}
 use Rattle.rings.specs.Home.{home}
 use Rattle.home_laws.proofs.Home.{length-home, home-reading}
 use Rattle.refusal.specs.declared.Refusal.{Refusal}
-use Rattle.refusal.specs.Order.{Below, Passed}
-use Rattle.refusal.specs.Calls.{oneReading}
+use Rattle.refusal.specs.Order.{Passed, Given}
+use Rattle.refusal.specs.Calls.{Below, oneReading}
 use Rattle.refusal.proofs.Unique.{one-refusal, never-both}
 use Rattle.catalogue_record.specs.declared.Kind.{Kind}
 use Rattle.catalogue_record.specs.declared.Written.{Written}
 use Rattle.catalogue_record.specs.declared.Written.the-variants.{After, Refused}
 use Rattle.catalogue_record.specs.Layout.{bodyLength, stored, nOf, kOf, bodyOf}
-use Rattle.catalogue_record.specs.Writes.{Unwritten, Placed, Wrote, WriteSays}
-use Rattle.catalogue_record.specs.Writes.Unwritten.{reading, cut}
+use Rattle.catalogue_record.specs.Writes.{writeOrder, Placed, Wrote, WriteSays}
 use Rattle.catalogue_record.proofs.Forms.{length-stored, some-bytes}
 use Rattle.catalogue_record.proofs.Laid.{bytes, laid-sectors, whole}
 
@@ -31,7 +30,7 @@ abbrev pub recordBytes : Kind → ℕ → List ℕ → List ℕ
 recordBytes x k w = bytes x (length w) k (stored x k (home w))
 
 -- a reading that passed the checks: its home reading has its shades
-pub home-below : (w : List ℕ) (k : ℕ) → Passed (oneReading w k) → Below (oneReading (home w) k)
+pub home-below : (w : List ℕ) (k : ℕ) → Passed (oneReading w k) → Below (home w) (λ i. k)
 home-below w k g i l =
     let z : 0 < length w = g .0 .0 .0 .0 .0 .0 .0 in
     home-reading w z (length w) k (record { long = refl; shades = g .0 .0 .0 .1 }) .shades i (omega (arith, length-home w z))
@@ -77,16 +76,8 @@ module _ (w : List ℕ) (k : ℕ) (x : Kind) (g : Passed (oneReading w k)) where
 
 module _ (w : List ℕ) (k : ℕ) (x : Kind) (b : List ℕ) (p : ℕ) where
   -- never both written and refused
-  never : (e : ℕ) (d : List ℕ) (r : Refusal) → Wrote w k x b p e d → Unwritten w k x (drop p b) p r → ⊥
-  never e d r h (reading g) = never-both (oneReading w k) r g (h .passed)
-  never e d r h (cut q g l) = omega (arith, h .fits)
-
-  -- at most one refusal
-  one : (r t : Refusal) → Unwritten w k x (drop p b) p r → Unwritten w k x (drop p b) p t → r ≡ t
-  one r t (reading g) (reading h) = one-refusal (oneReading w k) r t g h
-  one r t (reading g) (cut q h l) = absurd (never-both (oneReading w k) r g h)
-  one r t (cut q g l) (reading h) = absurd (never-both (oneReading w k) t h g)
-  one r t (cut q g l) (cut o h m) = q ∙ sym o
+  never : (e : ℕ) (d : List ℕ) (r : Refusal) → Wrote w k x b p e d → Given (writeOrder w k x (drop p b) p) r → ⊥
+  never e d r h g = never-both (writeOrder w k x (drop p b) p) r g (h .passed, h .fits)
 
   -- one answer, and one buffer after it
   pub one-write : (r t : Written) (d f : List ℕ) → WriteSays w k x b p r d → WriteSays w k x b p t f → (r ≡ t) × (d ≡ f)
@@ -94,4 +85,4 @@ module _ (w : List ℕ) (k : ℕ) (x : Kind) (b : List ℕ) (p : ℕ) where
       (ap After (g .follows ∙ sym (h .follows)), wrote-bytes w k x (g .passed) b p e d g ∙ sym (wrote-bytes w k x (h .passed) b p a f h))
   one-write (After e) (Refused t) d f g h = absurd (never e d t g (h .0))
   one-write (Refused r) (After a) d f g h = absurd (never a f r h (g .0))
-  one-write (Refused r) (Refused t) d f g h = (ap Refused (one r t (g .0) (h .0)), g .1 ∙ sym (h .1))
+  one-write (Refused r) (Refused t) d f g h = (ap Refused (one-refusal (writeOrder w k x (drop p b) p) r t (g .0) (h .0)), g .1 ∙ sym (h .1))

@@ -2,6 +2,7 @@
 -- the mark tells. t is the part of a catalogue that begins where the record does.
 --     Begins t y                   t begins with the mark 52 y (hexadecimal)
 --     secondByte x, Marked t x     the known marks: 52 46 is a front ring, a byte a sector, 52 50 a front ring, packed
+--     kindOf t                     the kind that a known mark tells, by its second byte
 --     MarkedBack t                 the retired mark: 52 42 was a ring seen from the back
 -- The two forms, for n sectors of k shades:
 --     bodyLength x n k             how many bytes hold them
@@ -19,6 +20,7 @@ use Prim.Native.Nat.{ℕ}
 use mathlib.Core.Path.{_≡_}
 use mathlib.Core.Bool.{Bool, true, false}
 use mathlib.Core.List.{List, _∷_}
+use lib.Dec.{eqb}
 use lib.ListN.{getD, take, drop}
 use Rattle.rings.specs.declared.Class.{Class}
 use Rattle.rings.specs.declared.Class.the-variants.{Loose, Opening, Repeating, Single}
@@ -39,6 +41,10 @@ secondByte Packed = 0x50
 -- t begins with the mark of this kind
 abbrev pub Marked : List ℕ → Kind → Type 0
 Marked t x = Begins t (secondByte x)
+
+-- the kind that a known mark tells
+unfoldable pub kindOf : List ℕ → Kind
+kindOf t = elim (eqb (getD t 1 0) (secondByte Packed)) [ true ↦ Packed | false ↦ Front ]
 
 -- t begins with the mark that is retired
 abbrev pub MarkedBack : List ℕ → Type 0

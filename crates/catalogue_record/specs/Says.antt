@@ -6,11 +6,12 @@ use Prim.Native.Nat.{ℕ, _+_, _<_}
 use mathlib.Core.Path.{_≡_}
 use mathlib.Core.List.{List, _++_}
 use lib.ListN.{length, drop}
+use Rattle.refusal.specs.Order.{Given}
 use Rattle.catalogue_record.specs.declared.Kind.{Kind}
 use Rattle.catalogue_record.specs.declared.Entry.{Entry}
 use Rattle.catalogue_record.specs.declared.Entry.the-variants.{Record, End, Refused}
 use Rattle.catalogue_record.specs.Layout.{Marked, bodyLength, nOf, kOf, ringOf}
-use Rattle.catalogue_record.specs.Order.{Good, RefusedAt}
+use Rattle.catalogue_record.specs.Order.{Good, readOrder}
 
 -- t is the part of the catalogue that begins at s; x is the kind that its mark tells; the front ring, which is what is stored, stands in the first n bytes of the output, the others are as they were
 pub record Read (t : List ℕ) (s : ℕ) (b : List ℕ) (n k : ℕ) (x : Kind) (next : ℕ) (d : List ℕ) : Type 0 where
@@ -24,4 +25,4 @@ pub record Read (t : List ℕ) (s : ℕ) (b : List ℕ) (n k : ℕ) (x : Kind) (
 abbrev pub ReadSays : List ℕ → ℕ → List ℕ → Entry → List ℕ → Type 0
 ReadSays c s b (Record n k x next) d = (length b ≡ 64) × (s < length c) × Read (drop s c) s b n k x next d
 ReadSays c s b End d = (length b ≡ 64) × (s ≡ length c) × (d ≡ b)
-ReadSays c s b (Refused r) d = RefusedAt c s (length b) r × (d ≡ b)
+ReadSays c s b (Refused r) d = Given (readOrder c s (length b)) r × (d ≡ b)

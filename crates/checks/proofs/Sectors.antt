@@ -10,27 +10,26 @@ use native.Mathlib.Omega.{arith}
 use lib.ListN.{length, getD, length-append, List·getD-append}
 use lib.Seq.{getD-append-add}
 use Rattle.words.proofs.Sequence.{sec, place}
-use Rattle.refusal.specs.Order.{Below}
-use Rattle.refusal.specs.Calls.{oneReading, twoReadings}
+use Rattle.refusal.specs.Calls.{Below, askReading, askTwo}
 use Rattle.checks_inner.specs.Scan.{Scanned}
 use Rattle.checks_inner.proofs.Parts.{BelowTo, Bad, Part, part-bad, part-good, nothing}
 
 -- ---- one reading
 
 module _ (w : List ℕ) (k r : ℕ) (s : Scanned w k r) where
-  whole : Part (oneReading w k) 0 k w
+  whole : Part (askReading w k) 0 k w
   whole = record { fits = omega arith; same = λ i j e h. place (sec w) i j (omega arith); limits = λ i j e h. refl }
 
-  pub reading-bad : r < length w → Bad (oneReading w k) r
-  reading-bad h = part-bad (oneReading w k) 0 k w whole (nothing (oneReading w k)) r s r (omega arith) h
+  pub reading-bad : r < length w → Bad (askReading w k) r
+  reading-bad h = part-bad (askReading w k) 0 k w whole (nothing (askReading w k)) r s r (omega arith) h
 
-  pub reading-good : length w ≤ r → Below (oneReading w k)
-  reading-good h = part-good (oneReading w k) 0 k w whole (nothing (oneReading w k)) r s h (length w) (omega arith)
+  pub reading-good : length w ≤ r → Below w (λ i. k)
+  reading-good h = part-good (askReading w k) 0 k w whole (nothing (askReading w k)) r s h (length w) (omega arith)
 
 -- ---- two readings
 
 module _ (v w : List ℕ) (k : ℕ) where
-  former : Part (twoReadings v w k) 0 k v
+  former : Part (askTwo v w k) 0 k v
   former =
       record {
         fits = simp length-append (omega arith);
@@ -38,7 +37,7 @@ module _ (v w : List ℕ) (k : ℕ) where
         limits = λ i j e h. refl;
       }
 
-  latter : Part (twoReadings v w k) (length v) k w
+  latter : Part (askTwo v w k) (length v) k w
   latter =
       record {
         fits = simp length-append (omega arith);
@@ -48,18 +47,18 @@ module _ (v w : List ℕ) (k : ℕ) where
 
   -- the first reading
   module _ (r : ℕ) (s : Scanned v k r) where
-    pub former-bad : r < length v → Bad (twoReadings v w k) r
-    former-bad h = part-bad (twoReadings v w k) 0 k v former (nothing (twoReadings v w k)) r s r (omega arith) h
+    pub former-bad : r < length v → Bad (askTwo v w k) r
+    former-bad h = part-bad (askTwo v w k) 0 k v former (nothing (askTwo v w k)) r s r (omega arith) h
 
-    pub former-good : length v ≤ r → BelowTo (twoReadings v w k) (length v)
+    pub former-good : length v ≤ r → BelowTo (askTwo v w k) (length v)
     former-good h =
-        part-good (twoReadings v w k) 0 k v former (nothing (twoReadings v w k)) r s h (length v) (omega arith)
+        part-good (askTwo v w k) 0 k v former (nothing (askTwo v w k)) r s h (length v) (omega arith)
 
   -- the second, after it
-  module _ (low : BelowTo (twoReadings v w k) (length v)) (r : ℕ) (s : Scanned w k r) where
-    pub latter-bad : r < length w → Bad (twoReadings v w k) (length v + r)
-    latter-bad h = part-bad (twoReadings v w k) (length v) k w latter low r s (length v + r) refl h
+  module _ (low : BelowTo (askTwo v w k) (length v)) (r : ℕ) (s : Scanned w k r) where
+    pub latter-bad : r < length w → Bad (askTwo v w k) (length v + r)
+    latter-bad h = part-bad (askTwo v w k) (length v) k w latter low r s (length v + r) refl h
 
-    pub latter-good : length w ≤ r → Below (twoReadings v w k)
+    pub latter-good : length w ≤ r → Below (v ++ w) (λ i. k)
     latter-good h =
-        part-good (twoReadings v w k) (length v) k w latter low r s h (length (v ++ w)) (simp length-append (omega arith))
+        part-good (askTwo v w k) (length v) k w latter low r s h (length (v ++ w)) (simp length-append (omega arith))

@@ -11,7 +11,7 @@ use mathlib.Core.List.{List}
 use native.Mathlib.Omega.{arith}
 use lib.ListN.{length, getD}
 use native.Mathlib.Decide.{decLt}
-use Rattle.refusal.specs.Order.{Asked, FirstBad}
+use Rattle.refusal.specs.Calls.{Asked, FirstBad}
 use Rattle.checks_inner.specs.Scan.{Scanned}
 
 -- each of the first b sectors is below its limit
@@ -44,7 +44,7 @@ module _ (a : Asked) (b m : ℕ) (u : List ℕ) (p : Part a b m u) (low : BelowT
       record {
         within = omega (arith, p .fits);
         first = λ j l. part-to j (omega arith);
-        here = omega (arith, s .here h, p .same i r e h, p .limits i r e h);
+        here = λ l. omega (arith, s .here h, p .same i r e h, p .limits i r e h);
       }
 
   -- the scan came to the part's end

@@ -2,8 +2,8 @@
 
 use refusal::Checked;
 use refusal::Refusal;
-ghost use Rattle.refusal.specs.Order.{CheckSays, Fits};
-ghost use Rattle.refusal.specs.Calls.{countedFirst, countedNext};
+ghost use Rattle.refusal.specs.Order.{CheckSays};
+ghost use Rattle.refusal.specs.Calls.{Fits, countedFirst, countedNext};
 ghost use Rattle.count_checks.specs.Told.{Told};
 
 // Whether there are k counts and their exact sum is n. It counts down from n, so that nothing wraps.

@@ -8,6 +8,7 @@ use mathlib.Core.Path.{_≡_}
 use mathlib.Core.List.{List, map}
 use lib.ListN.{length}
 use lib.Ieee.{Float}
+use Rattle.refusal.specs.Order.{Passed, Given}
 use Rattle.density_answers.specs.declared.Card.{Card}
 use Rattle.density_answers.specs.declared.Sector.{Sector}
 use Rattle.density_answers.specs.declared.Sector.the-variants.{Shade, Outside, NotANumber}
@@ -16,7 +17,7 @@ use Rattle.density_answers.specs.declared.SectorRead.the-variants as S
 use Rattle.density_answers.specs.declared.RingRead.{RingRead}
 use Rattle.density_answers.specs.declared.RingRead.the-variants as R
 use Rattle.density_answers.specs.Cuts.{shadeOf, NoNumber, Out, In}
-use Rattle.density_answers.specs.Order.{SectorPassed, SectorGiven, RingPassed, RingGiven}
+use Rattle.density_answers.specs.Order.{sectorOrder, ringOrder}
 
 -- a shade, the offending value itself, or that it is no number
 abbrev pub Tells : Card → ℕ → Float → Sector → Type 0
@@ -25,10 +26,10 @@ Tells c k x (Outside y) = Out x × (y ≡ x)
 Tells c k x NotANumber = NoNumber x
 
 abbrev pub SectorSays : Float → ℕ → Card → SectorRead → Type 0
-SectorSays x k c (S.Is s) = SectorPassed k c × Tells c k x s
-SectorSays x k c (S.Refused r) = SectorGiven k c r
+SectorSays x k c (S.Is s) = Passed (sectorOrder k c) × Tells c k x s
+SectorSays x k c (S.Refused r) = Given (sectorOrder k c) r
 
 -- the output holds each sector's shade; a refusal writes nothing
 abbrev pub RingSays : List Float → ℕ → Card → List ℕ → RingRead → List ℕ → Type 0
-RingSays xs k c b R.Written d = RingPassed xs k c (length b) × (d ≡ map (shadeOf c k) xs)
-RingSays xs k c b (R.Refused r) d = RingGiven xs k c (length b) r × (d ≡ b)
+RingSays xs k c b R.Written d = Passed (ringOrder xs k c (length b)) × (d ≡ map (shadeOf c k) xs)
+RingSays xs k c b (R.Refused r) d = Given (ringOrder xs k c (length b)) r × (d ≡ b)

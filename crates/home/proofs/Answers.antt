@@ -14,8 +14,8 @@ use Rattle.words.specs.Turn.{turn}
 use Rattle.rings.specs.Home.{home, shift}
 use Rattle.rings.specs.Alike.{sameRing}
 use Rattle.home_laws.proofs.Home.{shift-lt, turn-back-home}
-use Rattle.refusal.specs.Order.{Asked, Passed}
-use Rattle.refusal.specs.Calls.{twoReadings, withRoom}
+use Rattle.refusal.specs.Order.{Passed}
+use Rattle.refusal.specs.Calls.{Asked, general, askRoom, twoReadings, withRoom}
 use Rattle.home.specs.declared.Homed.the-variants as H
 use Rattle.home.specs.declared.Told.the-variants as T
 use Rattle.home.specs.Says.{HomeSays}
@@ -23,7 +23,7 @@ use Rattle.home.specs.Says.{HomeSays}
 -- ---- what passed checks give
 
 -- a reading that passed has at least one sector
-pub passed-pos : (a : Asked) → Passed a → 0 < a .n
+pub passed-pos : (a : Asked) → Passed (general a) → 0 < a .n
 passed-pos a p = p .0 .0 .0 .0 .0 .0 .0
 
 -- two readings that passed are of one length
@@ -54,4 +54,4 @@ same-turned v w i j p q = rw (turned-home v i p, turned-home w j q)
 
 -- turned on from the shift to the length, what bringing home writes is the reading again
 pub home-back : (w : List ℕ) (k : ℕ) (b c : List ℕ) (i p : ℕ) → HomeSays w k b (H.Home i p) c → turn (length w - i) c ≡ w
-home-back w k b c i p h = rw (h .ring, h .turns) (turn-back-home w (passed-pos (withRoom w k (length b)) (h .passed)))
+home-back w k b c i p h = rw (h .ring, h .turns) (turn-back-home w (passed-pos (askRoom w k (length b)) (h .passed)))

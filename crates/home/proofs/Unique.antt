@@ -9,7 +9,7 @@ use mathlib.Core.Bool.{Bool}
 use mathlib.Core.List.{List}
 use lib.ListN.{length}
 use Rattle.words.proofs.Split.{clash}
-use Rattle.refusal.specs.Order.{Asked}
+use Rattle.refusal.specs.Order.{Checks}
 use Rattle.refusal.specs.Calls.{twoReadings, withRoom}
 use Rattle.refusal.proofs.Unique.{one-refusal, never-both}
 use Rattle.home.specs.declared.Homed.{Homed}
@@ -28,7 +28,7 @@ one-homed w k b (H.Refused r) (H.Home j q) u v s t = absurd (never-both (withRoo
 one-homed w k b (H.Refused r) (H.Refused o) u v s t = (ap H.Refused (one-refusal (withRoom w k (length b)) r o (s .0) (t .0)), s .1 ∙ sym (t .1))
 
 -- a question has one answer
-pub one-told : (a : Asked) (b : Bool) (x y : Told) → ToldSays a b x → ToldSays a b y → x ≡ y
+pub one-told : (a : Checks) (b : Bool) (x y : Told) → ToldSays a b x → ToldSays a b y → x ≡ y
 one-told a b T.Yes T.Yes s t = refl
 one-told a b T.Yes T.No s t = clash b (s .1) (t .1)
 one-told a b T.Yes (T.Refused r) s t = absurd (never-both a r t (s .0))

@@ -1,6 +1,6 @@
 -- What the calls of this crate promise (01, 'Rules the work stands on'; 'Refusal numbers': home 1, 2, 3, 4; same ring and apart 1, 10, 2, 3; even-handed 1, 2, 3).
 --     HomeSays w k b r c        bringing w home: the answer r, where the output held b before and holds c after
---     ToldSays a t r            a question that asks a: the answer r, where t is the truth
+--     ToldSays a t r            a question with the checks a: the answer r, where t is the truth
 --     DistanceSays v w k r      how far apart v and w are: the answer r
 -- That no two answers satisfy one, the output included: proofs/Unique. Assumes nothing.
 use Prim.Native.Nat.{ℕ}
@@ -11,7 +11,7 @@ use lib.ListN.{length}
 use Rattle.rings.specs.Necklace.{period}
 use Rattle.rings.specs.Home.{home, shift}
 use Rattle.rings.specs.Alike.{apart}
-use Rattle.refusal.specs.Order.{Asked, Given, Passed}
+use Rattle.refusal.specs.Order.{Checks, Given, Passed}
 use Rattle.refusal.specs.Calls.{twoReadings, withRoom}
 use Rattle.home.specs.declared.Homed.{Homed}
 use Rattle.home.specs.declared.Homed.the-variants as H
@@ -32,7 +32,7 @@ abbrev pub HomeSays : List ℕ → ℕ → List ℕ → Homed → List ℕ → T
 HomeSays w k b (H.Home i p) c = Came w k b i p c
 HomeSays w k b (H.Refused r) c = Given (withRoom w k (length b)) r × (c ≡ b)
 
-abbrev pub ToldSays : Asked → Bool → Told → Type 0
+abbrev pub ToldSays : Checks → Bool → Told → Type 0
 ToldSays a t T.Yes = Passed a × (t ≡ true)
 ToldSays a t T.No = Passed a × (t ≡ false)
 ToldSays a t (T.Refused r) = Given a r

@@ -1,29 +1,18 @@
 -- No numbers have two answers to how many rings of a kind there are.
---     countOf kind p          the answer to the numbers that were planned as p
---     count-fixed, one-count    what an answer promises determines it
--- The order of the refusals is that of `limits`, which has one plan for all numbers (proofs/Unique there). Assumes nothing.
+-- The order of the refusals is that of `limits` (numbersOrder there). Assumes nothing.
 use Prim.Native.Nat.{ℕ}
-use mathlib.Core.Path.{_≡_, refl, sym, ap, _∙_}
+use mathlib.Core.Path.{_≡_, sym, ap, _∙_}
 use mathlib.Core.Bool.{Bool}
 use mathlib.Core.List.{List}
-use Rattle.rings.specs.Steps.{howMany}
-use Rattle.limits.specs.declared.Planned.{Planned}
-use Rattle.limits.specs.declared.Planned.the-variants as planned
-use Rattle.limits.proofs.Unique.{planOf, numbers-fixed}
+use Rattle.refusal.proofs.Unique.{one-refusal, never-both}
+use Rattle.limits.specs.Limits.{numbersOrder}
+use Rattle.limits.proofs.Unique.{listable-passed}
 use Rattle.how_many.specs.declared.Counted.{Counted}
 use Rattle.how_many.specs.declared.Counted.the-variants.{Rings, Refused}
 use Rattle.how_many.specs.Says.{most, CountSays}
 
--- the answer to the numbers of a plan
-abbrev pub countOf : (List ℕ → Bool) → Planned → Counted
-countOf kind (planned.Accepted k n) = Rings (howMany kind n k)
-countOf kind (planned.Refused r) = Refused r
-
--- what an answer promises determines it
-pub count-fixed : (kind : List ℕ → Bool) (k n : ℕ) (a : Counted) → CountSays kind k n a → a ≡ countOf kind (planOf most k n)
-count-fixed kind k n (Rings x) q = ap Rings (q .1) ∙ ap (countOf kind) (numbers-fixed most k n (planned.Accepted k n) (refl, refl, q .0))
-count-fixed kind k n (Refused r) q = ap (countOf kind) (numbers-fixed most k n (planned.Refused r) q)
-
--- so there is one
 pub one-count : (kind : List ℕ → Bool) (k n : ℕ) (a b : Counted) → CountSays kind k n a → CountSays kind k n b → a ≡ b
-one-count kind k n a b p q = count-fixed kind k n a p ∙ sym (count-fixed kind k n b q)
+one-count kind k n (Rings x) (Rings y) p q = ap Rings (p .1 ∙ sym (q .1))
+one-count kind k n (Rings x) (Refused t) p q = absurd (never-both (numbersOrder most k n) t q (listable-passed most k n (p .0)))
+one-count kind k n (Refused r) (Rings y) p q = absurd (never-both (numbersOrder most k n) r p (listable-passed most k n (q .0)))
+one-count kind k n (Refused r) (Refused t) p q = ap Refused (one-refusal (numbersOrder most k n) r t p q)

@@ -8,7 +8,8 @@ use mathlib.Core.Path.{_≡_}
 use mathlib.Core.Bool.{Bool}
 use mathlib.Core.List.{List}
 use Rattle.rings.specs.Steps.{howMany}
-use Rattle.limits.specs.Limits.{Listable, GivenFor}
+use Rattle.refusal.specs.Order.{Given}
+use Rattle.limits.specs.Limits.{Listable, numbersOrder}
 use Rattle.how_many.specs.declared.Counted.{Counted}
 use Rattle.how_many.specs.declared.Counted.the-variants.{Rings, Refused}
 
@@ -18,4 +19,4 @@ most = 2 ^ 32
 
 abbrev pub CountSays : (List ℕ → Bool) → ℕ → ℕ → Counted → Type 0
 CountSays kind k n (Rings x) = Listable most k n × (x ≡ howMany kind n k)
-CountSays kind k n (Refused r) = GivenFor most k n r
+CountSays kind k n (Refused r) = Given (numbersOrder most k n) r

@@ -5,12 +5,14 @@
 -- Assumes nothing.
 use Prim.Native.Nat.{ℕ, _≤_}
 use mathlib.Core.Path.{_≡_}
+use mathlib.Core.Logic.{inl, inr}
 use native.Mathlib.Omega.{arith}
 use Rattle.refusal.specs.declared.Refusal.{Refusal}
 use Rattle.refusal.specs.Numbers.{numberOf}
+use Rattle.refusal.specs.Order.{Given}
 use Rattle.limits.specs.declared.Planned.{Planned}
 use Rattle.limits.specs.declared.Planned.the-variants.{Accepted}
-use Rattle.limits.specs.Limits.{Listable, GivenFor, size, shades, many, NumbersSay}
+use Rattle.limits.specs.Limits.{Listable, numbersOrder, NumbersSay}
 
 -- numbers that are accepted
 pub accepted-listable : (limit k n j m : ℕ) (p : Planned) → p ≡ Accepted j m → NumbersSay limit k n p → Listable limit k n
@@ -21,7 +23,7 @@ pub listable-within : (limit most k n : ℕ) → Listable limit k n → limit �
 listable-within limit most k n l h = record { sized = l .sized; shaded = l .shaded; few = omega (arith, l .few) }
 
 -- the number of a refusal
-pub given-number : (limit k n : ℕ) (r : Refusal) → GivenFor limit k n r → numberOf r ≤ 12
-given-number limit k n r (size e f) = rw e (omega arith)
-given-number limit k n r (shades e a f) = rw e (omega arith)
-given-number limit k n r (many e a b f) = rw e (omega arith)
+pub given-number : (limit k n : ℕ) (r : Refusal) → Given (numbersOrder limit k n) r → numberOf r ≤ 12
+given-number limit k n r (inl (inl (e, f))) = rw e (omega arith)
+given-number limit k n r (inl (inr (a, (e, f)))) = rw e (omega arith)
+given-number limit k n r (inr (a, (e, f))) = rw e (omega arith)

@@ -2,14 +2,15 @@
 -- `mostListed` for the listing program and for a target set, and another for each request that sets one.
 --     mostListed                2 to the power 24
 --     Listable limit k n        1, 2 and 12 passed
---     GivenFor limit k n r      the numbers k and n are refused with r: 1, 2, 12
+--     numbersOrder limit k n    the order; `limit-numbers`: by its numbers, as the client says it
 --     NumbersSay limit k n p    what the plan p of the numbers k and n promises
 -- That no numbers have two plans: proofs/Unique. Assumes nothing.
-use Prim.Native.Nat.{ℕ, _^_, _<_, _≤_}
-use mathlib.Core.Path.{_≡_}
+use Prim.Native.Nat.{ℕ, _^_, _≤_}
+use mathlib.Core.Path.{_≡_, refl}
+use mathlib.Core.List.{[], _∷_}
 use Rattle.words.specs.Readings.{Sized, Shaded}
-use Rattle.refusal.specs.declared.Refusal.{Refusal}
 use Rattle.refusal.specs.declared.Refusal.the-variants.{Length, Shades, TooMany}
+use Rattle.refusal.specs.Order.{Checks, fact, _▸_, Given, numbered}
 use Rattle.limits.specs.declared.Planned.{Planned}
 use Rattle.limits.specs.declared.Planned.the-variants.{Accepted, Refused}
 
@@ -23,12 +24,13 @@ pub record Listable (limit k n : ℕ) : Type 0 where
   pub shaded : Shaded k
   pub few : k ^ n ≤ limit
 
--- the order 1, 2, 12: a check fails, and every earlier one has passed
-pub data GivenFor (limit k n : ℕ) (r : Refusal) : Type 0 where
-  size : r ≡ Length 0 → (Sized n → ⊥) → GivenFor limit k n r
-  shades : r ≡ Shades 0 → Sized n → (Shaded k → ⊥) → GivenFor limit k n r
-  many : r ≡ TooMany → Sized n → Shaded k → limit < k ^ n → GivenFor limit k n r
+-- the order 1, 2, 12
+abbrev pub numbersOrder : ℕ → ℕ → ℕ → Checks
+numbersOrder limit k n = fact (Sized n) (Length 0) ▸ fact (Shaded k) (Shades 0) ▸ fact (k ^ n ≤ limit) TooMany
+
+pub limit-numbers : (limit k n : ℕ) → numbered (numbersOrder limit k n) ≡ (1 ∷ 2 ∷ 12 ∷ [])
+limit-numbers limit k n = refl
 
 abbrev pub NumbersSay : ℕ → ℕ → ℕ → Planned → Type 0
 NumbersSay limit k n (Accepted j m) = (j ≡ k) × (m ≡ n) × Listable limit k n
-NumbersSay limit k n (Refused r) = GivenFor limit k n r
+NumbersSay limit k n (Refused r) = Given (numbersOrder limit k n) r

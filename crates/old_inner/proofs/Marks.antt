@@ -4,6 +4,7 @@
 -- Assumes nothing.
 use Prim.Native.Nat.{ℕ, _≤_}
 use mathlib.Core.Path.{_≡_}
+use mathlib.Core.Logic.{inr}
 use mathlib.Core.List.{List}
 use lib.ListN.{length, getD}
 use Rattle.refusal.specs.declared.Checked.{Checked}
@@ -11,7 +12,6 @@ use Rattle.refusal.specs.declared.Checked.the-variants.{Good, Refused}
 use Rattle.catalogue_record.specs.Steps.{RestSays}
 use Rattle.old_record.specs.Sides.{Side, sideByte, SideMarked}
 use Rattle.old_record.specs.Sides.Side.{front, back}
-use Rattle.old_record.specs.Reads.OldBroken.{spoilt}
 use Rattle.old_record.specs.Steps.{OldSays}
 
 -- a second byte of neither mark is of no side
@@ -22,4 +22,4 @@ unknown t f b back m = b (m .1)
 -- under the mark of a side, what stands behind it decides
 pub rest-checked : (t : List ℕ) (s : ℕ) (x : Side) (v : Checked) → 4 ≤ length t → SideMarked t x → RestSays t s v → OldSays t s v
 rest-checked t s x Good l m h = (x, m, h)
-rest-checked t s x (Refused r) l m h = spoilt x l m h
+rest-checked t s x (Refused r) l m h = inr ((l, (x, m)), h)

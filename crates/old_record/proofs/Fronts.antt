@@ -15,8 +15,7 @@ use lib.Seq.{take-at}
 use Rattle.words.specs.Readings.{Reading}
 use Rattle.rings.specs.Necklace.{necklace}
 use Rattle.home_laws.proofs.Alike.{length-mirrored, mirrored-reading, mirrored-necklace}
-use Rattle.refusal.specs.Order.{Below}
-use Rattle.refusal.specs.Calls.{oneReading}
+use Rattle.refusal.specs.Calls.{Below}
 use Rattle.catalogue_record.specs.declared.Kind.the-variants.{Front}
 use Rattle.catalogue_record.specs.Layout.{nOf, kOf, sectorsOf}
 use Rattle.catalogue_record.specs.Order.{After9}
@@ -53,10 +52,10 @@ one-side t back back m o = refl
 -- the sectors of a good record
 module _ (t : List ℕ) (a : After9 t) where
   long : length (sectorsOf t) ≡ nOf t
-  long = length-sectors t (a .0 .0 .1)
+  long = length-sectors t (a .0 .1)
 
   some : 0 < length (sectorsOf t)
-  some = omega (arith, long, a .0 .0 .0 .0 .0)
+  some = omega (arith, long, a .0 .0 .0 .0)
 
   -- the front ring has n sectors
   pub front-n : (x : Side) → length (frontRing x (sectorsOf t)) ≡ nOf t
@@ -68,7 +67,7 @@ module _ (t : List ℕ) (a : After9 t) where
 
     -- a front record is all there
     pub front-long : 4 + nOf t ≤ length u
-    front-long = omega (arith, long-there, f .sectors, length-take (nOf u) (drop 4 u), length-drop 4 u, a .0 .0 .0 .0 .0)
+    front-long = omega (arith, long-there, f .sectors, length-take (nOf u) (drop 4 u), length-drop 4 u, a .0 .0 .0 .0)
 
     -- it is its bytes, and what follows
     pub front-bytes : u ≡ bytes Front (nOf t) (kOf t) (frontRing x (sectorsOf t)) ++ drop (4 + nOf t) u
@@ -76,18 +75,18 @@ module _ (t : List ℕ) (a : After9 t) where
 
     -- and good
     pub front-good : After9 u
-    front-good = ((((sized, shaded), omega (arith, front-long, f .sectors)), below), ap necklace (sym (f .ring)) ∙ front-necklace (sectorsOf t) some x (a .1))
+    front-good = (((sized, shaded), omega (arith, front-long, f .sectors)), ((below, refl), ap necklace (sym (f .ring)) ∙ front-necklace (sectorsOf t) some x (a .1 .1)))
       where
         sized : (1 ≤ nOf u) × (nOf u ≤ 64)
-        sized = omega (arith, f .sectors, a .0 .0 .0 .0)
+        sized = omega (arith, f .sectors, a .0 .0 .0)
 
         shaded : (2 ≤ kOf u) × (kOf u ≤ 16)
-        shaded = omega (arith, f .shades, a .0 .0 .0 .1)
+        shaded = omega (arith, f .shades, a .0 .0 .1)
 
         ring : Reading (nOf t) (kOf t) (frontRing x (sectorsOf t))
-        ring = front-reading (sectorsOf t) some x (nOf t) (kOf t) (record { long = long; shades = λ i l. a .0 .1 i (omega (arith, long)) })
+        ring = front-reading (sectorsOf t) some x (nOf t) (kOf t) (record { long = long; shades = λ i l. a .1 .0 .0 i (omega (arith, long)) })
 
-        below : Below (oneReading (sectorsOf u) (kOf u))
+        below : Below (sectorsOf u) (λ i. kOf u)
         below = rw (sym (f .ring), sym (f .shades)) (λ i l. ring .shades i (omega (arith, front-n x)))
 
   -- a part that begins with those bytes begins with the front record

@@ -11,6 +11,7 @@
 -- Assumes nothing.
 use Prim.Native.Nat.{ℕ, _+_, _<_, _≤_}
 use mathlib.Core.Path.{_≡_, refl, sym, ap, _∙_, subst}
+use mathlib.Core.Logic.{inr}
 use mathlib.Core.List.{List, [], _++_}
 use native.Mathlib.Omega.{arith}
 use lib.ListN.{length, drop, length-drop}
@@ -29,7 +30,6 @@ use Rattle.old_record.specs.Sides.{Side, SideMarked, frontRing}
 use Rattle.old_record.specs.Sides.Side.{front, back}
 use Rattle.old_record.specs.Reads.{OldReadSays}
 use Rattle.old_record.specs.Reads.OldEntry.{entry, end, refused}
-use Rattle.old_record.specs.Reads.OldRefusedAt.{broken}
 use Rattle.old_record.specs.Converts.{Turned, Damaged, ConvertSays, FrontRecords}
 use Rattle.old_record.specs.Converts.Turned.{done, replaced}
 use Rattle.old_record.specs.Converts.Damaged.{here, later}
@@ -44,7 +44,7 @@ pub turned-length : (t u : List ℕ) → Turned t u → length u ≡ length t
 turned-length t u (done e f) = rw (e, f)
 turned-length t u (replaced x m a f r) =
     let q : length (drop (4 + nOf t) u) ≡ length (drop (4 + nOf t) t) = turned-length (drop (4 + nOf t) t) (drop (4 + nOf t) u) r in
-    omega (arith, q, length-drop (4 + nOf t) u, length-drop (4 + nOf t) t, front-long t a x u f, a .0 .0 .1)
+    omega (arith, q, length-drop (4 + nOf t) u, length-drop (4 + nOf t) t, front-long t a x u f, a .0 .1)
 
 -- it holds only front records
 pub turned-front : (t u : List ℕ) → Turned t u → FrontRecords u
@@ -86,7 +86,7 @@ turned-at c d s h (after {s = p} x i m a) = step (drop p c) (drop p d) (turned-a
 -- no start is past the end
 start-inside : (c : List ℕ) (s : ℕ) → Start c s → s ≤ length c
 start-inside c s first = omega arith
-start-inside c s (after {s = p} x i m a) = omega (arith, a .0 .0 .1, length-drop p c, start-inside c p i)
+start-inside c s (after {s = p} x i m a) = omega (arith, a .0 .1, length-drop p c, start-inside c p i)
 
 -- what both readers give at s, with an output that holds b: a record of the same n, k and front ring, behind which is a start; or the end
 pub data Alike (c d : List ℕ) (s : ℕ) (b : List ℕ) : Type 0 where
@@ -128,7 +128,7 @@ module _ (c d : List ℕ) (s : ℕ) (h : Turned c d) (i : Start c s) where
       ring x = frontRing x (sectorsOf (drop s c)) ++ drop (nOf (drop s c)) b
 
       given : (x : Side) → SideMarked (drop s c) x → After9 (drop s c) → OldReadSays c s b (entry (nOf (drop s c)) (kOf (drop s c)) x (s + 4 + nOf (drop s c))) (ring x)
-      given x m a = (l, omega (arith, a .0 .0 .1, length-drop s c), record { good = a; marked = m; sectors = refl; shades = refl; follows = refl; ring = refl })
+      given x m a = (l, omega (arith, a .0 .1, length-drop s c), record { good = a; marked = m; sectors = refl; shades = refl; follows = refl; ring = refl })
 
       step : Turned (drop s c) (drop s d) → Alike c d s b
       step (done e f) = over (at-end e) (ends-alike b b (at-end e))
@@ -144,7 +144,7 @@ pub record Refuses (c : List ℕ) (r : Refusal) : Type 0 where
 
 pub damage-read : (c : List ℕ) (s : ℕ) (r : Refusal) (t : List ℕ) → t ≡ drop s c → Start c s → Damaged t s r → Refuses c r
 damage-read c s r t e i (here l b) =
-    record { place = s; start = i; told = λ o z. (broken z within (rw e at b), refl) }
+    record { place = s; start = i; told = λ o z. (inr ((z, omega (arith, within)), (within, rw e at b)), refl) }
   where
     within : s < length c
     within = let q : length t ≡ length (drop s c) = ap (λ (v : List ℕ). length v) e in omega (arith, q, length-drop s c)

@@ -1,5 +1,5 @@
 -- Converting a catalogue has one answer, and leaves the lent output in one way.
---     one-broken, good-broken          a record is refused in one way, and not where it is good
+--     good-broken                      a record that is good is not refused
 --     turned-sound                     a catalogue that was converted is not damaged
 --     one-turned, one-damage           there is one new catalogue, or one refusal
 --     sound-damaged                    and not both
@@ -11,16 +11,16 @@ use mathlib.Core.List.{List, [], _++_}
 use native.Mathlib.Omega.{arith}
 use lib.ListN.{length, drop}
 use Rattle.refusal.specs.declared.Refusal.{Refusal}
+use Rattle.refusal.specs.Order.{Given}
+use Rattle.refusal.proofs.Unique.{one-refusal, never-both}
 use Rattle.catalogue_record.specs.declared.Kind.the-variants.{Front}
 use Rattle.catalogue_record.specs.Layout.{nOf, kOf, sectorsOf}
 use Rattle.catalogue_record.specs.Order.{After9}
-use Rattle.catalogue_record.proofs.Chain.{good-fixed, spoilt-fixed}
 use Rattle.catalogue_record.proofs.Laid.{bytes}
 use Rattle.old_record.specs.declared.Conversion.{Conversion}
 use Rattle.old_record.specs.declared.Conversion.the-variants.{Converted, Refused}
 use Rattle.old_record.specs.Sides.{Side, SideMarked, frontRing}
-use Rattle.old_record.specs.Reads.{OldBroken}
-use Rattle.old_record.specs.Reads.OldBroken.{head, mark, spoilt}
+use Rattle.old_record.specs.Reads.{oldOrder}
 use Rattle.old_record.specs.Converts.{Sound, Turned, Damaged, Unconverted, ConvertSays}
 use Rattle.old_record.specs.Converts.Sound.{ended, more}
 use Rattle.old_record.specs.Converts.Turned.{done, replaced}
@@ -31,27 +31,13 @@ use Rattle.old_record.proofs.Fronts.{one-side, front-bytes}
 -- ---- one record
 
 module _ (t : List ℕ) (s : ℕ) where
-  -- it is refused in one way
-  pub one-broken : (r q : Refusal) → OldBroken t s r → OldBroken t s q → r ≡ q
-  one-broken r q (head e l) (head f m) = e ∙ sym f
-  one-broken r q (head e l) (mark f m g) = absurd (omega arith)
-  one-broken r q (head e l) (spoilt x m k b) = absurd (omega arith)
-  one-broken r q (mark e l g) (head f m) = absurd (omega arith)
-  one-broken r q (mark e l g) (mark f m h) = e ∙ sym f
-  one-broken r q (mark e l g) (spoilt x m k b) = absurd (g x k)
-  one-broken r q (spoilt x l k b) (head f m) = absurd (omega arith)
-  one-broken r q (spoilt x l k b) (mark f m g) = absurd (g x k)
-  one-broken r q (spoilt x l k b) (spoilt y m j c) = cc (spoilt-fixed t s r b, spoilt-fixed t s q c)
-
-  -- and not where it is good
-  pub good-broken : (x : Side) (r : Refusal) → SideMarked t x → After9 t → OldBroken t s r → ⊥
-  good-broken x r k a (head e l) = omega (arith, a .0 .0 .1)
-  good-broken x r k a (mark e l g) = g x k
-  good-broken x r k a (spoilt y l j b) = let z : _≡_ {A = ℕ} 0 1 = cc (good-fixed t s a, spoilt-fixed t s r b) in omega arith
+  -- it is not refused where it is good
+  pub good-broken : (x : Side) (r : Refusal) → SideMarked t x → After9 t → Given (oldOrder t s) r → ⊥
+  good-broken x r k a g = never-both (oldOrder t s) r g ((omega (arith, a .0 .1), (x, k)), a)
 
 -- a good record is not the end
 pub some-left : (t : List ℕ) → After9 t → t ≡ [] → ⊥
-some-left t a e = let l : length t ≡ 0 = rw e in omega (arith, l, a .0 .0 .1)
+some-left t a e = let l : length t ≡ 0 = rw e in omega (arith, l, a .0 .1)
 
 -- ---- the whole catalogue
 
@@ -73,7 +59,7 @@ one-turned t u v (replaced x m a f r) (replaced y o b g q) =
 
 -- there is one refusal
 pub one-damage : (t : List ℕ) (s : ℕ) (r q : Refusal) → Damaged t s r → Damaged t s q → r ≡ q
-one-damage t s r q (here l b) (here m c) = one-broken t s r q b c
+one-damage t s r q (here l b) (here m c) = one-refusal (oldOrder t s) r q b c
 one-damage t s r q (here l b) (later x m a d) = absurd (good-broken t s x r m a b)
 one-damage t s r q (later x m a d) (here l b) = absurd (good-broken t s x q m a b)
 one-damage t s r q (later x m a d) (later y o b e) = one-damage (drop (4 + nOf t) t) (s + 4 + nOf t) r q d e

@@ -15,13 +15,14 @@ use mathlib.Core.List.{List, []}
 use lib.ListN.{length, drop}
 use Rattle.refusal.specs.declared.Refusal.{Refusal}
 use Rattle.refusal.specs.declared.Refusal.the-variants.{Room}
+use Rattle.refusal.specs.Order.{Given}
 use Rattle.catalogue_record.specs.declared.Kind.the-variants.{Front}
 use Rattle.catalogue_record.specs.Layout.{Marked, nOf, kOf, sectorsOf}
 use Rattle.catalogue_record.specs.Order.{After9}
 use Rattle.old_record.specs.declared.Conversion.{Conversion}
 use Rattle.old_record.specs.declared.Conversion.the-variants.{Converted, Refused}
 use Rattle.old_record.specs.Sides.{Side, SideMarked, frontRing}
-use Rattle.old_record.specs.Reads.{OldBroken}
+use Rattle.old_record.specs.Reads.{oldOrder}
 
 -- ---- a catalogue that is not damaged
 
@@ -43,7 +44,7 @@ pub data Turned : List ℕ → List ℕ → Type 0 where
 -- ---- one that is
 
 pub data Damaged : List ℕ → ℕ → Refusal → Type 0 where
-  here : {t : List ℕ} {s : ℕ} {r : Refusal} → 0 < length t → OldBroken t s r → Damaged t s r
+  here : {t : List ℕ} {s : ℕ} {r : Refusal} → 0 < length t → Given (oldOrder t s) r → Damaged t s r
   later : {t : List ℕ} {s : ℕ} {r : Refusal} (x : Side) → SideMarked t x → After9 t → Damaged (drop (4 + nOf t) t) (s + 4 + nOf t) r → Damaged t s r
 
 -- ---- the call

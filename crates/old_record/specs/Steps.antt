@@ -9,16 +9,17 @@ use mathlib.Core.List.{List}
 use lib.ListN.{drop}
 use Rattle.refusal.specs.declared.Checked.{Checked}
 use Rattle.refusal.specs.declared.Checked.the-variants.{Good, Refused}
+use Rattle.refusal.specs.Order.{Given}
 use Rattle.catalogue_record.specs.declared.Kind.the-variants.{Front}
 use Rattle.catalogue_record.specs.Layout.{nOf, kOf, bytes}
 use Rattle.catalogue_record.specs.Order.{After9}
 use Rattle.old_record.specs.Sides.{Side, SideMarked, frontRing}
-use Rattle.old_record.specs.Reads.{OldBroken}
+use Rattle.old_record.specs.Reads.{oldOrder}
 use Rattle.old_record.specs.Converts.{Sound, Damaged}
 
 abbrev pub OldSays : List ℕ → ℕ → Checked → Type 0
 OldSays t s Good = (x : Side) × SideMarked t x × After9 t
-OldSays t s (Refused r) = OldBroken t s r
+OldSays t s (Refused r) = Given (oldOrder t s) r
 
 abbrev pub SoundSays : List ℕ → Checked → Type 0
 SoundSays c Good = Sound c

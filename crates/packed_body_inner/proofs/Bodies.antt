@@ -12,10 +12,12 @@
 use Prim.Native.Nat.{ℕ, _+_, _-_, _<_, _≤_}
 use mathlib.Core.Path.{_≡_, sym, ap, _∙_, subst}
 use mathlib.Core.Bool.{Bool, true, false}
+use mathlib.Core.Logic.{inl, inr}
 use mathlib.Core.List.{List}
 use native.Mathlib.Omega.{arith}
 use lib.ListN.{length}
 use Rattle.words.specs.Readings.{Sized, Shaded}
+use Rattle.words.proofs.Split.{clash}
 use Rattle.rings.specs.Necklace.{necklace}
 use Rattle.rings.specs.Class.{lookAt}
 use Rattle.packing.specs.Width.{width}
@@ -23,12 +25,11 @@ use Rattle.packing.specs.Packing.{packedLength, unpacked, clearPadding, byteOf}
 use Rattle.packing_laws.proofs.Width.{narrow}
 use Rattle.refusal.specs.declared.Refusal.the-variants.{Sector, NotHome, Padding}
 use Rattle.refusal.specs.declared.Checked.the-variants.{Good}
-use Rattle.refusal.specs.Order.{Below, FirstBad}
-use Rattle.refusal.specs.Calls.{oneReading}
+use Rattle.refusal.specs.Order.{Given}
+use Rattle.refusal.specs.Calls.{Below, FirstBad}
 use Rattle.catalogue_record.specs.declared.Kind.the-variants.{Packed}
 use Rattle.catalogue_record.specs.Layout.{bodyLength, shown, isClear}
-use Rattle.catalogue_record.specs.Order.{Unfit}
-use Rattle.catalogue_record.specs.Order.Unfit.{sector, padding, notHome}
+use Rattle.catalogue_record.specs.Order.{bodyOrder}
 use Rattle.catalogue_record.specs.Steps.{BodySays}
 use Rattle.catalogue_record.proofs.Forms.{some-bytes, byte-within}
 
@@ -61,26 +62,27 @@ module _ (w b : List ℕ) (k s u : ℕ) (long : length b ≡ bodyLength Packed (
   byte-in i j h l e = let q : j ≡ byteOf (width k) i = e ∙ ap (λ (x : ℕ). byteOf x i) bits in omega (arith, q, byte-within (length w) k Packed i l h)
 
   -- a sector that is no shade
-  pub bad-shade : (i j : ℕ) → j ≡ byteOf u i → FirstBad w (λ m. k) i → Unfit Packed (length w) k b s (Sector (s + 4 + j))
+  pub bad-shade : (i j : ℕ) → j ≡ byteOf u i → FirstBad w (λ m. k) i → Given (bodyOrder Packed (length w) k b s) (Sector (s + 4 + j))
   bad-shade i j e f =
-      sector i (ap (λ (x : ℕ). Sector (s + 4 + x)) (e ∙ ap (λ (x : ℕ). byteOf x i) bits)) (subst (λ (v : List ℕ). FirstBad v (λ m. k) i) held f)
+      inl (inl (i, ap (λ (x : ℕ). Sector (s + 4 + x)) (e ∙ ap (λ (x : ℕ). byteOf x i) bits), subst (λ (v : List ℕ). FirstBad v (λ m. k) i) held f))
 
-  module _ (below : Below (oneReading w k)) (clear : Bool) (told : clear ≡ clearPadding u (length w) b) where
-    belowThere : Below (oneReading (shown Packed (length w) k b) k)
-    belowThere = subst (λ (v : List ℕ). Below (oneReading v k)) held below
+  module _ (below : Below w (λ i. k)) (clear : Bool) (told : clear ≡ clearPadding u (length w) b) where
+    belowThere : Below (shown Packed (length w) k b) (λ i. k)
+    belowThere = subst (λ (v : List ℕ). Below v (λ i. k)) held below
 
     clearThere : clear ≡ isClear Packed (length w) k b
     clearThere = told ∙ ap (λ (x : ℕ). clearPadding x (length w) b) bits
 
     -- home, and no unused bit set
     pub is-good : necklace w ≡ true → clear ≡ true → BodySays Packed (length w) k b s Good
-    is-good h z = (belowThere, sym clearThere ∙ z, ap necklace (sym held) ∙ h)
+    is-good h z = ((belowThere, sym clearThere ∙ z), ap necklace (sym held) ∙ h)
 
     -- an unused bit is set
-    pub bit-set : clear ≡ false → Unfit Packed (length w) k b s (Padding (s + 4 + (length b - 1)))
-    bit-set z = padding (ap (λ (x : ℕ). Padding (s + 4 + (x - 1))) long) belowThere (sym clearThere ∙ z)
+    pub bit-set : clear ≡ false → Given (bodyOrder Packed (length w) k b s) (Padding (s + 4 + (length b - 1)))
+    bit-set z = inl (inr (belowThere, (ap (λ (x : ℕ). Padding (s + 4 + (x - 1))) long, λ h. clash (isClear Packed (length w) k b) h (sym clearThere ∙ z))))
 
     -- no necklace
-    pub not-home : (i j : ℕ) → j ≡ byteOf u i → i ≡ lookAt w → necklace w ≡ false → clear ≡ true → Unfit Packed (length w) k b s (NotHome (s + 4 + j))
+    pub not-home : (i j : ℕ) → j ≡ byteOf u i → i ≡ lookAt w → necklace w ≡ false → clear ≡ true → Given (bodyOrder Packed (length w) k b s) (NotHome (s + 4 + j))
     not-home i j e f h z =
-        notHome (ap (λ (x : ℕ). NotHome (s + 4 + x)) (e ∙ ap (λ (x : ℕ). byteOf x i) bits ∙ ap (byteOf (width k)) (f ∙ ap lookAt held))) belowThere (sym clearThere ∙ z) (ap necklace (sym held) ∙ h)
+        inr
+        ((belowThere, sym clearThere ∙ z), (ap (λ (x : ℕ). NotHome (s + 4 + x)) (e ∙ ap (λ (x : ℕ). byteOf x i) bits ∙ ap (byteOf (width k)) (f ∙ ap lookAt held)), λ o. clash (necklace (shown Packed (length w) k b)) o (ap necklace (sym held) ∙ h)))

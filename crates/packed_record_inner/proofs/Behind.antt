@@ -10,6 +10,7 @@
 -- Assumes nothing.
 use Prim.Native.Nat.{ℕ, _+_, _-_, _<_, _≤_}
 use mathlib.Core.Path.{_≡_, refl, sym, ap, _∙_, subst}
+use mathlib.Core.Logic.{inl, inr}
 use mathlib.Core.List.{List}
 use native.Mathlib.Omega.{arith}
 use lib.ListN.{length, take, drop}
@@ -18,10 +19,10 @@ use Rattle.packing.specs.Packing.{packedLength, unpacked}
 use Rattle.packing_laws.proofs.Width.{narrow}
 use Rattle.refusal.specs.declared.Refusal.the-variants.{Cut}
 use Rattle.refusal.specs.declared.Checked.{Checked}
+use Rattle.refusal.specs.Order.{Given}
 use Rattle.catalogue_record.specs.declared.Kind.the-variants.{Packed}
 use Rattle.catalogue_record.specs.Layout.{bodyLength, nOf, kOf, bodyOf, ringOf}
-use Rattle.catalogue_record.specs.Order.{After2, After7, Faulty}
-use Rattle.catalogue_record.specs.Order.Faulty.{body}
+use Rattle.catalogue_record.specs.Order.{behindOrder, After2, After7}
 use Rattle.catalogue_record.specs.Steps.{BodySays, BehindSays}
 use Rattle.catalogue_record.proofs.Forms.{few-bytes, good-behind}
 use Rattle.catalogue_record.proofs.Laws.{length-body}
@@ -33,8 +34,8 @@ module _ (t : List ℕ) (s u l : ℕ) (a : After2 t) (bits : u ≡ width (kOf t)
   pub few : l ≤ 64
   few = omega (arith, length-told, few-bytes (nOf t) (kOf t) Packed (a .1), a .0 .1)
 
-  pub is-cut : length t < 4 + l → Faulty Packed t s (Cut s)
-  is-cut h = body refl a (omega (arith, length-told))
+  pub is-cut : length t < 4 + l → Given (behindOrder Packed t s) (Cut s)
+  is-cut h = inl (inr (a, (refl, λ w. omega (arith, length-told))))
 
   pub whole-told : After7 Packed t → 4 + l ≤ length t
   whole-told w = omega (arith, length-told, w .1)

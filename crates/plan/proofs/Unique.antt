@@ -9,18 +9,19 @@ use Rattle.line.specs.Line.{Spells}
 use Rattle.line.proofs.Lines.{one-line}
 use Rattle.limits.specs.declared.Planned.{Planned}
 use Rattle.limits.specs.declared.Planned.the-variants.{Accepted, Refused}
-use Rattle.limits.proofs.Unique.{planOf, numbers-fixed}
+use Rattle.limits.specs.Limits.{NumbersSay}
+use Rattle.limits.proofs.Unique.{one-numbers}
 use Rattle.plan.specs.Plan.{malformed, spelt, PlanSays}
 
 -- a plan is that of a malformed line, or that of the numbers that the line spells
 data Plans (limit : ℕ) (s : List ℕ) (p : Planned) : Type 0 where
   none : p ≡ Refused Line → ((k n : ℕ) → Spells s k n → ⊥) → Plans limit s p
-  made : (k n : ℕ) → Spells s k n → p ≡ planOf limit k n → Plans limit s p
+  made : (k n : ℕ) → Spells s k n → NumbersSay limit k n p → Plans limit s p
 
 plans : (limit : ℕ) (s : List ℕ) (p : Planned) → PlanSays limit s p → Plans limit s p
-plans limit s (Accepted k n) q = made k n (q .0) (numbers-fixed limit k n (Accepted k n) (refl, refl, q .1))
+plans limit s (Accepted k n) q = made k n (q .0) (refl, refl, q .1)
 plans limit s (Refused r) (malformed e f) = none (ap Refused e) f
-plans limit s (Refused r) (spelt k n t g) = made k n t (numbers-fixed limit k n (Refused r) g)
+plans limit s (Refused r) (spelt k n t g) = made k n t g
 
 -- no line has two plans
 pub one-plan : (limit : ℕ) (s : List ℕ) (p q : Planned) → PlanSays limit s p → PlanSays limit s q → p ≡ q
@@ -30,6 +31,4 @@ one-plan limit s p q a b = go (plans limit s p a) (plans limit s q b)
     go (none e x) (none f y) = e ∙ sym f
     go (none e x) (made k n t f) = absurd (x k n t)
     go (made k n t e) (none f y) = absurd (y k n t)
-    go (made k n t e) (made j m u f) =
-        let g = one-line s k n j m t u in
-        e ∙ ap (λ (x : ℕ). planOf limit x n) (g .0) ∙ ap (λ (x : ℕ). planOf limit j x) (g .1) ∙ sym f
+    go (made k n t e) (made j m u f) = let g = one-line s k n j m t u in one-numbers limit j m p q (rw (g .0, g .1) at e) f

@@ -11,12 +11,13 @@ use Rattle.refusal.specs.declared.Refusal.the-variants.{Line}
 use Rattle.line.specs.Line.{Spells}
 use Rattle.limits.specs.declared.Planned.{Planned}
 use Rattle.limits.specs.declared.Planned.the-variants.{Accepted, Refused}
-use Rattle.limits.specs.Limits.{Listable, GivenFor}
+use Rattle.refusal.specs.Order.{Given}
+use Rattle.limits.specs.Limits.{Listable, numbersOrder}
 
 -- the order 11, 1, 2, 12
 pub data RefusedLine (limit : ℕ) (s : List ℕ) (r : Refusal) : Type 0 where
   malformed : r ≡ Line → ((k n : ℕ) → Spells s k n → ⊥) → RefusedLine limit s r
-  spelt : (k n : ℕ) → Spells s k n → GivenFor limit k n r → RefusedLine limit s r
+  spelt : (k n : ℕ) → Spells s k n → Given (numbersOrder limit k n) r → RefusedLine limit s r
 
 abbrev pub PlanSays : ℕ → List ℕ → Planned → Type 0
 PlanSays limit s (Accepted k n) = Spells s k n × Listable limit k n

@@ -4,6 +4,7 @@
 -- Assumes nothing.
 use Prim.Native.Nat.{ℕ, _+_, _-_}
 use mathlib.Core.Path.{_≡_, refl, subst}
+use mathlib.Core.Logic.{inl, inr}
 use mathlib.Core.List.{List}
 use native.Mathlib.Omega.{arith}
 use lib.ListN.{length, take, drop}
@@ -12,8 +13,8 @@ use Rattle.refusal.specs.declared.Refusal.{Refusal}
 use Rattle.refusal.specs.declared.Checked.{Checked}
 use Rattle.refusal.specs.Numbers.{numberOf}
 use Rattle.refusal.specs.Order.{Given}
-use Rattle.refusal.specs.Order.Given.{size, pair, shades, sector, room, counts, offWalk}
 use Rattle.refusal.specs.Calls.{numbers}
+use Rattle.refusal.proofs.More.{upTo2, numbers-refused}
 use Rattle.catalogue_record.specs.declared.Kind.the-variants.{Front}
 use Rattle.catalogue_record.specs.Layout.{nOf, kOf, sectorsOf}
 use Rattle.catalogue_record.specs.Order.{After7}
@@ -23,23 +24,21 @@ use Rattle.catalogue_record.proofs.Laws.{length-sectors}
 
 -- a refusal by number 1 is of n
 pub bad-length : (n k : ℕ) (r : Refusal) → Given (numbers n n k) r → numberOf r ≡ 1 → Sized n → ⊥
-bad-length n k r (size e f) q = f
-bad-length n k r (pair e l f) q = absurd (f refl)
-bad-length n k r (shades e l f) q = absurd (let z = rw e at q in omega arith)
-bad-length n k r (sector p e l f) q = absurd (let w = f .within in omega arith)
-bad-length n k r (room e l f) q = absurd (f tt)
-bad-length n k r (counts e l f) q = absurd (f tt)
-bad-length n k r (offWalk e l f) q = absurd (f refl)
+bad-length n k r g q = go (numbers-refused n n k Unit (λ u. refl) (λ u. tt) r g)
+  where
+    go : Given (upTo2 n Unit k) r → Sized n → ⊥
+    go (inl (inl (e, f))) = f
+    go (inl (inr (l, (e, f)))) = absurd (f tt)
+    go (inr (l, (e, f))) = absurd (let z = rw e at q in omega arith)
 
 -- any other is of k
 pub bad-shades : (n k : ℕ) (r : Refusal) → Given (numbers n n k) r → (numberOf r ≡ 1 → ⊥) → Sized n × (Shaded k → ⊥)
-bad-shades n k r (size e f) q = absurd (q (rw e))
-bad-shades n k r (pair e l f) q = absurd (f refl)
-bad-shades n k r (shades e l f) q = (l .0, f)
-bad-shades n k r (sector p e l f) q = absurd (let w = f .within in omega arith)
-bad-shades n k r (room e l f) q = absurd (f tt)
-bad-shades n k r (counts e l f) q = absurd (f tt)
-bad-shades n k r (offWalk e l f) q = absurd (f refl)
+bad-shades n k r g q = go (numbers-refused n n k Unit (λ u. refl) (λ u. tt) r g)
+  where
+    go : Given (upTo2 n Unit k) r → Sized n × (Shaded k → ⊥)
+    go (inl (inl (e, f))) = absurd (q (rw e))
+    go (inl (inr (l, (e, f)))) = absurd (f tt)
+    go (inr (l, (e, f))) = (l .0, f)
 
 -- the checks of the sectors are those of what stands behind the mark; e is where they end
 pub body-checked : (t : List ℕ) (s e : ℕ) (v : Checked) → e ≡ 4 + nOf t → After7 Front t → BodySays Front (length (take (e - 4) (drop 4 t))) (kOf t) (take (e - 4) (drop 4 t)) s v → RestSays t s v

@@ -1,7 +1,8 @@
--- Laws of the refusals: a check that asks more (More), the facts as tests (Facts), the order as a chain that computes (Chain), that no call has two
--- answers (Unique), and rows to check by hand (Cases).
-pub mod More
-pub mod Facts
-pub mod Chain
+-- Laws of the refusals: that no order of checks gives two answers (Unique); facts told by tests (Facts), so that an order computes its answer (Tests); the answer of the
+-- order that most calls share (Answer), rows of it to check by hand (Cases), and a check that asks more (More).
 pub mod Unique
+pub mod Facts
+pub mod Tests
+pub mod Answer
 pub mod Cases
+pub mod More

@@ -2,16 +2,17 @@
 -- program; then 13 Set, place 0, where d is 0 or above n or the wanted number is 0 or above 32.
 --     Settable n d want          13 passed
 --     Askable n k d want         every check has passed
---     GivenSet n k d want r      refusal r is given: its check fails, and every earlier one has passed
+--     setOrder n k d want        the order; `set-numbers`: by its numbers, as the client says it
 --     CheckSays n k d want v     what the checks' answer v promises
 -- 1, 2 and 12 are those of `limits`, in its order. That no two answers fit: proofs/Unique. Assumes nothing.
-use Prim.Native.Nat.{ℕ, _<_, _≤_}
-use mathlib.Core.Path.{_≡_}
-use Rattle.refusal.specs.declared.Refusal.{Refusal}
+use Prim.Native.Nat.{ℕ, _≤_}
+use mathlib.Core.Path.{_≡_, refl}
+use mathlib.Core.List.{[], _∷_}
 use Rattle.refusal.specs.declared.Refusal.the-variants.{Length, Set}
+use Rattle.refusal.specs.Order.{Checks, fact, _▸_, Given, numbered}
 use Rattle.refusal.specs.declared.Checked.{Checked}
 use Rattle.refusal.specs.declared.Checked.the-variants.{Good, Refused}
-use Rattle.limits.specs.Limits.{mostListed, Listable, GivenFor}
+use Rattle.limits.specs.Limits.{mostListed, Listable, numbersOrder}
 
 -- a ring of a set has at most 24 sectors
 abbrev pub mostSectors : ℕ
@@ -34,11 +35,13 @@ pub record Askable (n k d want : ℕ) : Type 0 where
   pub settable : Settable n d want
 
 -- the order 1, 2, 12, 13
-pub data GivenSet (n k d want : ℕ) (r : Refusal) : Type 0 where
-  long : r ≡ Length 0 → mostSectors < n → GivenSet n k d want r
-  numbers : n ≤ mostSectors → GivenFor mostReadings k n r → GivenSet n k d want r
-  unset : r ≡ Set → n ≤ mostSectors → Listable mostReadings k n → (Settable n d want → ⊥) → GivenSet n k d want r
+abbrev pub setOrder : ℕ → ℕ → ℕ → ℕ → Checks
+setOrder n k d want = fact (n ≤ mostSectors) (Length 0) ▸ numbersOrder mostReadings k n ▸ fact (Settable n d want) Set
+
+-- 1 twice, since the length has two checks: at most 24, and then that of `limits`
+pub set-numbers : (n k d want : ℕ) → numbered (setOrder n k d want) ≡ (1 ∷ 1 ∷ 2 ∷ 12 ∷ 13 ∷ [])
+set-numbers n k d want = refl
 
 abbrev pub CheckSays : ℕ → ℕ → ℕ → ℕ → Checked → Type 0
 CheckSays n k d want Good = Askable n k d want
-CheckSays n k d want (Refused r) = GivenSet n k d want r
+CheckSays n k d want (Refused r) = Given (setOrder n k d want) r

@@ -11,10 +11,11 @@ use lib.ListN.{length, replicate}
 use lib.Dec.{eqb}
 use Rattle.refusal.specs.declared.Checked.{Checked}
 use Rattle.refusal.specs.declared.Checked.the-variants.{Good, Refused}
+use Rattle.refusal.specs.Order.{Given}
 use Rattle.set_choice.specs.Greedy.{picked}
 use Rattle.set_choice.specs.Places.{laid}
 use Rattle.set_answers.specs.declared.Picked.{Picked}
-use Rattle.set_answers.specs.Order.{Askable, GivenSet}
+use Rattle.set_answers.specs.Order.{setOrder, Askable}
 
 -- the set of the numbers
 pub record Chosen (n k d want : ℕ) (p : List ℕ) (t : ℕ) (f : Bool) : Type 0 where
@@ -31,7 +32,7 @@ pub record Nothing (p : List ℕ) (t : ℕ) (f : Bool) : Type 0 where
 
 abbrev pub Answers : ℕ → ℕ → ℕ → ℕ → List ℕ → ℕ → Bool → Checked → Type 0
 Answers n k d want p t f Good = Chosen n k d want p t f
-Answers n k d want p t f (Refused r) = GivenSet n k d want r × Nothing p t f
+Answers n k d want p t f (Refused r) = Given (setOrder n k d want) r × Nothing p t f
 
 abbrev pub PickSays : ℕ → ℕ → ℕ → ℕ → Picked → Type 0
 PickSays n k d want r = Answers n k d want (r .places) (r .taken) (r .full) (r .answer)

@@ -21,7 +21,8 @@ use Rattle.text.proofs.Put.{length-refused}
 use Rattle.set_choice.specs.Greedy.{picked}
 use Rattle.set_choice.specs.Places.{setIn}
 use Rattle.set_laws.proofs.Places.{laid-length}
-use Rattle.set_answers.specs.Order.{GivenSet}
+use Rattle.refusal.specs.Order.{Given}
+use Rattle.set_answers.specs.Order.{setOrder}
 use Rattle.set_answers.specs.Says.{Chosen}
 use Rattle.set_answers.proofs.Worth.{answer-most, answer-set}
 use Rattle.set_text.specs.Text.{ringTexts, takenText, setText}
@@ -48,7 +49,7 @@ pub line-numbers : (s b : List ℕ) (y : ℕ) (b′ : List ℕ) (n k d want : �
 line-numbers s b y b′ n k d want h p q = whole h (q .text) (spelt n k d want p (q .says)) (q .fits) (q .placed)
 
 module _ (n k d want : ℕ) where
-  pub numbers-refused : (r : Refusal) → GivenSet n k d want r → (b : List ℕ) (x : ℕ) (b′ : List ℕ) → RefusedSays r b x b′ → NumbersSay n k d want b x b′
+  pub numbers-refused : (r : Refusal) → Given (setOrder n k d want) r → (b : List ℕ) (x : ℕ) (b′ : List ℕ) → RefusedSays r b x b′ → NumbersSay n k d want b x b′
   numbers-refused r g b x b′ q = record { text = refusedLine (numberOf r); says = refused r g refl; fits = q .fits; placed = q .placed }
 
   module _ (p : List ℕ) (t : ℕ) (f : Bool) (c : Chosen n k d want p t f) where

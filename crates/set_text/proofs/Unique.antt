@@ -13,14 +13,16 @@ use Rattle.refusal.specs.Numbers.{numberOf}
 use Rattle.text.specs.Text.{refusedLine}
 use Rattle.text.proofs.Put.{placed-length}
 use Rattle.set_line.proofs.Four.{one-set-line}
-use Rattle.set_answers.proofs.Unique.{one-given, given-not}
+use Rattle.refusal.proofs.Unique.{one-refusal, never-both}
+use Rattle.set_answers.specs.Order.{setOrder}
+use Rattle.set_answers.proofs.Unique.{askable-passed}
 use Rattle.set_text.specs.Prints.{NumbersPrint, refused, chosen, SetPrints, malformed, spelt, Printed, small, whole}
 
 -- the output for numbers
 pub one-numbers-text : (n k d want : ℕ) (t u : List ℕ) → NumbersPrint n k d want t → NumbersPrint n k d want u → t ≡ u
-one-numbers-text n k d want t u (refused r g e) (refused s h f) = e ∙ ap (λ x. refusedLine (numberOf x)) (one-given n k d want r s g h) ∙ sym f
-one-numbers-text n k d want t u (refused r g e) (chosen a f) = absurd (given-not n k d want r g a)
-one-numbers-text n k d want t u (chosen a e) (refused s h f) = absurd (given-not n k d want s h a)
+one-numbers-text n k d want t u (refused r g e) (refused s h f) = e ∙ ap (λ x. refusedLine (numberOf x)) (one-refusal (setOrder n k d want) r s g h) ∙ sym f
+one-numbers-text n k d want t u (refused r g e) (chosen a f) = absurd (never-both (setOrder n k d want) r g (askable-passed n k d want a))
+one-numbers-text n k d want t u (chosen a e) (refused s h f) = absurd (never-both (setOrder n k d want) s h (askable-passed n k d want a))
 one-numbers-text n k d want t u (chosen a e) (chosen b f) = e ∙ sym f
 
 -- the output for a line

@@ -15,12 +15,13 @@ use Rattle.text.specs.Text.{refusedLine}
 use Rattle.text.specs.Put.{Placed}
 use Rattle.set_line.specs.Line.{SpellsSet}
 use Rattle.set_choice.specs.Greedy.{picked}
-use Rattle.set_answers.specs.Order.{Askable, GivenSet}
+use Rattle.refusal.specs.Order.{Given}
+use Rattle.set_answers.specs.Order.{setOrder, Askable}
 use Rattle.set_text.specs.Text.{setText}
 
 -- the output for numbers
 pub data NumbersPrint (n k d want : ℕ) (t : List ℕ) : Type 0 where
-  refused : (r : Refusal) → GivenSet n k d want r → t ≡ refusedLine (numberOf r) → NumbersPrint n k d want t
+  refused : (r : Refusal) → Given (setOrder n k d want) r → t ≡ refusedLine (numberOf r) → NumbersPrint n k d want t
   chosen : Askable n k d want → t ≡ setText (picked n k d want) (eqb (length (picked n k d want)) want) → NumbersPrint n k d want t
 
 -- the output for a line

@@ -7,8 +7,7 @@ ghost use mathlib.Core.List.{map};
 ghost use lib.ListN.{length};
 ghost use Rattle.words.specs.Readings.{Shaded};
 ghost use Rattle.density_answers.specs.Cuts.{shadeOf};
-ghost use Rattle.density_answers.specs.Order.{Readable};
-ghost use Rattle.shading_inner.specs.Scan.{Searched};
+ghost use Rattle.shading_inner.specs.Scan.{Readable, Searched};
 
 // The first place whose value has no shade, or the number of values.
 pub fn first_unreadable(values: &[f32], k: u8, card: Card) -> usize

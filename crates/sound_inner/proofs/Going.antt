@@ -44,7 +44,7 @@ module _ (c : List ℕ) (p : ℕ) (g : Going c p) where
   going-room h = room (let q = part c p in rw q at h)
     where
       room : OldSays (drop p c) p Good → (p + 2 < length c) × (p + (4 + getD c (p + 2) 0) ≤ length c)
-      room (x, m, a) = omega (arith, size, a .0 .0 .1, length-drop p c)
+      room (x, m, a) = omega (arith, size, a .0 .1, length-drop p c)
 
   -- behind it
   pub going-on : (e : ℕ) → e ≡ p + (4 + getD c (p + 2) 0) → OldSays (take (length c - p) (drop p c)) p Good → Going c e
@@ -62,7 +62,7 @@ module _ (c : List ℕ) (p : ℕ) (g : Going c p) where
       on : OldSays (drop p c) p Good → Going c e
       on (x, m, a) =
           record {
-            inside = omega (arith, size, a .0 .0 .1, length-drop p c);
+            inside = omega (arith, size, a .0 .1, length-drop p c);
             sound = λ s. g .sound (more x m a (rw ahead s));
             damaged = λ r d. g .damaged r (later x m a (rw (ahead, after) d));
           }

@@ -23,7 +23,8 @@ use Rattle.refusal.specs.declared.Refusal.{Refusal}
 use Rattle.refusal.specs.Order.{Given, Passed}
 use Rattle.refusal.specs.Calls.{oneReading}
 use Rattle.refusal.proofs.Unique.{never-both}
-use Rattle.limits.specs.Limits.{Listable, GivenFor, size, shades, many}
+use Rattle.limits.specs.Limits.{Listable, numbersOrder}
+use Rattle.limits.proofs.Unique.{listable-passed}
 use Rattle.pages.specs.declared.State.{State}
 use Rattle.pages.specs.Prints.{most}
 use Rattle.pages.specs.State.{ringOf, Good}
@@ -66,10 +67,8 @@ module _ (w : List ℕ) (k : ℕ) where
   ring-decided c false p e f = λ q. clash (closed c) (rw e (necklace-closed w (q .member))) (sym f)
 
 -- numbers that are refused are no state's
-pub good-numbers : (s : State) (r : Refusal) → GivenFor most (s .k) (s .n) r → Good s → ⊥
-good-numbers s r (size e f) g = f (g .numbers .sized)
-good-numbers s r (shades e a f) g = f (g .numbers .shaded)
-good-numbers s r (many e a b f) g = omega (arith, g .numbers .few)
+pub good-numbers : (s : State) (r : Refusal) → Given (numbersOrder most (s .k) (s .n)) r → Good s → ⊥
+good-numbers s r g h = never-both (numbersOrder most (s .k) (s .n)) r g (listable-passed most (s .k) (s .n) (h .numbers))
 
 module _ (s : State) (l : Listable most (s .k) (s .n)) (long : length (s .ring) ≡ 64) where
   ring-long : length (ringOf s) ≡ s .n

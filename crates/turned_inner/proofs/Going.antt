@@ -62,7 +62,7 @@ module _ (c o : List ℕ) (p : ℕ) (g : Going c o p) (l : p < length c) where
 
   -- where the record ends
   pub going-room : (p + 2 < length c) × (1 ≤ getD c (p + 2) 0) × (p + 4 + getD c (p + 2) 0 ≤ length c)
-  going-room = omega (arith, size, h .good .0 .0 .1, h .good .0 .0 .0 .0 .0, length-drop p c)
+  going-room = omega (arith, size, h .good .0 .1, h .good .0 .0 .0 .0, length-drop p c)
 
   -- behind it
   pub going-on : (e : ℕ) (u q : List ℕ) → e ≡ p + 4 + getD c (p + 2) 0 → Fronted (take (e - p) (drop p c)) u → q ≡ take p o ++ (u ++ drop (e - p) (drop p o)) → Going c q e

@@ -11,13 +11,12 @@ use lib.ListN.{length, getD, take, drop, length-take, length-drop}
 use lib.Seq.{getD-take, getD-drop}
 use borrow.Author.Tests.{lt-ltb, le-ltb}
 use Rattle.words.proofs.Sequence.{sec, place}
-use Rattle.refusal.specs.Order.{Below}
-use Rattle.refusal.specs.Calls.{walkRecord, ringLimit}
+use Rattle.refusal.specs.Calls.{Below, askRecord, ringLimit}
 use Rattle.checks_inner.specs.Scan.{Scanned}
 use Rattle.checks_inner.proofs.Parts.{BelowTo, Bad, Part, part-bad, part-good, nothing}
 
 module _ (n k : ℕ) (ring : List ℕ) (b : Bool) (fits : n ≤ length ring) where
-  head : Part (walkRecord n k ring b) 0 k (take n ring)
+  head : Part (askRecord n k ring b) 0 k (take n ring)
   head =
       record {
         fits = simp length-take (omega arith);
@@ -25,7 +24,7 @@ module _ (n k : ℕ) (ring : List ℕ) (b : Bool) (fits : n ≤ length ring) whe
         limits = λ i j e h. rw (lt-ltb i n (omega (arith, simp length-take at h)), ringLimit);
       }
 
-  tail : Part (walkRecord n k ring b) n 1 (drop n ring)
+  tail : Part (askRecord n k ring b) n 1 (drop n ring)
   tail =
       record {
         fits = simp length-drop (omega arith);
@@ -35,23 +34,23 @@ module _ (n k : ℕ) (ring : List ℕ) (b : Bool) (fits : n ≤ length ring) whe
 
   -- the sectors up to n
   module _ (r : ℕ) (s : Scanned (take n ring) k r) where
-    pub head-bad : r < n → Bad (walkRecord n k ring b) r
+    pub head-bad : r < n → Bad (askRecord n k ring b) r
     head-bad h =
-        part-bad (walkRecord n k ring b) 0 k (take n ring) head (nothing (walkRecord n k ring b)) r s r (omega arith)
+        part-bad (askRecord n k ring b) 0 k (take n ring) head (nothing (askRecord n k ring b)) r s r (omega arith)
         (simp length-take (omega arith))
 
-    pub head-good : n ≤ r → BelowTo (walkRecord n k ring b) n
+    pub head-good : n ≤ r → BelowTo (askRecord n k ring b) n
     head-good h =
-        part-good (walkRecord n k ring b) 0 k (take n ring) head (nothing (walkRecord n k ring b)) r s
+        part-good (askRecord n k ring b) 0 k (take n ring) head (nothing (askRecord n k ring b)) r s
         (simp length-take (omega arith)) n (simp length-take (omega arith))
 
   -- those past n
-  module _ (low : BelowTo (walkRecord n k ring b) n) (r : ℕ) (s : Scanned (drop n ring) 1 r) where
-    pub tail-bad : r < length ring - n → Bad (walkRecord n k ring b) (n + r)
+  module _ (low : BelowTo (askRecord n k ring b) n) (r : ℕ) (s : Scanned (drop n ring) 1 r) where
+    pub tail-bad : r < length ring - n → Bad (askRecord n k ring b) (n + r)
     tail-bad h =
-        part-bad (walkRecord n k ring b) n 1 (drop n ring) tail low r s (n + r) refl (simp length-drop (omega arith))
+        part-bad (askRecord n k ring b) n 1 (drop n ring) tail low r s (n + r) refl (simp length-drop (omega arith))
 
-    pub tail-good : length ring - n ≤ r → Below (walkRecord n k ring b)
+    pub tail-good : length ring - n ≤ r → Below ring (ringLimit n k)
     tail-good h =
-        part-good (walkRecord n k ring b) n 1 (drop n ring) tail low r s (simp length-drop (omega arith)) (length ring)
+        part-good (askRecord n k ring b) n 1 (drop n ring) tail low r s (simp length-drop (omega arith)) (length ring)
         (simp length-drop (omega arith))

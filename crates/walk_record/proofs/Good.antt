@@ -13,6 +13,7 @@ use Prim.Native.Nat.{ℕ, _+_, _-_, _<_, _≤_}
 use mathlib.Core.Path.{_≡_, refl, sym, ap, _∙_}
 use mathlib.Core.Bool.{Bool, true, false, _&&_}
 use mathlib.Core.Option.{some}
+use mathlib.Core.Logic.{inr}
 use mathlib.Core.List.{List, _++_}
 use native.Mathlib.Omega.{arith}
 use lib.ListN.{length, getD, take, drop, replicate, List·getD-append, length-drop, length-replicate, getD-replicate}
@@ -35,7 +36,6 @@ use Rattle.necklace_laws.proofs.Words.{necklace-prenecklace}
 use Rattle.necklace_laws.proofs.FullWalk.{next-facts, zeros, zeros-at}
 use Rattle.refusal.specs.declared.Refusal.the-variants.{OffWalk}
 use Rattle.refusal.specs.Order.{Passed, Given}
-use Rattle.refusal.specs.Order.Given.{offWalk}
 use Rattle.refusal.specs.Calls.{ringLimit, walkRecord, walkStart, oneReading}
 use Rattle.walk_record.specs.declared.Walk.{Walk}
 use Rattle.moves_inner.specs.declared.Kind as K
@@ -125,7 +125,7 @@ module _ (w : Walk) (sectors : Passed (walkRecord (w .n) (w .k) (w .ring) true))
 
   off-walk : (p : ℕ) → (onClass && onCounts) ≡ false → p ≡ lookAt (ringOf w) → Given (walkAsked w) (OffWalk p)
   unfolding onClass onCounts
-  off-walk p e q = offWalk (ap OffWalk q) (sectors .0) (λ t. clash (onClass && onCounts) t e)
+  off-walk p e q = inr (sectors .0, (ap OffWalk q, λ t. clash (onClass && onCounts) t e))
 
   pub off-class : (b : Bool) (p : ℕ) → b ≡ onWalk (ringOf w) (w .class) → p ≡ lookAt (ringOf w) → b ≡ false → Given (walkAsked w) (OffWalk p)
   unfolding onClass onCounts
@@ -225,8 +225,8 @@ module _ (s : List ℕ) (k : ℕ) (found : Class) (passed : Passed (oneReading s
   pub start-off : (p : ℕ) → isLoose found ≡ true → p ≡ loosePlace found → Given (walkStart s k (prenecklace s)) (OffWalk p)
   unfolding lookAt
   start-off p h q =
-      offWalk (ap OffWalk (q ∙ ap loosePlace is ∙ ap lookAt (sym (take-all (length s) s (omega arith))))) (passed .0)
-      (λ t. clash (prenecklace s) t (loose-class s (rw is at h)))
+      inr
+      (passed .0, (ap OffWalk (q ∙ ap loosePlace is ∙ ap lookAt (sym (take-all (length s) s (omega arith)))), λ t. clash (prenecklace s) t (loose-class s (rw is at h))))
 
   pub start-on : isLoose found ≡ false → Passed (walkStart s k (prenecklace s))
   start-on h = (passed .0, tight-class s (rw is at h))

@@ -4,7 +4,7 @@
 --     walkOf k v        the record of a ring v: n, k, v with 0 behind it to 64 sectors, its class, its counts
 --     emptyWalk         the record that a refused start hands out
 --     onWalk v c        v is a prenecklace and its class is c
---     walkAsked w       what the checks of a record look at
+--     walkAsked w       the checks of a record
 -- That the counts of the shades from k up are 0 in every record that is handed out: `walk_laws`, proofs/Counts.
 -- Assumes nothing.
 use Prim.Native.Nat.{ℕ, _-_}
@@ -18,7 +18,7 @@ use Rattle.rings.specs.declared.Class.the-variants.{Loose, Opening, Repeating, 
 use Rattle.rings.specs.Prenecklace.{prenecklace}
 use Rattle.rings.specs.Class.{classOf}
 use Rattle.rings.specs.Counts.{countsOf}
-use Rattle.refusal.specs.Order.{Asked}
+use Rattle.refusal.specs.Order.{Checks}
 use Rattle.refusal.specs.Calls.{walkRecord}
 use Rattle.walk_record.specs.declared.Walk.{Walk}
 
@@ -68,6 +68,6 @@ isLoose Single = false
 unfoldable pub onWalk : List ℕ → Class → Bool
 onWalk v c = prenecklace v && sameClass c (classOf v)
 
--- what the checks of a record look at: it is on the walk where its ring is a prenecklace, and its class and all its counts are that ring's
-abbrev pub walkAsked : Walk → Asked
+-- the checks of a record: it is on the walk where its ring is a prenecklace, and its class and all its counts are that ring's
+abbrev pub walkAsked : Walk → Checks
 walkAsked w = walkRecord (w .n) (w .k) (w .ring) (onWalk (ringOf w) (w .class) && same (w .counts) (shadeCounts (ringOf w)))

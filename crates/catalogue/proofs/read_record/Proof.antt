@@ -1,17 +1,18 @@
 -- `catalogue::read_record` meets its contract: the output's length, the start, the end, or what the record answers.
 -- Assumes nothing.
 use mathlib.Core.Path.{refl}
+use mathlib.Core.Logic.{inl, inr}
+use native.Mathlib.Omega.{arith}
 use borrow.Author.Needs.{needs}
-use Rattle.catalogue_record.specs.Order.RefusedAt.{room, past}
 use Rattle.catalogue.proofs.Starts.{record-read}
 use Rattle.catalogue.proofs.read_record.Statement.{statement}
 use Rattle.catalogue.proofs.read_record.Tie as tie
 
 returns : tie.Need-returns
-returns c = (room refl (c .if1 .taken), refl)
+returns c = (inl (inl (refl, c .if1 .taken)), refl)
 
 returns-2 : tie.Need-returns-2
-returns-2 c = (past refl (search needs) (c .if2 .taken), refl)
+returns-2 c = (inl (inr (search needs, (refl, λ h. omega (arith, c .if2 .taken)))), refl)
 
 returns-3 : tie.Need-returns-3
 returns-3 c = search needs

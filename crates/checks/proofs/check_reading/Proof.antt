@@ -1,12 +1,11 @@
 -- `checks::check_reading` meets its contract: what the numbers' check answers, and then the scan settles the sectors.
 -- Assumes nothing.
 use mathlib.Core.Path.{refl}
+use mathlib.Core.Logic.{inl, inr}
 use lib.ListN.{length}
 use borrow.Author.Needs.{needs}
 use Rattle.checks.proofs.Sectors.{reading-bad, reading-good}
-use Rattle.refusal.proofs.More.{more-sectors, numbers-good}
-use Rattle.refusal.specs.Order.Given.{sector}
-use Rattle.refusal.specs.Calls.{oneReading}
+use Rattle.refusal.proofs.More.{numbers-refused, numbers-passed}
 use Rattle.checks.proofs.check_reading.Statement.{statement}
 use Rattle.checks.proofs.check_reading.Tie as tie
 
@@ -25,18 +24,18 @@ first-bad-requires c κs = search needs
 returns : tie.Need-returns
 returns c =
     let a = c .before .before .before .before .before .before .args in
-    let g = numbers-good (oneReading (a .s .now) (a .k)) (length (a .s .now)) (λ q. tt) (rw (c .before .before .enum-told .given .1) at (c .before .before .before .before .check-numbers .ensures)) in
-    sector _ refl g (reading-bad _ _ _ (c .before .first-bad .ensures) (c .if1 .taken))
+    let g = numbers-passed (length (a .s .now)) (length (a .s .now)) (a .k) Unit (λ q. tt) (rw (c .before .before .enum-told .given .1) at (c .before .before .before .before .check-numbers .ensures)) in
+    inl (inl (inl (inr (g, (_, refl, reading-bad _ _ _ (c .before .first-bad .ensures) (c .if1 .taken))))))
 
 returns-2 : tie.Need-returns-2
 returns-2 c =
     let a = c .before .before .before .before .before .args in
-    more-sectors (oneReading (a .s .now) (a .k)) (length (a .s .now)) (λ q. refl) (λ q. tt) (c .before .r .given .0 .0) (rw (c .before .r .given .1) at (c .before .before .before .check-numbers .ensures))
+    inl (inl (inl (inl (numbers-refused (length (a .s .now)) (length (a .s .now)) (a .k) Unit (λ q. refl) (λ q. tt) (c .before .r .given .0 .0) (rw (c .before .r .given .1) at (c .before .before .before .check-numbers .ensures))))))
 
 returns-3 : tie.Need-returns-3
 returns-3 c =
     let a = c .before .before .before .before .before .before .args in
-    let g = numbers-good (oneReading (a .s .now) (a .k)) (length (a .s .now)) (λ q. tt) (rw (c .before .before .enum-told .given .1) at (c .before .before .before .before .check-numbers .ensures)) in
+    let g = numbers-passed (length (a .s .now)) (length (a .s .now)) (a .k) Unit (λ q. tt) (rw (c .before .before .enum-told .given .1) at (c .before .before .before .before .check-numbers .ensures)) in
     ((((g, reading-good _ _ _ (c .before .first-bad .ensures) (c .if1 .left)), tt), tt), refl)
 
 pub check-reading-spec : {M : Type 1} → statement M

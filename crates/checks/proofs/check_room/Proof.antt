@@ -1,8 +1,8 @@
 -- `checks::check_room` meets its contract: what the reading's check answers, and then the room.
 -- Assumes nothing.
 use mathlib.Core.Path.{refl}
+use mathlib.Core.Logic.{inl, inr}
 use borrow.Author.Needs.{needs}
-use Rattle.refusal.specs.Order.Given.{room}
 use Rattle.refusal.specs.Calls.{withRoom}
 use Rattle.refusal.proofs.More.{more-room}
 use Rattle.checks.proofs.check_room.Statement.{statement}
@@ -18,12 +18,12 @@ enum-told : tie.Need-enum-told
 enum-told c = search needs
 
 returns : tie.Need-returns
-returns c = let g = rw (c .before .enum-told .given .1) at (c .before .before .before .check-reading .ensures) in room refl (g .0 .0 .0) (c .if1 .taken)
+returns c = let g = rw (c .before .enum-told .given .1) at (c .before .before .before .check-reading .ensures) in inl (inl (inr (g .0 .0 .0, (refl, c .if1 .taken))))
 
 returns-2 : tie.Need-returns-2
 returns-2 c =
     let a = c .before .before .before .before .before .args in
-    more-room (withRoom (a .s .now) (a .k) (a .room)) (c .before .r .given .0 .0) (rw (c .before .r .given .1) at (c .before .before .before .check-reading .ensures))
+    more-room (a .s .now) (a .k) (a .room) (c .before .r .given .0 .0) (rw (c .before .r .given .1) at (c .before .before .before .check-reading .ensures))
 
 returns-3 : tie.Need-returns-3
 returns-3 c = let g = rw (c .before .enum-told .given .1) at (c .before .before .before .check-reading .ensures) in (((g .0 .0 .0, c .if1 .left), tt), refl)

@@ -1,24 +1,24 @@
 -- `checks_inner::check_numbers` meets its contract: at each refusal the tests passed so far are the reason. Assumes nothing.
 use mathlib.Core.Path.{refl}
+use mathlib.Core.Logic.{inl, inr}
 use borrow.Author.Needs.{needs}
-use Rattle.refusal.specs.Order.Given.{size, pair, shades}
 use Rattle.checks_inner.proofs.check_numbers.Statement.{statement}
 use Rattle.checks_inner.proofs.check_numbers.Tie as tie
 
 returns : tie.Need-returns
-returns c = size refl (search needs)
+returns c = inl (inl (inl (inl (inl (inl (refl, search needs))))))
 
 returns-2 : tie.Need-returns-2
-returns-2 c = size refl (search needs)
+returns-2 c = inl (inl (inl (inl (inl (inl (refl, search needs))))))
 
 returns-3 : tie.Need-returns-3
-returns-3 c = pair refl (search needs) (search needs)
+returns-3 c = inl (inl (inl (inl (inl (inr (search needs, (refl, search needs)))))))
 
 returns-4 : tie.Need-returns-4
-returns-4 c = shades refl (search needs) (search needs)
+returns-4 c = inl (inl (inl (inl (inr (search needs, (refl, search needs))))))
 
 returns-5 : tie.Need-returns-5
-returns-5 c = shades refl (search needs) (search needs)
+returns-5 c = inl (inl (inl (inl (inr (search needs, (refl, search needs))))))
 
 returns-6 : tie.Need-returns-6
 returns-6 c = search needs

@@ -1,11 +1,10 @@
 -- `count_checks::check_next` meets its contract: what the check of reading and room answers, and then the counts.
 -- Assumes nothing.
 use mathlib.Core.Path.{refl}
+use mathlib.Core.Logic.{inl, inr}
 use borrow.Author.Needs.{needs}
 use borrow.Author.Tests.{not-true, not-false}
 use Rattle.refusal.proofs.More.{more-counts}
-use Rattle.refusal.specs.Order.Given.{counts}
-use Rattle.refusal.specs.Calls.{countedNext}
 use Rattle.count_checks.proofs.check_next.Statement.{statement}
 use Rattle.count_checks.proofs.check_next.Tie as tie
 
@@ -24,12 +23,12 @@ counts-fit-requires c κs = search needs
 returns : tie.Need-returns
 returns c =
     let g = (rw (c .before .before .enum-told .given .1) at (c .before .before .before .before .check-room .ensures)) in
-    counts refl (g .0 .0) (rw (not-true (c .before .counts-fit .result) (c .if1 .taken)) at (c .before .counts-fit .ensures))
+    inl (inr (g .0 .0, (refl, rw (not-true (c .before .counts-fit .result) (c .if1 .taken)) at (c .before .counts-fit .ensures))))
 
 returns-2 : tie.Need-returns-2
 returns-2 c =
     let a = c .before .before .before .before .before .before .args in
-    more-counts (countedNext (a .s .now) (a .k) (a .room) (a .counts .now)) (c .before .r .given .0 .0) (rw (c .before .r .given .1) at (c .before .before .before .check-room .ensures))
+    more-counts (a .s .now) (a .k) (a .room) (a .counts .now) (c .before .r .given .0 .0) (rw (c .before .r .given .1) at (c .before .before .before .check-room .ensures))
 
 returns-3 : tie.Need-returns-3
 returns-3 c =

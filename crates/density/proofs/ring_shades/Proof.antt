@@ -1,35 +1,36 @@
 -- `density::ring_shades` meets its contract: the numbers, the card, the output, each value, and only then a byte is written. Assumes nothing.
 use mathlib.Core.Path.{_≡_, refl, sym, _∙_}
 use mathlib.Core.Bool.{true}
+use mathlib.Core.Logic.{inl, inr}
 use native.Mathlib.Omega.{arith}
 use borrow.Author.Needs.{needs}
 use borrow.Author.Tests.{not-true, not-false}
-use Rattle.density_answers.specs.Order.{shades, card, size, sector, room, unreadable}
+use Rattle.words.proofs.Split.{clash}
 use Rattle.density.proofs.ring_shades.Statement.{statement}
 use Rattle.density.proofs.ring_shades.Tie as tie
 
 returns : tie.Need-returns
-returns c = (size refl (λ s. absurd (omega (arith, s .0))), refl)
+returns c = (inl (inl (inl (refl, λ s. absurd (omega (arith, s .0))))), refl)
 
 returns-2 : tie.Need-returns-2
-returns-2 c = (size refl (λ s. absurd (omega (arith, s .1))), refl)
+returns-2 c = (inl (inl (inl (refl, λ s. absurd (omega (arith, s .1))))), refl)
 
 returns-3 : tie.Need-returns-3
-returns-3 c = (sector (omega arith, omega arith) (shades refl (λ s. absurd (omega (arith, s .0)))), refl)
+returns-3 c = (inl (inl (inr ((omega arith, omega arith), inl (refl, λ s. absurd (omega (arith, s .0)))))), refl)
 
 returns-4 : tie.Need-returns-4
-returns-4 c = (sector (omega arith, omega arith) (shades refl (λ s. absurd (omega (arith, s .1)))), refl)
+returns-4 c = (inl (inl (inr ((omega arith, omega arith), inl (refl, λ s. absurd (omega (arith, s .1)))))), refl)
 
 is-good-requires : tie.Need-is-good-requires
 is-good-requires c κs = search needs
 
 returns-5 : tie.Need-returns-5
-returns-5 c = (sector (omega arith, omega arith) (card refl (omega arith, omega arith) (sym (c .before .is-good .ensures) ∙ not-true _ (c .if5 .taken))), refl)
+returns-5 c = (inl (inl (inr ((omega arith, omega arith), inr ((omega arith, omega arith), (refl, λ g. clash _ (c .before .is-good .ensures ∙ g) (not-true _ (c .if5 .taken))))))), refl)
 
 returns-6 : tie.Need-returns-6
 returns-6 c =
     let good : _ ≡ true = sym (c .before .before .is-good .ensures) ∙ not-false _ (c .before .if5 .left) in
-    (room refl ((omega arith, omega arith), ((omega arith, omega arith), good)) (c .if6 .taken), refl)
+    (inl (inr (((omega arith, omega arith), ((omega arith, omega arith), good)), (refl, c .if6 .taken))), refl)
 
 cast-shades : tie.Need-cast-shades
 cast-shades c = search needs
@@ -41,7 +42,7 @@ returns-7 : tie.Need-returns-7
 returns-7 c =
     let good : _ ≡ true = sym (c .before .before .before .before .is-good .ensures) ∙ not-false _ (c .before .before .before .if5 .left) in
     let s = c .before .first-unreadable .ensures in
-    (unreadable _ refl (((omega arith, omega arith), ((omega arith, omega arith), good)), omega arith) (record { within = c .if7 .taken; first = s .before; here = s .here (c .if7 .taken) }), refl)
+    (inr ((((omega arith, omega arith), ((omega arith, omega arith), good)), omega arith), (_, refl, record { within = c .if7 .taken; first = s .before; here = s .here (c .if7 .taken) })), refl)
 
 write-shades-requires : tie.Need-write-shades-requires
 write-shades-requires c κs = let s = c .before .before .first-unreadable .ensures in ((omega arith, omega arith), (λ i h. s .before i (omega arith)), omega arith)

@@ -1,24 +1,25 @@
 -- `density::sector_shade` meets its contract: the shades, the card, then what the value tells. Assumes nothing.
 use mathlib.Core.Path.{_≡_, refl, sym, _∙_}
 use mathlib.Core.Bool.{true}
+use mathlib.Core.Logic.{inl, inr}
 use native.Mathlib.Omega.{arith}
 use borrow.Author.Needs.{needs}
 use borrow.Author.Tests.{not-true, not-false}
-use Rattle.density_answers.specs.Order.{shades, card}
+use Rattle.words.proofs.Split.{clash}
 use Rattle.density.proofs.sector_shade.Statement.{statement}
 use Rattle.density.proofs.sector_shade.Tie as tie
 
 returns : tie.Need-returns
-returns c = shades refl (λ s. absurd (omega (arith, s .0)))
+returns c = inl (refl, λ s. absurd (omega (arith, s .0)))
 
 returns-2 : tie.Need-returns-2
-returns-2 c = shades refl (λ s. absurd (omega (arith, s .1)))
+returns-2 c = inl (refl, λ s. absurd (omega (arith, s .1)))
 
 is-good-requires : tie.Need-is-good-requires
 is-good-requires c κs = search needs
 
 returns-3 : tie.Need-returns-3
-returns-3 c = card refl (omega arith, omega arith) (sym (c .before .is-good .ensures) ∙ not-true _ (c .if3 .taken))
+returns-3 c = inr ((omega arith, omega arith), (refl, λ g. clash _ (c .before .is-good .ensures ∙ g) (not-true _ (c .if3 .taken))))
 
 cast-read : tie.Need-cast-read
 cast-read c = search needs

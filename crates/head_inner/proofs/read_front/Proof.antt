@@ -1,7 +1,7 @@
 -- `head_inner::read_front` meets its contract: what the check of the rest answers, or the record. Assumes nothing.
 use mathlib.Core.Path.{refl}
 use Rattle.catalogue_record.specs.declared.Kind.the-variants.{Front}
-use Rattle.catalogue_record.specs.Order.Broken.{faulty}
+use Rattle.catalogue_record.proofs.Forms.{behind-given}
 use borrow.Author.Needs.{needs}
 use Rattle.head_inner.proofs.read_front.Statement.{statement}
 use Rattle.head_inner.proofs.read_front.Tie as tie
@@ -19,7 +19,9 @@ read-good-requires : tie.Need-read-good-requires
 read-good-requires c κs = let p = c .before .before .before .before .before .before .pre in (p .0, p .1, rw (c .before .enum-told .given .1) at (c .before .before .before .check-rest .ensures), p .3)
 
 returns : tie.Need-returns
-returns c = let p = c .before .before .before .before .before .before .pre in (faulty Front (p .2) (p .3) (rw (c .before .r .given .1) at (c .before .before .before .check-rest .ensures)), refl)
+returns c =
+    let e = c .before .before .before .before .before .before in
+    (behind-given Front (e .args .rest .now) (e .args .start) (e .pre .3) (c .before .r .given .0 .0) (e .pre .2) (rw (c .before .r .given .1) at (c .before .before .before .check-rest .ensures)), refl)
 
 same-length : tie.Need-same-length
 same-length c = search needs

@@ -40,7 +40,7 @@ same-length : tie.Need-same-length
 same-length c = search needs
 
 returns : tie.Need-returns
-returns c = let a = c .before .before .before .before .before .before .before .before .before .args in record { good = c .before .before .before .before .before .before .before .before .before .pre .2; marked = c .before .before .before .before .before .before .before .before .before .pre .3; sectors = refl; shades = refl; follows = omega arith; ring = copied-ring (a .rest .now) (a .out .now) _ _ refl (c .before .before .before .before .before .before .before .before .before .pre .2 .0 .0 .1) (c .before .before .copy .ensures .1) }
+returns c = let a = c .before .before .before .before .before .before .before .before .before .args in record { good = c .before .before .before .before .before .before .before .before .before .pre .2; marked = c .before .before .before .before .before .before .before .before .before .pre .3; sectors = refl; shades = refl; follows = omega arith; ring = copied-ring (a .rest .now) (a .out .now) _ _ refl (c .before .before .before .before .before .before .before .before .before .pre .2 .0 .1) (c .before .before .copy .ensures .1) }
 
 pub read-good-spec : {M : Type 1} → statement M
 read-good-spec =

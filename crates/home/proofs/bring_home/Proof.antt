@@ -4,7 +4,7 @@ use native.Mathlib.Omega.{arith}
 use lib.ListN.{length}
 use borrow.Author.Needs.{needs}
 use Rattle.home.proofs.Answers.{passed-pos, passed-room, shift-fits, turned-home}
-use Rattle.refusal.specs.Calls.{withRoom}
+use Rattle.refusal.specs.Calls.{askRoom}
 use Rattle.home.proofs.bring_home.Statement.{statement}
 use Rattle.home.proofs.bring_home.Tie as tie
 
@@ -18,16 +18,16 @@ enum-told : tie.Need-enum-told
 enum-told c = search needs
 
 least-shift-requires : tie.Need-least-shift-requires
-least-shift-requires c κs = let a = c .before .before .before .before .before .args in passed-pos (withRoom (a .s .now) (a .k) (length (a .out .now))) (rw (c .enum-told .given .1) at (c .before .before .check-room .ensures))
+least-shift-requires c κs = let a = c .before .before .before .before .before .args in passed-pos (askRoom (a .s .now) (a .k) (length (a .out .now))) (rw (c .enum-told .given .1) at (c .before .before .check-room .ensures))
 
 period-of-requires : tie.Need-period-of-requires
-period-of-requires c κs = let a = c .before .before .before .before .before .before .args in passed-pos (withRoom (a .s .now) (a .k) (length (a .out .now))) (rw (c .before .enum-told .given .1) at (c .before .before .before .check-room .ensures))
+period-of-requires c κs = let a = c .before .before .before .before .before .before .args in passed-pos (askRoom (a .s .now) (a .k) (length (a .out .now))) (rw (c .before .enum-told .given .1) at (c .before .before .before .check-room .ensures))
 
 write-turn-requires : tie.Need-write-turn-requires
 write-turn-requires c κs =
     let a = c .before .before .before .before .before .before .before .before .args in
     let g = rw (c .before .before .before .enum-told .given .1) at (c .before .before .before .before .before .check-room .ensures) in
-    let z = passed-pos (withRoom (a .s .now) (a .k) (length (a .out .now))) g in
+    let z = passed-pos (askRoom (a .s .now) (a .k) (length (a .out .now))) g in
     omega (arith, shift-fits (a .s .now) (c .before .before .least-shift .result) z (c .before .before .least-shift .ensures), passed-room (a .s .now) (a .k) (length (a .out .now)) g)
 
 returns : tie.Need-returns

@@ -3,7 +3,7 @@ use mathlib.Core.Path.{_∙_, sym}
 use native.Mathlib.Omega.{arith}
 use borrow.Author.Needs.{needs}
 use Rattle.home.proofs.Answers.{passed-pos, passed-pair, shift-fits, same-turned}
-use Rattle.refusal.specs.Calls.{twoReadings}
+use Rattle.refusal.specs.Calls.{askTwo}
 use Rattle.home.proofs.same_ring.Statement.{statement}
 use Rattle.home.proofs.same_ring.Tie as tie
 
@@ -17,19 +17,19 @@ enum-told : tie.Need-enum-told
 enum-told c = search needs
 
 least-shift-requires : tie.Need-least-shift-requires
-least-shift-requires c κs = let a = c .before .before .before .before .before .args in passed-pos (twoReadings (a .a .now) (a .b .now) (a .k)) (rw (c .enum-told .given .1) at (c .before .before .check-pair .ensures))
+least-shift-requires c κs = let a = c .before .before .before .before .before .args in passed-pos (askTwo (a .a .now) (a .b .now) (a .k)) (rw (c .enum-told .given .1) at (c .before .before .check-pair .ensures))
 
 least-shift-requires-2 : tie.Need-least-shift-requires-2
 least-shift-requires-2 c κs =
     let a = c .before .before .before .before .before .before .args in
     let g = rw (c .before .enum-told .given .1) at (c .before .before .before .check-pair .ensures) in
-    omega (arith, passed-pair (a .a .now) (a .b .now) (a .k) g, passed-pos (twoReadings (a .a .now) (a .b .now) (a .k)) g)
+    omega (arith, passed-pair (a .a .now) (a .b .now) (a .k) g, passed-pos (askTwo (a .a .now) (a .b .now) (a .k)) g)
 
 same-turns-requires : tie.Need-same-turns-requires
 same-turns-requires c κs =
     let a = c .before .before .before .before .before .before .before .args in
     let g = rw (c .before .before .enum-told .given .1) at (c .before .before .before .before .check-pair .ensures) in
-    let z = passed-pos (twoReadings (a .a .now) (a .b .now) (a .k)) g in
+    let z = passed-pos (askTwo (a .a .now) (a .b .now) (a .k)) g in
     let e = passed-pair (a .a .now) (a .b .now) (a .k) g in
     omega (arith, shift-fits (a .a .now) (c .before .least-shift .result) z (c .before .least-shift .ensures), shift-fits (a .b .now) (c .least-shift2 .result) (omega arith) (c .least-shift2 .ensures))
 

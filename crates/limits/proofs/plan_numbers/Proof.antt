@@ -1,29 +1,30 @@
 -- `limits::plan_numbers` meets its contract. Assumes nothing.
 use Prim.Native.Nat.{_^_}
 use mathlib.Core.Path.{_∙_, sym, refl}
+use mathlib.Core.Logic.{inl, inr}
+use native.Mathlib.Omega.{arith}
 use borrow.Author.Needs.{needs}
 use borrow.Author.Tests.{ltb-true, ltb-false}
-use Rattle.limits.specs.Limits.{size, shades, many}
 use Rattle.limits.proofs.plan_numbers.Statement.{statement}
 use Rattle.limits.proofs.plan_numbers.Tie as tie
 
 returns : tie.Need-returns
-returns c = size refl (search needs)
+returns c = inl (inl (refl, search needs))
 
 returns-2 : tie.Need-returns-2
-returns-2 c = size refl (search needs)
+returns-2 c = inl (inl (refl, search needs))
 
 returns-3 : tie.Need-returns-3
-returns-3 c = shades refl (search needs) (search needs)
+returns-3 c = inl (inr (search needs, (refl, search needs)))
 
 returns-4 : tie.Need-returns-4
-returns-4 c = shades refl (search needs) (search needs)
+returns-4 c = inl (inr (search needs, (refl, search needs)))
 
 power-above-requires : tie.Need-power-above-requires
 power-above-requires c κs = search needs
 
 returns-5 : tie.Need-returns-5
-returns-5 c = let a = c .before .before .before .before .before .before .args in many refl (search needs) (search needs) (ltb-true (a .limit) (a .k ^ a .n) (sym (c .before .power-above .ensures) ∙ c .if5 .taken))
+returns-5 c = let a = c .before .before .before .before .before .before .args in inr ((search needs, search needs), (refl, λ h. omega (arith, ltb-true (a .limit) (a .k ^ a .n) (sym (c .before .power-above .ensures) ∙ c .if5 .taken))))
 
 returns-6 : tie.Need-returns-6
 returns-6 c = let a = c .before .before .before .before .before .before .args in (refl, refl, record { sized = search needs; shaded = search needs; few = ltb-false (a .limit) (a .k ^ a .n) (sym (c .before .power-above .ensures) ∙ c .if5 .left) })

@@ -1,6 +1,7 @@
 -- `old_inner::check_old` meets its contract: a cut head, an unknown mark, or what the check of the rest answers. Assumes nothing.
 use mathlib.Core.Path.{refl}
-use Rattle.old_record.specs.Reads.OldBroken.{head, mark}
+use mathlib.Core.Logic.{inl, inr}
+use native.Mathlib.Omega.{arith}
 use Rattle.old_record.specs.Sides.Side.{front, back}
 use Rattle.old_inner.proofs.Marks.{unknown, rest-checked}
 use borrow.Author.Needs.{needs}
@@ -8,13 +9,13 @@ use Rattle.old_inner.proofs.check_old.Statement.{statement}
 use Rattle.old_inner.proofs.check_old.Tie as tie
 
 returns : tie.Need-returns
-returns c = head refl (c .if1 .taken)
+returns c = inl (inl (refl, λ h. omega (arith, c .if1 .taken)))
 
 shared-slice-read-if2 : tie.Need-shared-slice-read-if2
 shared-slice-read-if2 c = search needs
 
 returns-2 : tie.Need-returns-2
-returns-2 c = mark refl (search needs) (λ x m. c .if2 .taken (m .0))
+returns-2 c = inl (inr (search needs, (refl, λ k. c .if2 .taken (k .1 .0))))
 
 shared-slice-read-if3 : tie.Need-shared-slice-read-if3
 shared-slice-read-if3 c = search needs
@@ -35,7 +36,9 @@ returns-4 : tie.Need-returns-4
 returns-4 c = let a = c .before .before .before .before .before .before .before .before .before .args in rest-checked (a .rest .now) (a .start) back (c .check-rest2 .result) (search needs) (c .before .before .before .before .before .if2 .left, c .before .if4 .taken) (c .check-rest2 .ensures)
 
 returns-5 : tie.Need-returns-5
-returns-5 c = mark refl (search needs) (unknown (c .before .before .before .before .before .before .before .before .args .rest .now) (c .before .before .if3 .left) (c .if4 .left))
+returns-5 c =
+    let t = c .before .before .before .before .before .before .before .before .args .rest .now in
+    inl (inr (search needs, (refl, λ k. unknown t (c .before .before .if3 .left) (c .if4 .left) (k .0) (k .1))))
 
 pub check-old-spec : {M : Type 1} → statement M
 check-old-spec =

@@ -1,7 +1,7 @@
 -- `packed_record_inner::check_packed` meets its contract: what the check of n and k answers, cut bytes, or what their check answers. Assumes nothing.
 use mathlib.Core.Path.{refl}
+use mathlib.Core.Logic.{inl}
 use native.Mathlib.Omega.{arith}
-use Rattle.catalogue_record.specs.declared.Kind.the-variants.{Packed}
 use Rattle.packing_laws.proofs.Width.{narrow}
 use Rattle.packed_record_inner.proofs.Behind.{length-told, few, is-cut, part-long, bytes-checked}
 use borrow.Author.Needs.{needs}
@@ -54,7 +54,7 @@ check-packed-body-requires : tie.Need-check-packed-body-requires
 check-packed-body-requires c κs = let g = rw (c .before .before .before .before .before .before .enum-told .given .1) at (c .before .before .before .before .before .before .before .before .check-counts .ensures) in let p = c .before .before .before .before .before .before .before .before .before .before .pre in let l = part-long (c .before .before .before .before .before .before .before .before .before .before .args .rest .now) (c .before .before .before .before .before .before .before .before .before .before .args .start) _ _ g (c .before .before .before .width-of .ensures) (c .before .before .packed-length .ensures) (c .before .if1 .left) _ refl in (omega (arith, p .0, l, c .before .if1 .left, few (c .before .before .before .before .before .before .before .before .before .before .args .rest .now) (c .before .before .before .before .before .before .before .before .before .before .args .start) _ _ g (c .before .before .before .width-of .ensures) (c .before .before .packed-length .ensures), length-told (c .before .before .before .before .before .before .before .before .before .before .args .rest .now) (c .before .before .before .before .before .before .before .before .before .before .args .start) _ _ g (c .before .before .before .width-of .ensures) (c .before .before .packed-length .ensures)), g .0, g .1, l)
 
 returns-2 : tie.Need-returns-2
-returns-2 c = (rw (c .before .r .given .1) at (c .before .before .before .check-counts .ensures)) Packed
+returns-2 c = inl (inl (rw (c .before .r .given .1) at (c .before .before .before .check-counts .ensures)))
 
 returns-3 : tie.Need-returns-3
 returns-3 c = let g = rw (c .before .before .before .before .before .before .before .enum-told .given .1) at (c .before .before .before .before .before .before .before .before .before .check-counts .ensures) in bytes-checked (c .before .before .before .before .before .before .before .before .before .before .before .args .rest .now) (c .before .before .before .before .before .before .before .before .before .before .before .args .start) _ _ g (c .before .before .before .before .width-of .ensures) (c .before .before .before .packed-length .ensures) (c .before .before .if1 .left) _ (c .check-packed-body .result) refl (c .check-packed-body .ensures)

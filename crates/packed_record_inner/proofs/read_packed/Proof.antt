@@ -1,7 +1,7 @@
 -- `packed_record_inner::read_packed` meets its contract: what the checks answer, or the record. Assumes nothing.
 use mathlib.Core.Path.{refl}
 use Rattle.catalogue_record.specs.declared.Kind.the-variants.{Packed}
-use Rattle.catalogue_record.specs.Order.Broken.{faulty}
+use Rattle.catalogue_record.proofs.Forms.{behind-given}
 use borrow.Author.Needs.{needs}
 use Rattle.packed_record_inner.proofs.read_packed.Statement.{statement}
 use Rattle.packed_record_inner.proofs.read_packed.Tie as tie
@@ -19,7 +19,9 @@ unpack-good-requires : tie.Need-unpack-good-requires
 unpack-good-requires c κs = let p = c .before .before .before .before .before .before .pre in (p .0, p .1, rw (c .before .enum-told .given .1) at (c .before .before .before .check-packed .ensures), p .3)
 
 returns : tie.Need-returns
-returns c = let p = c .before .before .before .before .before .before .pre in (faulty Packed (p .2) (p .3) (rw (c .before .r .given .1) at (c .before .before .before .check-packed .ensures)), refl)
+returns c =
+    let e = c .before .before .before .before .before .before in
+    (behind-given Packed (e .args .rest .now) (e .args .start) (e .pre .3) (c .before .r .given .0 .0) (e .pre .2) (rw (c .before .r .given .1) at (c .before .before .before .check-packed .ensures)), refl)
 
 same-length : tie.Need-same-length
 same-length c = search needs

@@ -1,7 +1,7 @@
 -- `record_inner::check_counts` meets its contract: what the check of n and k answers. Assumes nothing.
 use mathlib.Core.Path.{_∙_, sym, refl}
+use mathlib.Core.Logic.{inl, inr}
 use native.Mathlib.Omega.{arith}
-use Rattle.catalogue_record.specs.Order.Faulty.{size, shades}
 use Rattle.record_inner.proofs.Heads.{bad-length, bad-shades}
 use borrow.Author.Needs.{needs}
 use Rattle.record_inner.proofs.check_counts.Statement.{statement}
@@ -33,7 +33,7 @@ add-t13 : tie.Need-add-t13
 add-t13 c = search needs
 
 returns : tie.Need-returns
-returns c = λ x. size refl (bad-length _ _ (c .before .before .before .r .given .0 .0) (rw (c .before .before .before .r .given .1) at (c .before .before .before .before .before .check-numbers .ensures)) (sym (c .before .number .ensures) ∙ c .if1 .taken))
+returns c = inl (refl, bad-length _ _ (c .before .before .before .r .given .0 .0) (rw (c .before .before .before .r .given .1) at (c .before .before .before .before .before .check-numbers .ensures)) (sym (c .before .number .ensures) ∙ c .if1 .taken))
 
 add-t11 : tie.Need-add-t11
 add-t11 c = search needs
@@ -42,7 +42,7 @@ enum-told : tie.Need-enum-told
 enum-told c = search needs
 
 returns-2 : tie.Need-returns-2
-returns-2 c = λ x. let f = bad-shades _ _ (c .before .before .before .r .given .0 .0) (rw (c .before .before .before .r .given .1) at (c .before .before .before .before .before .check-numbers .ensures)) (λ e. c .if1 .left (c .before .number .ensures ∙ e)) in shades refl (f .0) (f .1)
+returns-2 c = let f = bad-shades _ _ (c .before .before .before .r .given .0 .0) (rw (c .before .before .before .r .given .1) at (c .before .before .before .before .before .check-numbers .ensures)) (λ e. c .if1 .left (c .before .number .ensures ∙ e)) in inr (f .0, (refl, f .1))
 
 returns-3 : tie.Need-returns-3
 returns-3 c = let g = rw (c .enum-told .given .1) at (c .before .before .check-numbers .ensures) in (g .0 .0 .0 .0 .0 .0, g .0 .0 .0 .0 .1)

@@ -1,9 +1,8 @@
 -- `record_inner::check_rest` meets its contract: what the check of n and k answers, a cut body, or what the check of the sectors answers. Assumes nothing.
 use mathlib.Core.Path.{refl}
+use mathlib.Core.Logic.{inl, inr}
 use native.Mathlib.Omega.{arith}
 use lib.ListN.{length-take, length-drop}
-use Rattle.catalogue_record.specs.declared.Kind.the-variants.{Front}
-use Rattle.catalogue_record.specs.Order.Faulty.{body}
 use Rattle.record_inner.proofs.Heads.{body-checked}
 use borrow.Author.Needs.{needs}
 use Rattle.record_inner.proofs.check_rest.Statement.{statement}
@@ -34,7 +33,7 @@ add-e : tie.Need-add-e
 add-e c = omega (arith, c .before .shared-slice-known2 .given 2)
 
 returns : tie.Need-returns
-returns c = body refl (rw (c .before .before .before .enum-told .given .1) at (c .before .before .before .before .before .check-counts .ensures)) (c .if1 .taken)
+returns c = inl (inr (rw (c .before .before .before .enum-told .given .1) at (c .before .before .before .before .before .check-counts .ensures), (refl, λ h. omega (arith, c .if1 .taken))))
 
 sub-check-body : tie.Need-sub-check-body
 sub-check-body c = search needs
@@ -49,7 +48,7 @@ check-body-requires : tie.Need-check-body-requires
 check-body-requires c κs = let g = rw (c .before .before .before .before .enum-told .given .1) at (c .before .before .before .before .before .before .check-counts .ensures) in let n = g .0 in let k = g .1 in let p = c .before .before .before .before .before .before .before .before .pre in simp (length-take, length-drop) (omega (arith, c .before .if1 .left))
 
 returns-2 : tie.Need-returns-2
-returns-2 c = (rw (c .before .r .given .1) at (c .before .before .before .check-counts .ensures)) Front
+returns-2 c = inl (inl (rw (c .before .r .given .1) at (c .before .before .before .check-counts .ensures)))
 
 returns-3 : tie.Need-returns-3
 returns-3 c = let a = c .before .before .before .before .before .before .before .before .before .args in let g = rw (c .before .before .before .before .before .enum-told .given .1) at (c .before .before .before .before .before .before .before .check-counts .ensures) in body-checked (a .rest .now) (a .start) _ (c .check-body .result) refl (g, c .before .before .if1 .left) (c .check-body .ensures)

@@ -1,6 +1,6 @@
 -- `set_checks_inner::check_set` meets its contract. Assumes nothing.
 use mathlib.Core.Path.{refl}
-use Rattle.set_answers.specs.Order.{long, numbers}
+use mathlib.Core.Logic.{inl, inr}
 use Rattle.set_checks_inner.proofs.Checks.{distance-says}
 use native.Mathlib.Omega.{arith}
 use borrow.Author.Needs.{needs}
@@ -8,7 +8,7 @@ use Rattle.set_checks_inner.proofs.check_set.Statement.{statement}
 use Rattle.set_checks_inner.proofs.check_set.Tie as tie
 
 returns : tie.Need-returns
-returns c = long refl (omega (arith, c .if1 .taken))
+returns c = inl (inl (refl, λ h. omega (arith, c .if1 .taken)))
 
 plan-numbers-requires : tie.Need-plan-numbers-requires
 plan-numbers-requires c κs = search needs
@@ -23,7 +23,7 @@ check-distance-requires : tie.Need-check-distance-requires
 check-distance-requires c κs = search needs
 
 returns-2 : tie.Need-returns-2
-returns-2 c = numbers (omega (arith, c .before .before .before .before .if1 .left)) (rw (c .before .r .given .1) at (c .before .before .before .plan-numbers .ensures))
+returns-2 c = inl (inr (omega (arith, c .before .before .before .before .if1 .left), rw (c .before .r .given .1) at (c .before .before .before .plan-numbers .ensures)))
 
 returns-3 : tie.Need-returns-3
 returns-3 c = let a = c .before .before .before .before .before .args in let g = c .before .enum-told .given in distance-says (a .n) (a .k) (a .d) (a .wanted) (g .0 .0) (g .0 .1 .0) (c .check-distance .result) (omega (arith, c .before .before .before .before .if1 .left)) (rw (g .1) at (c .before .before .before .plan-numbers .ensures)) (c .check-distance .ensures)

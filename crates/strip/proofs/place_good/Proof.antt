@@ -1,10 +1,11 @@
 -- `strip::place_good` meets its contract: the power, and then the place. Assumes nothing.
+use Prim.Native.Nat.{_^_}
 use mathlib.Core.Path.{_≡_, refl, sym, _∙_}
 use native.Mathlib.Omega.{arith}
 use lib.ListN.{length, length-take}
 use borrow.Author.Tests.{ltb-true}
 use borrow.Author.Needs.{needs}
-use Rattle.strip.specs.Says.{many}
+use mathlib.Core.Logic.{inr}
 use Rattle.strip.proofs.Telling.{passed-listable}
 use Rattle.strip.proofs.place_good.Statement.{statement}
 use Rattle.strip.proofs.place_good.Tie as tie
@@ -13,7 +14,9 @@ power-above-requires : tie.Need-power-above-requires
 power-above-requires c κs = search needs
 
 returns : tie.Need-returns
-returns c = many refl (c .before .before .before .pre) (ltb-true _ _ (sym (c .before .power-above .ensures) ∙ c .if1 .taken))
+returns c =
+    let g = c .before .before .before in
+    inr (g .pre, (refl, λ h. omega (arith, ltb-true 4096 (g .args .k ^ length (g .args .reading .now)) (sym (c .before .power-above .ensures) ∙ c .if1 .taken))))
 
 power-requires : tie.Need-power-requires
 power-requires c κs =

@@ -1,6 +1,6 @@
 -- `strip::place_of` meets its contract: what the check answers, and then what telling the place answers. Assumes nothing.
 use borrow.Author.Needs.{needs}
-use Rattle.strip.specs.Says.{reading}
+use mathlib.Core.Logic.{inl}
 use Rattle.strip.proofs.place_of.Statement.{statement}
 use Rattle.strip.proofs.place_of.Tie as tie
 
@@ -17,7 +17,7 @@ place-good-requires : tie.Need-place-good-requires
 place-good-requires c κs = rw (c .enum-told .given .1) at (c .before .before .check-reading .ensures)
 
 returns : tie.Need-returns
-returns c = reading (rw (c .before .r .given .1) at (c .before .before .before .check-reading .ensures))
+returns c = inl (rw (c .before .r .given .1) at (c .before .before .before .check-reading .ensures))
 
 returns-2 : tie.Need-returns-2
 returns-2 c = c .place-good .ensures

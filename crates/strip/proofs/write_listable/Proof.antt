@@ -2,7 +2,8 @@
 use mathlib.Core.Path.{_≡_, refl, sym, _∙_}
 use native.Mathlib.Omega.{arith}
 use borrow.Author.Needs.{needs}
-use Rattle.strip.specs.Says.{room}
+use mathlib.Core.Logic.{inr}
+use Rattle.limits.proofs.Unique.{listable-passed}
 use Rattle.strip.proofs.write_listable.Statement.{statement}
 use Rattle.strip.proofs.write_listable.Tie as tie
 
@@ -10,7 +11,7 @@ power-requires : tie.Need-power-requires
 power-requires c κs = (omega (arith, c .before .pre .shaded .0), omega (arith, c .before .pre .few))
 
 returns : tie.Need-returns
-returns c = (room refl (c .before .before .before .pre) (λ e. c .if1 .taken (e ∙ sym (c .before .power .ensures))), refl)
+returns c = (inr (listable-passed _ _ _ (c .before .before .before .pre), (refl, λ e. c .if1 .taken (e ∙ sym (c .before .power .ensures)))), refl)
 
 write-whole-requires : tie.Need-write-whole-requires
 write-whole-requires c κs = (c .before .before .before .before .pre, c .before .if1 .left ∙ c .before .before .power .ensures)

@@ -1,7 +1,7 @@
 -- `strip::write_strip` meets its contract: what the plan of the numbers answers, and then what writing answers. Assumes nothing.
 use mathlib.Core.Path.{_≡_, refl}
 use borrow.Author.Needs.{needs}
-use Rattle.strip.specs.Says.{numbers}
+use mathlib.Core.Logic.{inl}
 use Rattle.strip.proofs.write_strip.Statement.{statement}
 use Rattle.strip.proofs.write_strip.Tie as tie
 
@@ -18,7 +18,7 @@ write-listable-requires : tie.Need-write-listable-requires
 write-listable-requires c κs = (rw (c .before .enum-told .given .1) at (c .before .before .before .plan-numbers .ensures)) .2
 
 returns : tie.Need-returns
-returns c = (numbers (rw (c .before .r .given .1) at (c .before .before .before .plan-numbers .ensures)), refl)
+returns c = (inl (rw (c .before .r .given .1) at (c .before .before .before .plan-numbers .ensures)), refl)
 
 same-length : tie.Need-same-length
 same-length c = search needs

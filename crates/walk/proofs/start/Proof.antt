@@ -1,8 +1,7 @@
 -- `walk::start` meets its contract. Assumes nothing.
 use borrow.Author.Needs.{needs}
 use Rattle.rings.specs.Prenecklace.{prenecklace}
-use Rattle.refusal.specs.Calls.{walkStart}
-use Rattle.refusal.proofs.More.{more-walk}
+use Rattle.refusal.proofs.More.{more-start}
 use Rattle.walk.proofs.start.Statement.{statement}
 use Rattle.walk.proofs.start.Tie as tie
 
@@ -22,7 +21,7 @@ start-good-requires : tie.Need-start-good-requires
 start-good-requires c κs = rw (c .enum-told .given .1) at (c .before .before .check-reading .ensures)
 
 returns : tie.Need-returns
-returns c = (more-walk (walkStart (c .before .before .before .before .before .before .args .s .now) (c .before .before .before .before .before .before .args .k) (prenecklace (c .before .before .before .before .before .before .args .s .now))) (c .before .before .v .given .0 .0) (rw (c .before .before .v .given .1) at (c .before .before .before .before .check-reading .ensures)), c .empty .ensures)
+returns c = (more-start (c .before .before .before .before .before .before .args .s .now) (c .before .before .before .before .before .before .args .k) (prenecklace (c .before .before .before .before .before .before .args .s .now)) (c .before .before .v .given .0 .0) (rw (c .before .before .v .given .1) at (c .before .before .before .before .check-reading .ensures)), c .empty .ensures)
 
 returns-2 : tie.Need-returns-2
 returns-2 c = search needs

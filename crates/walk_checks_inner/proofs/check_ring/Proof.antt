@@ -2,15 +2,14 @@
 -- and the second those past n. Assumes nothing.
 use Prim.Native.Nat.{_-_}
 use mathlib.Core.Path.{_≡_, refl}
+use mathlib.Core.Logic.{inl, inr}
 use native.Mathlib.Omega.{arith}
 use lib.ListN.{length, drop, length-take, length-drop}
 use borrow.Author.Needs.{needs}
 use mathlib.Core.Bool.{true}
 use lib.Seq.{take-all}
 use Rattle.walk_checks_inner.proofs.Sectors.{head-bad, head-good, tail-bad, tail-good}
-use Rattle.refusal.proofs.More.{more-sectors, numbers-good}
-use Rattle.refusal.specs.Order.Given.{sector}
-use Rattle.refusal.specs.Calls.{walkRecord}
+use Rattle.refusal.proofs.More.{numbers-refused, numbers-passed}
 use Rattle.walk_checks_inner.proofs.check_ring.Statement.{statement}
 use Rattle.walk_checks_inner.proofs.check_ring.Tie as tie
 
@@ -27,7 +26,7 @@ array-share-prefix-ring : tie.Need-array-share-prefix-ring
 array-share-prefix-ring c =
     let a = c .before .before .before .args in
     let l : length (a .t3) ≡ 64 = search needs in
-    let g = numbers-good (walkRecord (a .n) (a .k) (a .t3) true) (a .n) (λ q. tt) (rw (c .enum-told .given .1) at (c .before .before .check-numbers .ensures)) in
+    let g = numbers-passed (a .n) (a .n) (a .k) Unit (λ q. tt) (rw (c .enum-told .given .1) at (c .before .before .check-numbers .ensures)) in
     let h = g .0 .0 .1 in
     omega arith
 
@@ -35,7 +34,7 @@ slice-aggregate-first-bad : tie.Need-slice-aggregate-first-bad
 slice-aggregate-first-bad c =
     let a = c .before .before .before .before .args in
     let l : length (a .t3) ≡ 64 = search needs in
-    let g = numbers-good (walkRecord (a .n) (a .k) (a .t3) true) (a .n) (λ q. tt) (rw (c .before .enum-told .given .1) at (c .before .before .before .check-numbers .ensures)) in
+    let g = numbers-passed (a .n) (a .n) (a .k) Unit (λ q. tt) (rw (c .before .enum-told .given .1) at (c .before .before .before .check-numbers .ensures)) in
     let h = g .0 .0 .1 in
     simp length-take (omega arith)
 
@@ -46,15 +45,15 @@ returns : tie.Need-returns
 returns c =
     let a = c .before .before .before .before .before .before .args in
     let l : length (a .t3) ≡ 64 = search needs in
-    let g = numbers-good (walkRecord (a .n) (a .k) (a .t3) true) (a .n) (λ q. tt) (rw (c .before .before .before .enum-told .given .1) at (c .before .before .before .before .before .check-numbers .ensures)) in
+    let g = numbers-passed (a .n) (a .n) (a .k) Unit (λ q. tt) (rw (c .before .before .before .enum-told .given .1) at (c .before .before .before .before .before .check-numbers .ensures)) in
     let h = g .0 .0 .1 in
-    sector _ refl g (head-bad (a .n) (a .k) (a .t3) true (omega arith) _ (c .before .first-bad .ensures) (c .if1 .taken))
+    inl (inl (inl (inr (g, (_, refl, head-bad (a .n) (a .k) (a .t3) true (omega arith) _ (c .before .first-bad .ensures) (c .if1 .taken))))))
 
 sub-first-bad : tie.Need-sub-first-bad
 sub-first-bad c =
     let a = c .before .before .before .before .before .before .args in
     let l : length (a .t3) ≡ 64 = search needs in
-    let g = numbers-good (walkRecord (a .n) (a .k) (a .t3) true) (a .n) (λ q. tt) (rw (c .before .before .before .enum-told .given .1) at (c .before .before .before .before .before .check-numbers .ensures)) in
+    let g = numbers-passed (a .n) (a .n) (a .k) Unit (λ q. tt) (rw (c .before .before .before .enum-told .given .1) at (c .before .before .before .before .before .check-numbers .ensures)) in
     let h = g .0 .0 .1 in
     omega arith
 
@@ -62,7 +61,7 @@ part-first-bad-start : tie.Need-part-first-bad-start
 part-first-bad-start c =
     let a = c .before .before .before .before .before .before .before .args in
     let l : length (a .t3) ≡ 64 = search needs in
-    let g = numbers-good (walkRecord (a .n) (a .k) (a .t3) true) (a .n) (λ q. tt) (rw (c .before .before .before .before .enum-told .given .1) at (c .before .before .before .before .before .before .check-numbers .ensures)) in
+    let g = numbers-passed (a .n) (a .n) (a .k) Unit (λ q. tt) (rw (c .before .before .before .before .enum-told .given .1) at (c .before .before .before .before .before .before .check-numbers .ensures)) in
     let h = g .0 .0 .1 in
     omega arith
 
@@ -70,7 +69,7 @@ part-first-bad-end : tie.Need-part-first-bad-end
 part-first-bad-end c =
     let a = c .before .before .before .before .before .before .before .args in
     let l : length (a .t3) ≡ 64 = search needs in
-    let g = numbers-good (walkRecord (a .n) (a .k) (a .t3) true) (a .n) (λ q. tt) (rw (c .before .before .before .before .enum-told .given .1) at (c .before .before .before .before .before .before .check-numbers .ensures)) in
+    let g = numbers-passed (a .n) (a .n) (a .k) Unit (λ q. tt) (rw (c .before .before .before .before .enum-told .given .1) at (c .before .before .before .before .before .before .check-numbers .ensures)) in
     let h = g .0 .0 .1 in
     omega arith
 
@@ -81,7 +80,7 @@ sub-if2 : tie.Need-sub-if2
 sub-if2 c =
     let a = c .before .before .before .before .before .before .before .before .before .args in
     let l : length (a .t3) ≡ 64 = search needs in
-    let g = numbers-good (walkRecord (a .n) (a .k) (a .t3) true) (a .n) (λ q. tt) (rw (c .before .before .before .before .before .before .enum-told .given .1) at (c .before .before .before .before .before .before .before .before .check-numbers .ensures)) in
+    let g = numbers-passed (a .n) (a .n) (a .k) Unit (λ q. tt) (rw (c .before .before .before .before .before .before .enum-told .given .1) at (c .before .before .before .before .before .before .before .before .check-numbers .ensures)) in
     let h = g .0 .0 .1 in
     omega arith
 
@@ -92,22 +91,22 @@ returns-2 : tie.Need-returns-2
 returns-2 c =
     let a = c .before .before .before .before .before .before .before .before .before .before .args in
     let l : length (a .t3) ≡ 64 = search needs in
-    let g = numbers-good (walkRecord (a .n) (a .k) (a .t3) true) (a .n) (λ q. tt) (rw (c .before .before .before .before .before .before .before .enum-told .given .1) at (c .before .before .before .before .before .before .before .before .before .check-numbers .ensures)) in
+    let g = numbers-passed (a .n) (a .n) (a .k) Unit (λ q. tt) (rw (c .before .before .before .before .before .before .before .enum-told .given .1) at (c .before .before .before .before .before .before .before .before .before .check-numbers .ensures)) in
     let h = g .0 .0 .1 in
     let low = head-good (a .n) (a .k) (a .t3) true (omega arith) _ (c .before .before .before .before .before .first-bad .ensures) (c .before .before .before .before .if1 .left) in
     let q = take-all (64 - a .n) (drop (a .n) (a .t3)) (simp length-drop (omega arith)) in
-    sector _ refl g (tail-bad (a .n) (a .k) (a .t3) true (omega arith) low _ (rw q at (c .before .first-bad2 .ensures)) (omega arith))
+    inl (inl (inl (inr (g, (_, refl, tail-bad (a .n) (a .k) (a .t3) true (omega arith) low _ (rw q at (c .before .first-bad2 .ensures)) (omega arith))))))
 
 returns-3 : tie.Need-returns-3
 returns-3 c =
     let a = c .before .before .before .before .args in
-    more-sectors (walkRecord (a .n) (a .k) (a .t3) true) (a .n) (λ q. refl) (λ q. tt) (c .before .r .given .0 .0) (rw (c .before .r .given .1) at (c .before .before .before .check-numbers .ensures))
+    inl (inl (inl (inl (numbers-refused (a .n) (a .n) (a .k) Unit (λ q. refl) (λ q. tt) (c .before .r .given .0 .0) (rw (c .before .r .given .1) at (c .before .before .before .check-numbers .ensures))))))
 
 returns-4 : tie.Need-returns-4
 returns-4 c =
     let a = c .before .before .before .before .before .before .before .before .before .before .args in
     let l : length (a .t3) ≡ 64 = search needs in
-    let g = numbers-good (walkRecord (a .n) (a .k) (a .t3) true) (a .n) (λ q. tt) (rw (c .before .before .before .before .before .before .before .enum-told .given .1) at (c .before .before .before .before .before .before .before .before .before .check-numbers .ensures)) in
+    let g = numbers-passed (a .n) (a .n) (a .k) Unit (λ q. tt) (rw (c .before .before .before .before .before .before .before .enum-told .given .1) at (c .before .before .before .before .before .before .before .before .before .check-numbers .ensures)) in
     let h = g .0 .0 .1 in
     let low = head-good (a .n) (a .k) (a .t3) true (omega arith) _ (c .before .before .before .before .before .first-bad .ensures) (c .before .before .before .before .if1 .left) in
     let q = take-all (64 - a .n) (drop (a .n) (a .t3)) (simp length-drop (omega arith)) in

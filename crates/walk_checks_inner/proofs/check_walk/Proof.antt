@@ -4,7 +4,6 @@ use mathlib.Core.Path.{_∙_, sym}
 use borrow.Author.Needs.{needs}
 use borrow.Author.Tests.{not-true, not-false}
 use Rattle.refusal.proofs.More.{more-walk}
-use Rattle.walk_record.specs.Record.{walkAsked}
 use Rattle.walk_record.proofs.Good.{on-record, off-class, off-counts}
 use Rattle.walk_checks_inner.proofs.check_walk.Statement.{statement}
 use Rattle.walk_checks_inner.proofs.check_walk.Tie as tie
@@ -42,7 +41,9 @@ returns-2 c =
     on-record w (rw (c .before .before .before .before .before .before .enum-told .given .1) at (c .before .before .before .before .before .before .before .before .check-ring .ensures)) (f .result .on) (f .ensures .0) (not-false _ (c .before .before .before .if1 .left)) (own .result) (same .result) (own .ensures) (same .ensures) (c .if2 .taken)
 
 returns-3 : tie.Need-returns-3
-returns-3 c = more-walk (walkAsked (c .before .before .before .before .before .before .args .w)) (c .before .v .given .0 .0) (rw (c .before .v .given .1) at (c .before .before .before .check-ring .ensures))
+returns-3 c =
+    let w = c .before .before .before .before .before .before .args .w in
+    more-walk (w .n) (w .k) (w .ring) _ (c .before .v .given .0 .0) (rw (c .before .v .given .1) at (c .before .before .before .check-ring .ensures))
 
 returns-4 : tie.Need-returns-4
 returns-4 c =

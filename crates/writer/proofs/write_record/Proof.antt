@@ -1,8 +1,8 @@
 -- `writer::write_record` meets its contract: what the check of the reading answers, a cut buffer, or the record in its place. Assumes nothing.
 use mathlib.Core.Path.{refl}
+use mathlib.Core.Logic.{inl, inr}
 use native.Mathlib.Omega.{arith}
 use lib.ListN.{length-take, length-drop}
-use Rattle.catalogue_record.specs.Writes.Unwritten.{reading, cut}
 use Rattle.writer.proofs.Places.{short, wrote}
 use borrow.Author.Needs.{needs}
 use Rattle.writer.proofs.write_record.Statement.{statement}
@@ -18,7 +18,7 @@ enum-told : tie.Need-enum-told
 enum-told c = search needs
 
 returns : tie.Need-returns
-returns c = let a = c .before .before .before .before .before .before .args in (cut refl (rw (c .before .enum-told .given .1) at (c .before .before .before .check-reading .ensures)) (omega (arith, c .if1 .taken, length-drop (a .at) (a .buffer .now))), refl)
+returns c = let a = c .before .before .before .before .before .before .args in (inr (rw (c .before .enum-told .given .1) at (c .before .before .before .check-reading .ensures), (refl, λ h. omega (arith, c .if1 .taken, length-drop (a .at) (a .buffer .now)))), refl)
 
 body-length-requires : tie.Need-body-length-requires
 body-length-requires c κs = let g = rw (c .before .enum-told .given .1) at (c .before .before .before .check-reading .ensures) in (g .0 .0 .0 .0 .0 .0, g .0 .0 .0 .0 .1)
@@ -27,7 +27,7 @@ add-size : tie.Need-add-size
 add-size c = let a = c .before .before .before .before .before .before .before .args in let g = rw (c .before .before .enum-told .given .1) at (c .before .before .before .before .check-reading .ensures) in omega (arith, short (a .reading .now) (a .k) (a .kind) _ g (c .body-length .ensures))
 
 returns-2 : tie.Need-returns-2
-returns-2 c = let a = c .before .before .before .before .before .before .before .before .args in (cut refl (rw (c .before .before .before .enum-told .given .1) at (c .before .before .before .before .before .check-reading .ensures)) (omega (arith, c .if2 .taken, c .before .before .if1 .left, c .before .body-length .ensures, length-drop (a .at) (a .buffer .now))), refl)
+returns-2 c = let a = c .before .before .before .before .before .before .before .before .args in (inr (rw (c .before .before .before .enum-told .given .1) at (c .before .before .before .before .before .check-reading .ensures), (refl, λ h. omega (arith, c .if2 .taken, c .before .before .if1 .left, c .before .body-length .ensures, length-drop (a .at) (a .buffer .now)))), refl)
 
 sub-put-record : tie.Need-sub-put-record
 sub-put-record c = search needs
@@ -45,7 +45,7 @@ add-t13 : tie.Need-add-t13
 add-t13 c = search needs
 
 returns-3 : tie.Need-returns-3
-returns-3 c = (reading (rw (c .before .r .given .1) at (c .before .before .before .check-reading .ensures)), refl)
+returns-3 c = (inl (rw (c .before .r .given .1) at (c .before .before .before .check-reading .ensures)), refl)
 
 same-length : tie.Need-same-length
 same-length c = search needs
