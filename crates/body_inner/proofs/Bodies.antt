@@ -1,6 +1,5 @@
 -- The sectors of a record, whose numbers are good: what the contracts of classifying and of the checks give the reader.
 --     only-sector                   a refusal can only be a bad sector
---     necklace-class                by its class a reading is a necklace or not
 --     looks-away                    where it is none there is a sector to look at
 --     look-in                       that sector is one of them
 -- Assumes nothing.
@@ -11,19 +10,14 @@ use mathlib.Core.Logic.{inl, inr}
 use mathlib.Core.List.{List}
 use lib.ListN.{length}
 use Rattle.words.specs.Readings.{Sized, Shaded}
-use Rattle.words.proofs.Split.{refuted, clash}
 use Rattle.rings.specs.declared.Class.{Class}
-use Rattle.rings.specs.declared.Class.the-variants.{Loose, Opening, Repeating, Single}
 use Rattle.rings.specs.Necklace.{necklace}
-use Rattle.rings.specs.Prenecklace.{prenecklace}
-use Rattle.rings.specs.Class.{Classed, classOf, loosePlace, lookAt}
-use Rattle.necklace_laws.proofs.Classes.{classed, lyndon-necklace, look-within}
-use Rattle.necklace_laws.proofs.Words.{necklace-prenecklace}
+use Rattle.rings.specs.Class.{classOf, loosePlace, lookAt}
+use Rattle.necklace_laws.proofs.Classes.{look-within}
 use Rattle.refusal.specs.declared.Refusal.{Refusal}
 use Rattle.refusal.specs.Numbers.{placeOf}
 use Rattle.refusal.specs.Order.{Given, Passed}
 use Rattle.refusal.specs.Calls.{FirstBad, oneReading}
-use Rattle.catalogue_record.specs.Layout.{isNecklace}
 use Rattle.body_inner.specs.declared.Looked.the-variants.{NotHome}
 use Rattle.body_inner.specs.Looks.{LookSays}
 
@@ -36,16 +30,6 @@ only-sector w k z h r (inl (inl (inl (inr (l, (p, e, f)))))) = rw e f
 only-sector w k z h r (inl (inl (inr (l, (e, f))))) = absurd (f tt)
 only-sector w k z h r (inl (inr (l, (e, f)))) = absurd (f tt)
 only-sector w k z h r (inr (l, (e, f))) = absurd (f refl)
-
--- a reading is a necklace exactly where its class is a necklace's
-pub necklace-class : (w : List ℕ) (c : Class) → c ≡ classOf w → isNecklace c ≡ necklace w
-necklace-class w c e = rw e (by-class (classOf w) (classed w))
-  where
-    by-class : (x : Class) → Classed w x → isNecklace x ≡ necklace w
-    by-class (Loose p) d = sym (refuted (necklace w) (λ h. clash (prenecklace w) (necklace-prenecklace w h) (d .0)))
-    by-class (Opening p) d = sym (d .1)
-    by-class (Repeating p) d = sym (d .0)
-    by-class Single d = sym (lyndon-necklace w d)
 
 -- sectors that are no necklace, and the one to look at
 pub looks-away : (w : List ℕ) (k i : ℕ) (c : Class) → Passed (oneReading w k) → c ≡ classOf w → i ≡ loosePlace c → necklace w ≡ false → LookSays w k (NotHome i)

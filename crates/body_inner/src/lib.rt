@@ -4,13 +4,10 @@ use catalogue_record::HEAD;
 use classify::Classified;
 use refusal::Checked;
 use refusal::Refusal;
-use rings::Class;
-ghost use mathlib.Core.Path.{_≡_};
 ghost use Prim.Native.Nat.{_+_};
 ghost use lib.ListN.{length};
 ghost use Rattle.words.specs.Readings.{Sized, Shaded};
 ghost use Rattle.catalogue_record.specs.declared.Kind.the-variants.{Front};
-ghost use Rattle.catalogue_record.specs.Layout.{isNecklace};
 ghost use Rattle.catalogue_record.specs.Steps.{Held, BodySays};
 ghost use Rattle.body_inner.specs.Looks.{LookSays};
 
@@ -29,7 +26,7 @@ pub fn look(sectors: &[u8], k: usize) -> Looked
     match classify::classify(sectors, k) {
         Classified::Refused(r) => Looked::NoShade(refusal::place(r)),
         Classified::Is(c) => {
-            if is_necklace(c) {
+            if scan_inner::is_necklace(c) {
                 return Looked::Home;
             }
             Looked::NotHome(scan_inner::loose_place(c))
@@ -46,17 +43,5 @@ pub fn check_body(body: &[u8], start: usize, k: usize) -> Checked
         Looked::Home => Checked::Good,
         Looked::NoShade(i) => Checked::Refused(Refusal::Sector(start + HEAD + i)),
         Looked::NotHome(i) => Checked::Refused(Refusal::NotHome(start + HEAD + i)),
-    }
-}
-
-// Whether a reading of this class is a necklace.
-fn is_necklace(c: Class) -> bool
-    ensures { λ r. ⌜ r ≡ isNecklace c ⌝ }
-{
-    match c {
-        Class::Loose(_) => false,
-        Class::Opening(_) => false,
-        Class::Repeating(_) => true,
-        Class::Single => true,
     }
 }

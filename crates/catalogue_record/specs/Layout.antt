@@ -14,7 +14,6 @@
 --     bodyOf x t, ringOf x t       the bytes behind the head, in a record of kind x, and the sectors that they hold
 --     sectorsOf t                  the sectors, where they stand there a byte each
 --     bytes x n k v                a record of kind x: its mark, n, k and the bytes v behind the head
---     isNecklace c                 a reading of class c is a necklace
 -- Assumes nothing.
 use Prim.Native.Nat.{ℕ}
 use mathlib.Core.Path.{_≡_}
@@ -22,8 +21,6 @@ use mathlib.Core.Bool.{Bool, true, false}
 use mathlib.Core.List.{List, _∷_}
 use lib.Dec.{eqb}
 use lib.ListN.{getD, take, drop}
-use Rattle.rings.specs.declared.Class.{Class}
-use Rattle.rings.specs.declared.Class.the-variants.{Loose, Opening, Repeating, Single}
 use Rattle.packing.specs.Width.{width}
 use Rattle.packing.specs.Packing.{packedLength, packed, unpacked, clearPadding, byteOf}
 use Rattle.catalogue_record.specs.declared.Kind.{Kind}
@@ -102,10 +99,3 @@ sectorsOf t = ringOf Front t
 -- a mark, n, k, and what stands behind the head
 abbrev pub bytes : Kind → ℕ → ℕ → List ℕ → List ℕ
 bytes x n k v = 0x52 ∷ (secondByte x ∷ (n ∷ (k ∷ v)))
-
--- a reading of this class is a necklace: it is Repeating or Single
-abbrev pub isNecklace : Class → Bool
-isNecklace (Loose p) = false
-isNecklace (Opening p) = false
-isNecklace (Repeating p) = true
-isNecklace Single = true

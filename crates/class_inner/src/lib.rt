@@ -5,40 +5,7 @@ ghost use mathlib.Core.Path.{_≡_};
 ghost use Prim.Native.Nat.{_≤_};
 ghost use lib.ListN.{take};
 ghost use Rattle.rings.specs.Class.{lookAt};
-ghost use Rattle.walk_record.specs.Record.{tagOf, valueOf, isLoose, onWalk};
-
-fn tag(c: Class) -> usize
-    ensures { λ r. ⌜ r ≡ tagOf c ⌝ }
-{
-    match c {
-        Class::Loose(_) => 0,
-        Class::Opening(_) => 1,
-        Class::Repeating(_) => 2,
-        Class::Single => 3,
-    }
-}
-
-fn value(c: Class) -> usize
-    ensures { λ r. ⌜ r ≡ valueOf c ⌝ }
-{
-    match c {
-        Class::Loose(p) => p,
-        Class::Opening(p) => p,
-        Class::Repeating(p) => p,
-        Class::Single => 0,
-    }
-}
-
-pub fn is_loose(c: Class) -> bool
-    ensures { λ r. ⌜ r ≡ isLoose c ⌝ }
-{
-    match c {
-        Class::Loose(_) => true,
-        Class::Opening(_) => false,
-        Class::Repeating(_) => false,
-        Class::Single => false,
-    }
-}
+ghost use Rattle.walk_record.specs.Record.{onWalk};
 
 // Whether a ring is on the walk, and the sector to look at where it is not.
 pub struct Looked {
@@ -53,13 +20,13 @@ pub fn on_walk(ring: [u8; 64], n: usize, class: Class) -> Looked
 {
     let found = scan_inner::class_of(&ring[..n]);
     let at = scan_inner::loose_place(found);
-    if is_loose(found) {
+    if scan_inner::is_loose(found) {
         return Looked { on: false, at: at };
     }
-    if tag(class) != tag(found) {
+    if scan_inner::tag(class) != scan_inner::tag(found) {
         return Looked { on: false, at: at };
     }
-    if value(class) != value(found) {
+    if scan_inner::value(class) != scan_inner::value(found) {
         return Looked { on: false, at: at };
     }
     Looked { on: true, at: at }

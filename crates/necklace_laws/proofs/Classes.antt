@@ -3,23 +3,28 @@
 --     lyndon-lyn          and a Lyndon word exactly when lyn = n
 --     period-lyn          a necklace's period is its lyn
 --     classed, one-class  each reading has exactly one class
+--     equal-class, same-class, same-class-refl    two classes with equal case and number are one, and each is the same as itself
+--     loose-class, tight-class    a reading is Loose exactly where it is no prenecklace
+--     necklace-class      and a necklace exactly where its class is a necklace's
 --     class-loose, class-opening, class-repeating, class-single    the class by the run of the sectors, for a scan from left to right
 --     look-loose, look-other, look-within    the sector to look at: where the reading goes wrong if it is Loose, 0 otherwise
 -- Assumes nothing.
 use Prim.Native.Nat.{ℕ, suc, _-_, _%_, _<_}
-use mathlib.Core.Path.{_≡_, refl}
+use mathlib.Core.Path.{_≡_, refl, sym, ap}
 use mathlib.Core.Logic.{_↔_}
 use mathlib.Core.Bool.{true, false}
 use mathlib.Core.List.{List}
 use native.Mathlib.Omega.{arith}
 use lib.ListN.{length}
-use Rattle.words.proofs.Split.{Test, passes, fails, test, both-left, refuted, clash}
+use lib.Dec.{eqb}
+use borrow.Author.Tests.{eq-eqb, eqb-true}
+use Rattle.words.proofs.Split.{Test, passes, fails, test, both, both-left, both-right, refuted, clash}
 use Rattle.words.proofs.Sequence.{sec}
 use Rattle.rings.specs.declared.Class.{Class}
 use Rattle.rings.specs.declared.Class.the-variants.{Loose, Opening, Repeating, Single}
 use Rattle.rings.specs.Necklace.{necklace, period, lyndon}
 use Rattle.rings.specs.Prenecklace.{prenecklace, lyn, wrongPlace}
-use Rattle.rings.specs.Class.{Classed, necklaceClass, prenecklaceClass, classOf, loosePlace, lookAt}
+use Rattle.rings.specs.Class.{Classed, necklaceClass, prenecklaceClass, classOf, tagOf, valueOf, sameClass, isLoose, isNecklace, loosePlace, lookAt}
 use Rattle.necklace_laws.proofs.Run.{Run, lyn-self, run-one, smaller, pre-shorter}
 use Rattle.necklace_laws.proofs.Words.{pre-of, necklace-prenecklace}
 use Rattle.necklace_laws.proofs.Wrong.{wrong-is, wrong-within}
@@ -27,7 +32,7 @@ use Rattle.necklace_laws.proofs.Lyndon.{run-necklace, necklace-run, per
 
 pub lyndon-necklace : (w : List ℕ) → lyndon w ≡ true → necklace w ≡ true
 unfolding lyndon
-lyndon-necklace w h = both-left (necklace w) (lib.Dec.eqb (period w) (length w)) h
+lyndon-necklace w h = both-left (necklace w) (eqb (period w) (length w)) h
 
 -- ---- by the run of the sectors
 
@@ -104,6 +109,65 @@ one-class w (Loose p) h = rw (h .0, classOf, h .1)
 one-class w (Opening p) h = rw (h .0, h .1, classOf, prenecklaceClass, h .2)
 one-class w (Repeating p) h = rw (necklace-prenecklace w (h .0), h .0, h .1, classOf, prenecklaceClass, necklaceClass, h .2)
 one-class w Single h = rw (necklace-prenecklace w (lyndon-necklace w h), lyndon-necklace w h, h, classOf, prenecklaceClass, necklaceClass)
+
+-- ---- a class by its case and its number
+
+-- two classes with equal case and number are one
+pub equal-class : (a b : Class) → tagOf a ≡ tagOf b → valueOf a ≡ valueOf b → a ≡ b
+equal-class (Loose p) (Loose q) e f = ap Loose f
+equal-class (Loose p) (Opening q) e f = absurd (omega arith)
+equal-class (Loose p) (Repeating q) e f = absurd (omega arith)
+equal-class (Loose p) Single e f = absurd (omega arith)
+equal-class (Opening p) (Loose q) e f = absurd (omega arith)
+equal-class (Opening p) (Opening q) e f = ap Opening f
+equal-class (Opening p) (Repeating q) e f = absurd (omega arith)
+equal-class (Opening p) Single e f = absurd (omega arith)
+equal-class (Repeating p) (Loose q) e f = absurd (omega arith)
+equal-class (Repeating p) (Opening q) e f = absurd (omega arith)
+equal-class (Repeating p) (Repeating q) e f = ap Repeating f
+equal-class (Repeating p) Single e f = absurd (omega arith)
+equal-class Single (Loose q) e f = absurd (omega arith)
+equal-class Single (Opening q) e f = absurd (omega arith)
+equal-class Single (Repeating q) e f = absurd (omega arith)
+equal-class Single Single e f = refl
+
+pub same-class : (a b : Class) → sameClass a b ≡ true → a ≡ b
+same-class a b h =
+    equal-class a b (eqb-true (tagOf a) (tagOf b) (both-left (eqb (tagOf a) (tagOf b)) (eqb (valueOf a) (valueOf b)) h)) (eqb-true (valueOf a) (valueOf b) (both-right (eqb (tagOf a) (tagOf b)) (eqb (valueOf a) (valueOf b)) h))
+
+-- a reading is Loose exactly where it is no prenecklace
+pub loose-class : (v : List ℕ) → isLoose (classOf v) ≡ true → prenecklace v ≡ false
+loose-class v h = go (classOf v) (classed v) h
+  where
+    go : (c : Class) → Classed v c → isLoose c ≡ true → prenecklace v ≡ false
+    go (Loose p) d e = d .0
+    go (Opening p) d e = clash false e refl
+    go (Repeating p) d e = clash false e refl
+    go Single d e = clash false e refl
+
+pub tight-class : (v : List ℕ) → isLoose (classOf v) ≡ false → prenecklace v ≡ true
+tight-class v h = go (classOf v) (classed v) h
+  where
+    go : (c : Class) → Classed v c → isLoose c ≡ false → prenecklace v ≡ true
+    go (Loose p) d e = clash true refl e
+    go (Opening p) d e = d .0
+    go (Repeating p) d e = necklace-prenecklace v (d .0)
+    go Single d e = necklace-prenecklace v (lyndon-necklace v d)
+
+-- a reading is a necklace exactly where its class is a necklace's
+pub necklace-class : (w : List ℕ) (c : Class) → c ≡ classOf w → isNecklace c ≡ necklace w
+necklace-class w c e = rw e (by-class (classOf w) (classed w))
+  where
+    by-class : (x : Class) → Classed w x → isNecklace x ≡ necklace w
+    by-class (Loose p) d = sym (refuted (necklace w) (λ h. clash (prenecklace w) (necklace-prenecklace w h) (d .0)))
+    by-class (Opening p) d = sym (d .1)
+    by-class (Repeating p) d = sym (d .0)
+    by-class Single d = sym (lyndon-necklace w d)
+
+-- each class is its own
+pub same-class-refl : (c : Class) → sameClass c c ≡ true
+same-class-refl c =
+    both (eqb (tagOf c) (tagOf c)) (eqb (valueOf c) (valueOf c)) (eq-eqb (tagOf c) (tagOf c) refl) (eq-eqb (valueOf c) (valueOf c) refl)
 
 -- ---- the sector to look at
 

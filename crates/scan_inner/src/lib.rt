@@ -1,10 +1,11 @@
-// How far bytes are a prenecklace, and their class, by one scan (000, Theorem 2.1). No public calls: `classify::classify` is, and refuses what is no reading.
+// How far bytes are a prenecklace, and their class, by one scan (000, Theorem 2.1); and what a class is and carries. No public calls: `classify::classify` is, and
+// refuses what is no reading.
 
 use rings::Class;
 ghost use mathlib.Core.Path.{_≡_};
 ghost use Prim.Native.Nat.{_<_};
 ghost use lib.ListN.{length};
-ghost use Rattle.rings.specs.Class.{classOf, loosePlace};
+ghost use Rattle.rings.specs.Class.{classOf, tagOf, valueOf, isLoose, isNecklace, loosePlace};
 ghost use Rattle.scan_inner.specs.Beginning.{Opened};
 
 // How far a reading is a prenecklace: its longest beginning that is one ends before `end`, and the lyn of that beginning is `lyn`.
@@ -58,6 +59,54 @@ pub fn class_of(s: &[u8]) -> Class
         return Class::Repeating(p);
     }
     Class::Opening(p)
+}
+
+// The case of a class, as a number.
+pub fn tag(c: Class) -> usize
+    ensures { λ r. ⌜ r ≡ tagOf c ⌝ }
+{
+    match c {
+        Class::Loose(_) => 0,
+        Class::Opening(_) => 1,
+        Class::Repeating(_) => 2,
+        Class::Single => 3,
+    }
+}
+
+// The number that a class carries; Single gives 0.
+pub fn value(c: Class) -> usize
+    ensures { λ r. ⌜ r ≡ valueOf c ⌝ }
+{
+    match c {
+        Class::Loose(p) => p,
+        Class::Opening(p) => p,
+        Class::Repeating(p) => p,
+        Class::Single => 0,
+    }
+}
+
+// Whether a reading of this class is no prenecklace.
+pub fn is_loose(c: Class) -> bool
+    ensures { λ r. ⌜ r ≡ isLoose c ⌝ }
+{
+    match c {
+        Class::Loose(_) => true,
+        Class::Opening(_) => false,
+        Class::Repeating(_) => false,
+        Class::Single => false,
+    }
+}
+
+// Whether a reading of this class is a necklace.
+pub fn is_necklace(c: Class) -> bool
+    ensures { λ r. ⌜ r ≡ isNecklace c ⌝ }
+{
+    match c {
+        Class::Loose(_) => false,
+        Class::Opening(_) => false, // a prenecklace alone
+        Class::Repeating(_) => true,
+        Class::Single => true,
+    }
 }
 
 // The place that Loose carries; the other classes give 0.

@@ -42,7 +42,7 @@ pub fn start_good(s: &[u8], k: usize) -> Started
     ensures { λ r. ⌜ StartSays (now (s .entry)) k (r .walk) (r .answer) ⌝ }
 {
     let class = scan_inner::class_of(s);
-    if class_inner::is_loose(class) {
+    if scan_inner::is_loose(class) {
         let at = scan_inner::loose_place(class);
         return Started {
             walk: empty(),

@@ -1,5 +1,4 @@
 -- From which states a listing goes on.
---     closed-necklace, necklace-closed    the classes of necklaces
 --     ring-refused, ring-decided          whether sectors are a necklace of k shades, by what classifying them says
 --     good-numbers, good-decided          whether a state is good, by its numbers and its ring
 -- Assumes nothing.
@@ -9,16 +8,11 @@ use mathlib.Core.Bool.{Bool, true, false}
 use mathlib.Core.List.{List}
 use native.Mathlib.Omega.{arith}
 use lib.ListN.{length, take}
-use lib.Dec.{eqb}
 use lib.Seq.{length-take-le}
-use Rattle.words.proofs.Split.{both-left, clash}
+use Rattle.words.proofs.Split.{clash}
 use Rattle.rings.specs.declared.Class.{Class}
-use Rattle.rings.specs.declared.Class.the-variants.{Loose, Opening, Repeating, Single}
-use Rattle.rings.specs.Necklace.{necklace, lyndon, period}
-use Rattle.rings.specs.Prenecklace.{prenecklace}
-use Rattle.rings.specs.Class.{Classed, classOf}
-use Rattle.necklace_laws.proofs.Words.{necklace-prenecklace}
-use Rattle.necklace_laws.proofs.Classes.{classed}
+use Rattle.rings.specs.Class.{classOf, isNecklace}
+use Rattle.necklace_laws.proofs.Classes.{necklace-class}
 use Rattle.refusal.specs.declared.Refusal.{Refusal}
 use Rattle.refusal.specs.Order.{Given, Passed}
 use Rattle.refusal.specs.Calls.{oneReading}
@@ -28,27 +22,7 @@ use Rattle.limits.proofs.Unique.{listable-passed}
 use Rattle.pages.specs.declared.State.{State}
 use Rattle.pages.specs.Prints.{most}
 use Rattle.pages.specs.State.{ringOf, Good}
-use Rattle.states_inner.specs.Says.{closed, Ring, Decides}
-
--- a necklace's class, and a class that is a necklace's
-pub closed-necklace : (w : List ℕ) → closed (classOf w) ≡ true → necklace w ≡ true
-unfolding lyndon
-closed-necklace w e = go (classOf w) (classed w) e
-  where
-    go : (c : Class) → Classed w c → closed c ≡ true → necklace w ≡ true
-    go (Loose p) d q = clash false q refl
-    go (Opening p) d q = clash false q refl
-    go (Repeating p) d q = d .0
-    go Single d q = both-left (necklace w) (eqb (period w) (length w)) d
-
-pub necklace-closed : (w : List ℕ) → necklace w ≡ true → closed (classOf w) ≡ true
-necklace-closed w e = go (classOf w) (classed w)
-  where
-    go : (c : Class) → Classed w c → closed c ≡ true
-    go (Loose p) d = clash (prenecklace w) (necklace-prenecklace w e) (d .0)
-    go (Opening p) d = clash (necklace w) e (d .1)
-    go (Repeating p) d = refl
-    go Single d = refl
+use Rattle.states_inner.specs.Says.{Ring, Decides}
 
 module _ (w : List ℕ) (k : ℕ) where
   -- classifying refuses no necklace of k shades
@@ -56,15 +30,15 @@ module _ (w : List ℕ) (k : ℕ) where
   ring-refused r g q = never-both (oneReading w k) r g ((((((q .sized, tt), q .shaded), q .reading .shades), tt), tt), refl)
 
   -- and tells it by its class
-  pub ring-decided : (c : Class) (b : Bool) → Passed (oneReading w k) → c ≡ classOf w → b ≡ closed c → Decides b (Ring w k)
+  pub ring-decided : (c : Class) (b : Bool) → Passed (oneReading w k) → c ≡ classOf w → b ≡ isNecklace c → Decides b (Ring w k)
   ring-decided c true p e f =
       record {
         sized = p .0 .0 .0 .0 .0 .0;
         shaded = p .0 .0 .0 .0 .1;
         reading = record { long = refl; shades = p .0 .0 .0 .1 };
-        member = closed-necklace w (rw e at (sym f));
+        member = sym (necklace-class w c e) ∙ sym f;
       }
-  ring-decided c false p e f = λ q. clash (closed c) (rw e (necklace-closed w (q .member))) (sym f)
+  ring-decided c false p e f = λ q. clash (isNecklace c) (necklace-class w c e ∙ q .member) (sym f)
 
 -- numbers that are refused are no state's
 pub good-numbers : (s : State) (r : Refusal) → Given (numbersOrder most (s .k) (s .n)) r → Good s → ⊥

@@ -4,22 +4,8 @@ use classify::Classified;
 use limits::MOST_LISTED;
 use limits::Planned;
 use pages::State;
-use rings::Class;
-ghost use mathlib.Core.Path.{_≡_};
 ghost use Rattle.pages.specs.State.{Good};
-ghost use Rattle.states_inner.specs.Says.{closed, Ring, Decides};
-
-// Whether a class is that of a necklace.
-fn is_closed(c: Class) -> bool
-    ensures { λ r. ⌜ r ≡ closed c ⌝ }
-{
-    match c {
-        Class::Loose(_) => false,
-        Class::Opening(_) => false,
-        Class::Repeating(_) => true,
-        Class::Single => true,
-    }
-}
+ghost use Rattle.states_inner.specs.Says.{Ring, Decides};
 
 // Whether these sectors are a necklace of k shades.
 fn is_ring(ring: &[u8], k: usize) -> bool
@@ -27,7 +13,7 @@ fn is_ring(ring: &[u8], k: usize) -> bool
 {
     match classify::classify(ring, k) {
         Classified::Refused(_) => false,
-        Classified::Is(c) => is_closed(c),
+        Classified::Is(c) => scan_inner::is_necklace(c),
     }
 }
 

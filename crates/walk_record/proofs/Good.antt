@@ -1,6 +1,4 @@
 -- A record that passed its checks is the record of its ring; and what the code's tests of a class say.
---     one-class, same-class      two classes with equal case and number are one
---     loose-class                a reading is Loose exactly where it is no prenecklace
 --     off-loose, off-tag, off-value, on-class    the answers of `on_walk`
 --     off-class, off-counts, on-record           how the last check of a record ends
 --     good-ready, good-tail, good-is             what the checks of a record show
@@ -25,14 +23,12 @@ use Rattle.words.specs.Readings.{Sized, Shaded, Reading}
 use Rattle.words.proofs.Split.{lt, eq, gt, tri, both, both-left, both-right, not-left, not-right, clash}
 use Rattle.words.proofs.Lex.{same-refl}
 use Rattle.rings.specs.declared.Class.{Class}
-use Rattle.rings.specs.declared.Class.the-variants.{Loose, Opening, Repeating, Single}
 use Rattle.rings.specs.Necklace.{necklace, period}
 use Rattle.rings.specs.Prenecklace.{prenecklace, lyn}
-use Rattle.rings.specs.Class.{Classed, classOf, loosePlace, lookAt}
+use Rattle.rings.specs.Class.{classOf, tagOf, valueOf, sameClass, isLoose, loosePlace, lookAt}
 use Rattle.rings.specs.Steps.{nextOf}
 use Rattle.necklace_laws.proofs.Lyndon.{lyn-run}
-use Rattle.necklace_laws.proofs.Classes.{classed, lyndon-necklace, period-lyn, look-other}
-use Rattle.necklace_laws.proofs.Words.{necklace-prenecklace}
+use Rattle.necklace_laws.proofs.Classes.{period-lyn, look-other, same-class-refl, loose-class, tight-class}
 use Rattle.necklace_laws.proofs.FullWalk.{next-facts, zeros, zeros-at}
 use Rattle.refusal.specs.declared.Refusal.the-variants.{OffWalk}
 use Rattle.refusal.specs.Order.{Passed, Given}
@@ -40,53 +36,9 @@ use Rattle.refusal.specs.Calls.{ringLimit, walkRecord, walkStart, oneReading}
 use Rattle.walk_record.specs.declared.Walk.{Walk}
 use Rattle.moves_inner.specs.declared.Kind as K
 use Rattle.moves_inner.specs.Kinds.{kindOf, classAt}
-use Rattle.walk_record.specs.Record.{ringOf, laidOut, shadeCounts, walkOf, tagOf, valueOf, sameClass, isLoose, onWalk, walkAsked}
+use Rattle.walk_record.specs.Record.{ringOf, laidOut, shadeCounts, walkOf, onWalk, walkAsked}
 use Rattle.moves_inner.specs.Going.{Ready}
 use Rattle.moves_inner.proofs.Standing.{kind-only, class-at}
-
--- ---- classes
-
--- two classes with equal case and number are one
-pub one-class : (a b : Class) → tagOf a ≡ tagOf b → valueOf a ≡ valueOf b → a ≡ b
-one-class (Loose p) (Loose q) e f = ap Loose f
-one-class (Loose p) (Opening q) e f = absurd (omega arith)
-one-class (Loose p) (Repeating q) e f = absurd (omega arith)
-one-class (Loose p) Single e f = absurd (omega arith)
-one-class (Opening p) (Loose q) e f = absurd (omega arith)
-one-class (Opening p) (Opening q) e f = ap Opening f
-one-class (Opening p) (Repeating q) e f = absurd (omega arith)
-one-class (Opening p) Single e f = absurd (omega arith)
-one-class (Repeating p) (Loose q) e f = absurd (omega arith)
-one-class (Repeating p) (Opening q) e f = absurd (omega arith)
-one-class (Repeating p) (Repeating q) e f = ap Repeating f
-one-class (Repeating p) Single e f = absurd (omega arith)
-one-class Single (Loose q) e f = absurd (omega arith)
-one-class Single (Opening q) e f = absurd (omega arith)
-one-class Single (Repeating q) e f = absurd (omega arith)
-one-class Single Single e f = refl
-
-pub same-class : (a b : Class) → sameClass a b ≡ true → a ≡ b
-same-class a b h =
-    one-class a b (eqb-true (tagOf a) (tagOf b) (both-left (eqb (tagOf a) (tagOf b)) (eqb (valueOf a) (valueOf b)) h)) (eqb-true (valueOf a) (valueOf b) (both-right (eqb (tagOf a) (tagOf b)) (eqb (valueOf a) (valueOf b)) h))
-
--- a reading is Loose exactly where it is no prenecklace
-pub loose-class : (v : List ℕ) → isLoose (classOf v) ≡ true → prenecklace v ≡ false
-loose-class v h = go (classOf v) (classed v) h
-  where
-    go : (c : Class) → Classed v c → isLoose c ≡ true → prenecklace v ≡ false
-    go (Loose p) d e = d .0
-    go (Opening p) d e = clash false e refl
-    go (Repeating p) d e = clash false e refl
-    go Single d e = clash false e refl
-
-pub tight-class : (v : List ℕ) → isLoose (classOf v) ≡ false → prenecklace v ≡ true
-tight-class v h = go (classOf v) (classed v) h
-  where
-    go : (c : Class) → Classed v c → isLoose c ≡ false → prenecklace v ≡ true
-    go (Loose p) d e = clash true refl e
-    go (Opening p) d e = d .0
-    go (Repeating p) d e = necklace-prenecklace v (d .0)
-    go Single d e = necklace-prenecklace v (lyndon-necklace v d)
 
 -- ---- the answers of `on_walk`
 
@@ -247,11 +199,6 @@ module _ (s : List ℕ) (k : ℕ) (found : Class) (passed : Passed (oneReading s
 -- its ring
 pub ring-of : (k : ℕ) (v : List ℕ) → ringOf (walkOf k v) ≡ v
 ring-of k v = take-append-seam v (zeros (64 - length v))
-
--- each class is its own
-same-class-refl : (c : Class) → sameClass c c ≡ true
-same-class-refl c =
-    both (eqb (tagOf c) (tagOf c)) (eqb (valueOf c) (valueOf c)) (eq-eqb (tagOf c) (tagOf c) refl) (eq-eqb (valueOf c) (valueOf c) refl)
 
 pub walk-good : (n k : ℕ) (v : List ℕ) → Sized n → Shaded k → Reading n k v → prenecklace v ≡ true → Passed (walkAsked (walkOf k v))
 unfolding onWalk

@@ -8,15 +8,14 @@
 -- That the counts of the shades from k up are 0 in every record that is handed out: `walk_laws`, proofs/Counts.
 -- Assumes nothing.
 use Prim.Native.Nat.{ℕ, _-_}
-use mathlib.Core.Bool.{Bool, true, false, _&&_}
+use mathlib.Core.Bool.{Bool, _&&_}
 use mathlib.Core.List.{List, _++_}
 use lib.ListN.{length, take, replicate}
-use lib.Dec.{eqb}
 use Rattle.words.specs.Order.{same}
 use Rattle.rings.specs.declared.Class.{Class}
-use Rattle.rings.specs.declared.Class.the-variants.{Loose, Opening, Repeating, Single}
+use Rattle.rings.specs.declared.Class.the-variants.{Loose}
 use Rattle.rings.specs.Prenecklace.{prenecklace}
-use Rattle.rings.specs.Class.{classOf}
+use Rattle.rings.specs.Class.{classOf, sameClass}
 use Rattle.rings.specs.Counts.{countsOf}
 use Rattle.refusal.specs.Order.{Checks}
 use Rattle.refusal.specs.Calls.{walkRecord}
@@ -41,28 +40,6 @@ walkOf k v = record { n = length v; k = k; ring = laidOut v; class = classOf v; 
 -- 0 for n, k, every sector and every count, classed Loose with the place 0, which no reading has
 abbrev pub emptyWalk : Walk
 emptyWalk = record { n = 0; k = 0; ring = replicate 64 0; class = Loose 0; counts = replicate 16 0 }
-
--- two classes are the same: their cases are, and their numbers are
-abbrev pub tagOf : Class → ℕ
-tagOf (Loose p) = 0
-tagOf (Opening p) = 1
-tagOf (Repeating p) = 2
-tagOf Single = 3
-
-abbrev pub valueOf : Class → ℕ
-valueOf (Loose p) = p
-valueOf (Opening p) = p
-valueOf (Repeating p) = p
-valueOf Single = 0
-
-abbrev pub sameClass : Class → Class → Bool
-sameClass a b = eqb (tagOf a) (tagOf b) && eqb (valueOf a) (valueOf b)
-
-abbrev pub isLoose : Class → Bool
-isLoose (Loose p) = true
-isLoose (Opening p) = false
-isLoose (Repeating p) = false
-isLoose Single = false
 
 -- the ring is a prenecklace, and the class is its own
 unfoldable pub onWalk : List ℕ → Class → Bool

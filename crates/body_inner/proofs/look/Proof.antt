@@ -1,6 +1,7 @@
 -- `body_inner::look` meets its contract: what classifying answers. With good numbers only a sector can be refused. Assumes nothing.
 use mathlib.Core.Path.{_∙_, sym}
-use Rattle.body_inner.proofs.Bodies.{only-sector, necklace-class, looks-away}
+use Rattle.body_inner.proofs.Bodies.{only-sector, looks-away}
+use Rattle.necklace_laws.proofs.Classes.{necklace-class}
 use borrow.Author.Needs.{needs}
 use Rattle.body_inner.proofs.look.Statement.{statement}
 use Rattle.body_inner.proofs.look.Tie as tie
