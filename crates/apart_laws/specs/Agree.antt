@@ -4,7 +4,7 @@
 --     Alike x y            two answers of `apart`: the same distance, or both are refusals
 --     AlikeTold s t        two answers of `same_ring`: both Yes, both No, or both are refusals
 --     Zero x t             an answer of `apart` and one of `same_ring`: 0 exactly where it is Yes, and the same refusal
---     Within x y z         three answers of `apart`: where the first two are distances the third is one, and no more than the two together
+--     Within a b z         an answer of `apart` beside two distances a and b: it is a distance too, and no more than the two together
 -- That they hold: proofs/Apart. Assumes nothing.
 use Prim.Native.Nat.{ℕ, _+_, _<_, _≤_}
 use mathlib.Core.List.{List}
