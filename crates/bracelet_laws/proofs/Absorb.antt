@@ -4,7 +4,6 @@
 --     absorbs                  a bracelet, raised from some place on to an ending that never falls, is a bracelet
 --     absorb-begin, absorb     the lemma, of a beginning, and of the first m sectors
 --     begun-filled, filled-begins, begins-iff                    the beginnings of bracelets are those that are one when filled up
--- Assumes nothing.
 use Prim.Native.Nat.{ℕ, _+_, _-_, _<_, _≤_}
 use mathlib.Core.Path.{_≡_, sym, _∙_}
 use mathlib.Core.Logic.{_↔_}

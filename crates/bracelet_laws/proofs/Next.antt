@@ -8,7 +8,6 @@
 --     stuck-end, stuck-on, stuck-at, stuck-full, stuck-none        the search for the place to raise, from the end; nothing above where it finds none
 --     Leads k w c m        the first m sectors of c lead to the next bracelet after w (specs/Beginnings, passed on)
 --     lead-start, lead-letter, lead-set, lead-on, lead-end      the search for the sectors behind it, place by place, up to the next bracelet
--- Assumes nothing.
 use Prim.Native.Nat.{ℕ, suc, _+_, _-_, _<_, _≤_}
 use mathlib.Core.Path.{_≡_, refl, sym, _∙_}
 use mathlib.Core.Bool.{true, false}

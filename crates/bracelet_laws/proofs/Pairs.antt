@@ -7,7 +7,6 @@
 --     bracelet-once         each bracelet appears exactly once
 --     walk-pairs            of each ring and its mirror image exactly one appears, exactly once
 --     walk-even             each even-handed ring appears, exactly once: it stands for itself
--- Assumes nothing.
 use Prim.Native.Nat.{ℕ, _<_}
 use mathlib.Core.Path.{_≡_, sym, ap, subst, _∙_}
 use mathlib.Core.Logic.{_↔_}
@@ -25,10 +24,10 @@ use Rattle.rings.specs.Necklace.{necklace}
 use Rattle.rings.specs.Home.{home, shift}
 use Rattle.rings.specs.Alike.{evenHanded, mirrored, bracelet}
 use Rattle.rings.specs.Steps.{FullWalk}
-use Rattle.necklace_laws.proofs.Moves.{before-not-same, after-not-same}
-use Rattle.necklace_laws.proofs.FullWalk.{zeros, length-zeros, zeros-at, zeros-reading, zeros-necklace, walk-kind, walk-increasing, walk-each}
-use Rattle.home_laws.proofs.Home.{shift-lt, home-turn-of, length-home, home-reading, home-necklace, necklace-home}
-use Rattle.home_laws.proofs.Alike.{length-mirrored, mirrored-reading, mirrored-necklace, mirrored-of-turn, mirrored-mirrored, even-mirrored, mirrored-even, even-home}
+use Rattle.ring_laws.proofs.Moves.{before-not-same, after-not-same}
+use Rattle.ring_laws.proofs.FullWalk.{zeros, length-zeros, zeros-at, zeros-reading, zeros-necklace, walk-kind, walk-increasing, walk-each}
+use Rattle.ring_home_laws.proofs.Home.{shift-lt, home-turn-of, length-home, home-reading, home-necklace, necklace-home}
+use Rattle.ring_home_laws.proofs.Alike.{length-mirrored, mirrored-reading, mirrored-necklace, mirrored-of-turn, mirrored-mirrored, even-mirrored, mirrored-even, even-home}
 use Rattle.bracelet_laws.specs.Pairs.{ofPair, OneOfEachPair, EvenForItself}
 use Rattle.bracelet_laws.proofs.Words.{bracelet-upTo, bracelet-both}
 

@@ -6,7 +6,6 @@
 --     turn-at, mirror-at                   the sectors of a turn and of a turned reverse
 --     Brace a n                            the first n of a are not above any of their turns and mirrored turns
 --     brace-of, of-brace                   bracelet w, and Brace of its sectors
--- Assumes nothing.
 use Prim.Native.Nat.{ℕ, _+_, _-_, _<_, _≤_}
 use mathlib.Core.Path.{_≡_, refl, sym, subst, _∙_}
 use mathlib.Core.Bool.{true}
@@ -23,7 +22,7 @@ use Rattle.words.proofs.Turn.{length-turn, turn-low, turn-high, getD-reverse}
 use Rattle.rings.specs.Necklace.{necklace, notAboveTurn}
 use Rattle.rings.specs.Home.{home, shift}
 use Rattle.rings.specs.Alike.{mirrored, bracelet, notAboveEither, leastOfPair}
-use Rattle.home_laws.proofs.Home.{shift-lt, home-turn-of, home-least}
+use Rattle.ring_home_laws.proofs.Home.{shift-lt, home-turn-of, home-least}
 use Rattle.bracelet_laws.proofs.Places.{rot, mir, rot-lt, rot-low, rot-high}
 
 -- ---- by turns

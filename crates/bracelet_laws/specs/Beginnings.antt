@@ -3,7 +3,7 @@
 --     BeginsBracelet n k u     u is a beginning, possibly the whole, of some bracelet of n sectors and k shades
 --     tried k w l b            the first l sectors of w, then b, filled up
 --     Leads k w c m            the first m sectors of c lead to the next bracelet after w, and c is they, filled up
--- That u begins a bracelet exactly where u, filled up, is one: proofs/Absorb, `begins-iff`. Assumes nothing.
+-- That u begins a bracelet exactly where u, filled up, is one: proofs/Absorb, `begins-iff`.
 use Prim.Native.Nat.{ℕ, _-_, _<_, _≤_}
 use mathlib.Core.Path.{_≡_}
 use mathlib.Core.Bool.{true}

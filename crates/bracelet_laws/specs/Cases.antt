@@ -1,7 +1,6 @@
 -- Bracelets, beginnings and small walks: one table, one claim, which proofs/Table computes. A row's readings are decimal numerals, as in the table of `rings`.
 -- A row for a walk shows two things of the rings that it names: they are those of the full walk by bracelets from the all-zero ring; and of each reading, in
 -- increasing order, the ring or its mirror image is 1 of them, the all-zero ring included.
--- Assumes nothing.
 use Prim.Native.Nat.{ℕ, _^_}
 use mathlib.Core.Path.{_≡_}
 use mathlib.Core.Bool.{Bool, true, false}

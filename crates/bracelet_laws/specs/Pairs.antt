@@ -4,7 +4,6 @@
 --     EvenForItself n k first rings     each even-handed ring is among them, exactly once
 -- No walk comes to its own start, so the first ring is named beside the others and counts with them. That both sentences hold of the full walk by
 -- bracelets from the all-zero ring, and that it is in increasing order: proofs/Pairs. That they hold of what the calls hand out: `walk_laws`.
--- Assumes nothing.
 use Prim.Native.Nat.{ℕ}
 use mathlib.Core.Path.{_≡_}
 use mathlib.Core.Bool.{Bool, true, _||_}

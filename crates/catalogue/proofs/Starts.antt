@@ -1,6 +1,5 @@
 -- A start in the catalogue: what reading the record answers is what reading at the start does.
 --     record-read
--- Assumes nothing.
 use Prim.Native.Nat.{ℕ, _-_, _<_}
 use mathlib.Core.Path.{_≡_}
 use mathlib.Core.Logic.{inr}
@@ -8,10 +7,10 @@ use mathlib.Core.List.{List}
 use native.Mathlib.Omega.{arith}
 use lib.ListN.{length, take, drop, length-drop}
 use lib.Seq.{take-all}
-use Rattle.catalogue_record.specs.declared.Entry.{Entry}
-use Rattle.catalogue_record.specs.declared.Entry.the-variants.{Record, End, Refused}
-use Rattle.catalogue_record.specs.Says.{ReadSays}
-use Rattle.catalogue_record.specs.Steps.{RecordSays}
+use Rattle.record_spec.specs.declared.Entry.{Entry}
+use Rattle.record_spec.specs.declared.Entry.the-variants.{Record, End, Refused}
+use Rattle.record_spec.specs.Says.{ReadSays}
+use Rattle.record_spec.specs.Steps.{RecordSays}
 
 -- reading the record is reading at s; the part is handed on by its length
 pub record-read : (c : List ℕ) (s : ℕ) (b : List ℕ) (r : Entry) (d : List ℕ) → length b ≡ 64 → s < length c → RecordSays (take (length c - s) (drop s c)) s b r d → ReadSays c s b r d

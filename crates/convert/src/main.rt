@@ -1,5 +1,5 @@
 // The converting program (02, j): `./rings convert < old > new`.
 
 fn main() {
-    converting_inner::run();
+    converter_program_inner::run();
 }

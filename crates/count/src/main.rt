@@ -1,5 +1,5 @@
 // The report program (02, request f).
 
 fn main() {
-    reporting_inner::run();
+    report_program_inner::run();
 }

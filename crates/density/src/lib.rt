@@ -1,13 +1,13 @@
 // From reflectances to shades, by a reference card (02, i).
 
-use density_answers::Card;
-use density_answers::RingRead;
-use density_answers::SectorRead;
+use density_spec::Card;
+use density_spec::RingRead;
+use density_spec::SectorRead;
 use refusal::Refusal;
 use rings::FEWEST_SHADES;
 use rings::MOST_SECTORS;
 use rings::MOST_SHADES;
-ghost use Rattle.density_answers.specs.Says.{SectorSays, RingSays};
+ghost use Rattle.density_spec.specs.Says.{SectorSays, RingSays};
 
 // What one sector's reflectance tells, or refusal 2 or 14.
 pub fn sector_shade(value: f32, k: usize, card: Card) -> SectorRead
@@ -19,10 +19,10 @@ pub fn sector_shade(value: f32, k: usize, card: Card) -> SectorRead
     if MOST_SHADES < k {
         return SectorRead::Refused(Refusal::Shades(0));
     }
-    if !cuts_inner::is_good(card) {
+    if !density_cuts_inner::is_good(card) {
         return SectorRead::Refused(Refusal::Card);
     }
-    SectorRead::Is(cuts_inner::read(card, k as u8, value))
+    SectorRead::Is(density_cuts_inner::read(card, k as u8, value))
 }
 
 // Writes the shade of each of a ring's sectors, or gives refusal 1, 2, 14, 4 or 15 and writes nothing.
@@ -42,17 +42,17 @@ pub fn ring_shades(values: &[f32], k: usize, card: Card, out: &mut [u8]) -> Ring
     if MOST_SHADES < k {
         return RingRead::Refused(Refusal::Shades(0));
     }
-    if !cuts_inner::is_good(card) {
+    if !density_cuts_inner::is_good(card) {
         return RingRead::Refused(Refusal::Card);
     }
     if out.len() != n {
         return RingRead::Refused(Refusal::Room);
     }
     let shades = k as u8;
-    let at = shading_inner::first_unreadable(values, shades, card);
+    let at = density_ring_inner::first_unreadable(values, shades, card);
     if at < n {
         return RingRead::Refused(Refusal::Unreadable(at));
     }
-    shading_inner::write_shades(values, shades, card, out);
+    density_ring_inner::write_shades(values, shades, card, out);
     RingRead::Written
 }

@@ -3,7 +3,6 @@
 --     le-lt           where x <= y, y is not below x
 --     lt-le           of two numbers, where y is not below x, x <= y
 --     le-number       where x <= y, x is a number
--- Assumes nothing.
 use Prim.Native.Nat.{ℕ, zero, suc, _≤_, _<_, _+_, _*_}
 use mathlib.Core.Path.{_≡_, _∙_, sym, refl}
 use mathlib.Core.Bool.{Bool, true, false, _||_}

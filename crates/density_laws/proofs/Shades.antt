@@ -2,7 +2,6 @@
 --     shade-below    each shade is below k
 --     brighter       a brighter value never gets a lower shade: for any two floats, where x <= y
 --     same-value     two values that are not above each other, such as both zeros, have one shade
--- Assumes nothing.
 use Prim.Native.Nat.{ℕ, zero, suc, _-_, _≤_, _<_, zero-le}
 use mathlib.Core.Path.{_≡_}
 use mathlib.Core.Bool.{Bool, true, false}
@@ -10,8 +9,8 @@ use native.Mathlib.Omega.{arith}
 use lib.Dec.{T}
 use lib.Ieee.{Float, le}
 use Rattle.words.specs.Readings.{bit}
-use Rattle.density_answers.specs.declared.Card.{Card}
-use Rattle.density_answers.specs.Cuts.{cut, cutsUpTo, shadeOf}
+use Rattle.density_spec.specs.declared.Card.{Card}
+use Rattle.density_spec.specs.Cuts.{cut, cutsUpTo, shadeOf}
 use Rattle.density_laws.proofs.Floats.{le-trans}
 
 bit-le : (b : Bool) → bit b ≤ 1

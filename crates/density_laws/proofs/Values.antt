@@ -1,15 +1,14 @@
 -- What a value is (02, i).
---     Kind, kind        a value is no number, out or in; only one of them: density_answers, Unique
+--     Kind, kind        a value is no number, out or in; only one of them: density_spec, Unique
 --     in-from, in-to    a value that is in is from 0 to 1: 0 <= x, x <= 1
 --     from-to-in        and each such value is in
--- Assumes nothing.
 use mathlib.Core.Path.{_≡_, refl}
 use mathlib.Core.Bool.{true, false}
 use mathlib.Core.Logic.{inl, inr}
 use lib.Dec.{T}
 use lib.Ieee.{Float, binary32, ofBits, ofFields, lt, le, ne}
 use Rattle.words.proofs.Split.{passes, fails, test}
-use Rattle.density_answers.specs.Cuts.{NoNumber, Out, In, zero32, one32}
+use Rattle.density_spec.specs.Cuts.{NoNumber, Out, In, zero32, one32}
 use Rattle.density_laws.proofs.Floats.{le-lt, lt-le, le-number}
 
 pub data Kind (x : Float) : Type 0 where

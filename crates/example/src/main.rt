@@ -14,8 +14,8 @@ fn step(w: Walk) -> Walk {
     let outcome = stepped.outcome;
     match outcome {
         Outcome::Moved(m) => print::first_six(b"next ", ring, b", moves ", m),
-        Outcome::Done(_) => show::text(b"no next\n"),
-        Outcome::Refused(r) => show::refused(r),
+        Outcome::Done(_) => test_show::text(b"no next\n"),
+        Outcome::Refused(r) => test_show::refused(r),
     }
     next
 }
@@ -24,13 +24,13 @@ fn main() {
     let mut ring = [0u8; 6];
     match home::bring_home(b"\x01\x01\0\x01\0\0", 2, &mut ring) {
         Homed::Home { shift, .. } => print::six(b"home ", ring, b", shift ", shift),
-        Homed::Refused(r) => show::refused(r),
+        Homed::Refused(r) => test_show::refused(r),
     }
     step(step(step(walk::start(&ring, 2).walk)));
     let mut front = [0u8; 64];
     match catalogue::read_record(b"RF\x06\x02\0\0\x01\0\x01\x01", 0, &mut front) {
         Entry::Record { next, .. } => print::first_six(b"record ", front, b", next at ", next),
-        Entry::End => show::text(b"no record\n"),
-        Entry::Refused(r) => show::refused(r),
+        Entry::End => test_show::text(b"no record\n"),
+        Entry::Refused(r) => test_show::refused(r),
     }
 }

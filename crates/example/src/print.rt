@@ -1,10 +1,10 @@
 // The example's lines: what it is, a ring of 6 sectors, and a number.
 
 pub fn six(what: &[u8], ring: [u8; 6], label: &[u8], x: usize) {
-    show::text(what);
-    show::sectors(&ring);
-    show::named(label, x);
-    show::newline();
+    test_show::text(what);
+    test_show::sectors(&ring);
+    test_show::named(label, x);
+    test_show::newline();
 }
 
 // The same, from 64 places of which the first 6 are used.

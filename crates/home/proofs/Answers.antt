@@ -3,7 +3,6 @@
 --     shift-fits                                     the reading can be turned by its shift
 --     turned-home, same-turned                       turned by their shifts, readings are home, and of the same ring
 --     home-back                                      the output, turned back by the shift that is answered, is the reading
--- Assumes nothing.
 use Prim.Native.Nat.{ℕ, _-_, _<_, _≤_}
 use mathlib.Core.Path.{_≡_, sym}
 use mathlib.Core.List.{List}
@@ -13,12 +12,12 @@ use Rattle.words.specs.Order.{same}
 use Rattle.words.specs.Turn.{turn}
 use Rattle.rings.specs.Home.{home, shift}
 use Rattle.rings.specs.Alike.{sameRing}
-use Rattle.home_laws.proofs.Home.{shift-lt, turn-back-home}
+use Rattle.ring_home_laws.proofs.Home.{shift-lt, turn-back-home}
 use Rattle.refusal.specs.Order.{Passed}
 use Rattle.refusal.specs.Calls.{Asked, general, askRoom, twoReadings, withRoom}
-use Rattle.home.specs.declared.Homed.the-variants as H
-use Rattle.home.specs.declared.Told.the-variants as T
-use Rattle.home.specs.Says.{HomeSays}
+use Rattle.home_spec.specs.declared.Homed.the-variants as H
+use Rattle.home_spec.specs.declared.Told.the-variants as T
+use Rattle.home_spec.specs.Says.{HomeSays}
 
 -- ---- what passed checks give
 

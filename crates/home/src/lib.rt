@@ -1,40 +1,24 @@
 // Bringing a reading home, and comparing readings (01, 'Rules the work stands on').
 
+pub use home_spec::Distance;
+pub use home_spec::Homed;
+pub use home_spec::Told;
 use refusal::Checked;
 use refusal::Refusal;
 ghost use Rattle.refusal.specs.Calls.{oneReading, twoReadings};
 ghost use Rattle.rings.specs.Alike.{evenHanded, sameRing, apart};
-ghost use Rattle.home.specs.Says.{HomeSays, ToldSays, DistanceSays};
-
-// What bringing a reading home answers; the home reading itself is written to the output.
-pub enum Homed {
-    Home { shift: usize, period: usize },
-    Refused(Refusal),
-}
-
-// What a question to be answered yes or no answers.
-pub enum Told {
-    Yes,
-    No,
-    Refused(Refusal),
-}
-
-// How far apart two readings are.
-pub enum Distance {
-    Apart(usize),
-    Refused(Refusal),
-}
+ghost use Rattle.home_spec.specs.Says.{HomeSays, ToldSays, DistanceSays};
 
 // Writes the home reading and answers its shift and period, or refusal 1, 2, 3 or 4.
 pub fn bring_home(s: &[u8], k: usize, out: &mut [u8]) -> Homed
     ensures { λ r. ⌜ HomeSays (now (s .entry)) k (now (out .entry)) r (now (out .exit)) ⌝ }
 {
-    match checks::check_room(s, k, out.len()) {
+    match check_readings_inner::check_room(s, k, out.len()) {
         Checked::Refused(r) => Homed::Refused(r),
         Checked::Good => {
-            let i = shift_inner::least_shift(s);
-            let p = shift_inner::period_of(s);
-            turns_inner::write_turn(s, i, out);
+            let i = home_shift_inner::least_shift(s);
+            let p = home_shift_inner::period_of(s);
+            home_turns_inner::write_turn(s, i, out);
             Homed::Home {
                 shift: i,
                 period: p,
@@ -47,12 +31,12 @@ pub fn bring_home(s: &[u8], k: usize, out: &mut [u8]) -> Homed
 pub fn same_ring(a: &[u8], b: &[u8], k: usize) -> Told
     ensures { λ r. ⌜ ToldSays (twoReadings (now (a .entry)) (now (b .entry)) k) (sameRing (now (a .entry)) (now (b .entry))) r ⌝ }
 {
-    match checks::check_pair(a, b, k) {
+    match check_readings_inner::check_pair(a, b, k) {
         Checked::Refused(r) => Told::Refused(r),
         Checked::Good => {
-            let i = shift_inner::least_shift(a);
-            let j = shift_inner::least_shift(b);
-            if turns_inner::same_turns(a, i, b, j) {
+            let i = home_shift_inner::least_shift(a);
+            let j = home_shift_inner::least_shift(b);
+            if home_turns_inner::same_turns(a, i, b, j) {
                 return Told::Yes;
             }
             Told::No
@@ -64,10 +48,10 @@ pub fn same_ring(a: &[u8], b: &[u8], k: usize) -> Told
 pub fn even_handed(s: &[u8], k: usize) -> Told
     ensures { λ r. ⌜ ToldSays (oneReading (now (s .entry)) k) (evenHanded (now (s .entry))) r ⌝ }
 {
-    match checks::check_reading(s, k) {
+    match check_readings_inner::check_reading(s, k) {
         Checked::Refused(r) => Told::Refused(r),
         Checked::Good => {
-            if handed_inner::is_even_handed(s) {
+            if home_handed_inner::is_even_handed(s) {
                 return Told::Yes;
             }
             Told::No
@@ -79,8 +63,8 @@ pub fn even_handed(s: &[u8], k: usize) -> Told
 pub fn apart(a: &[u8], b: &[u8], k: usize) -> Distance
     ensures { λ r. ⌜ DistanceSays (now (a .entry)) (now (b .entry)) k r ⌝ }
 {
-    match checks::check_pair(a, b, k) {
+    match check_readings_inner::check_pair(a, b, k) {
         Checked::Refused(r) => Distance::Refused(r),
-        Checked::Good => Distance::Apart(nearest_inner::fewest_differing(a, b)),
+        Checked::Good => Distance::Apart(home_nearest_inner::fewest_differing(a, b)),
     }
 }

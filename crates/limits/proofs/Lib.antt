@@ -1,4 +1,2 @@
 -- Laws of the plan of two numbers: powers under a limit (Power), what it tells (Given), and that no numbers have two plans (Unique).
 pub mod Power
-pub mod Given
-pub mod Unique

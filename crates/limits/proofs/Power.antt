@@ -1,5 +1,4 @@
 -- Whether k to the power n is above a limit. While p is k to the power i and within the limit, p times k is above it exactly where limit / k is below p.
--- Assumes nothing.
 use Prim.Native.Nat.{ℕ, zero, suc, _+_, _*_, _/_, _^_, _<_, _≤_}
 use mathlib.Core.Path.{_≡_, refl, sym, _∙_}
 use mathlib.Core.Bool.{true, false}

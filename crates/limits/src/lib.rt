@@ -1,6 +1,7 @@
 // Which numbers k and n may be listed, counted or written out whole (01, 'Refusal numbers'; 02, requests f, g and l): 1, 2, and 12 where k to the power n is above
 // a limit. The limit is a parameter: each program and call has its own.
 
+pub use limits_spec::Planned;
 use refusal::Refusal;
 use rings::FEWEST_SHADES;
 use rings::MOST_SECTORS;
@@ -8,16 +9,10 @@ use rings::MOST_SHADES;
 ghost use Prim.Native.Nat.{_^_};
 ghost use mathlib.Core.Path.{_≡_};
 ghost use lib.Dec.{ltb};
-ghost use Rattle.limits.specs.Limits.{NumbersSay};
+ghost use Rattle.limits_spec.specs.Limits.{NumbersSay};
 
 // The greatest power that is not Too many in the listing program and for a target set: 2 to the power 24.
 pub const MOST_LISTED: usize = 16777216;
-
-// What two numbers ask for: the rings of k shades and n sectors, or a refusal.
-pub enum Planned {
-    Accepted(usize, usize),
-    Refused(Refusal),
-}
 
 // Whether k to the power n is above the limit, exactly. The product is only formed where it stays within the limit, so that nothing
 // wraps; from k = 2 on it doubles at least, so that at most 64 turns are made, however large n is.

@@ -1,4 +1,2 @@
 -- Laws of the line: a number read digit by digit (Spelling), the two numbers and their space (Lines), and lines computed (Samples).
 pub mod Spelling
-pub mod Lines
-pub mod Samples

@@ -2,7 +2,6 @@
 --     spelling-start, spelling-on, spelling-small, spelling-end     the loop over the digits
 --     too-short, too-long, zero-first, no-digit                     what is no number of one to three digits
 --     zero-text                                                     0 alone
--- Assumes nothing.
 use Prim.Native.Nat.{ℕ, _+_, _-_, _*_, _^_, _<_, _≤_}
 use mathlib.Core.Path.{_≡_, refl, sym, ap, _∙_}
 use mathlib.Core.List.{List, [], _∷_}
@@ -13,8 +12,8 @@ use native.Mathlib.Decide.{decLt}
 use lib.ListN.{length, getD, drop, drop-of-length-le}
 use lib.Seq.{drop-cons}
 use Rattle.words.proofs.Sequence.{one-more}
-use Rattle.text.specs.Decimal.{decimal}
-use Rattle.text.proofs.Digits.{valueFrom, numeral, decimal-short, decimal-digits, decimal-some, decimal-lead, length-decimal}
+use Rattle.text_spec.specs.Decimal.{decimal}
+use Rattle.text_spec.proofs.Digits.{valueFrom, numeral, decimal-short, decimal-digits, decimal-some, decimal-lead, length-decimal}
 
 pub record Spelling (s : List ℕ) (x i : ℕ) : Type 0 where
   pub inside : i ≤ length s

@@ -1,17 +1,7 @@
 // The line that the listing program reads (01, 'The listing program'): k and n. Its parts serve other lines of numbers too.
-ghost use Rattle.line.specs.Line.{ParseSays, FieldsSays, NumberSays, SpaceAt};
-
-// what the line says: k, then n; or that it is malformed
-pub enum Parsed {
-    Pair(usize, usize),
-    Line,
-}
-
-// one number of the line
-pub enum Numeral {
-    Value(usize),
-    Malformed,
-}
+pub use line_spec::Numeral;
+pub use line_spec::Parsed;
+ghost use Rattle.line_spec.specs.Line.{ParseSays, FieldsSays, NumberSays, SpaceAt};
 
 // the most digits that a number of the line may have
 const DIGITS: usize = 3;

@@ -1,5 +1,5 @@
 // The listing program (01, 'The listing program').
 
 fn main() {
-    printing_inner::run();
+    listing_program_inner::run();
 }

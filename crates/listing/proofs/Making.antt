@@ -4,7 +4,6 @@
 --     refused-room, refused-says        a refusal's line
 --     first-small, first-refused, first-listed    the first page: no room for a line, a refusal, a listing
 --     next-none, next-filled            any other page: from a state that is not good, and from one that is
--- Assumes nothing.
 use Prim.Native.Nat.{ℕ, _+_, _^_, _<_, _≤_}
 use mathlib.Core.Path.{_≡_, refl, sym, ap, _∙_}
 use mathlib.Core.List.{List, [], _++_}
@@ -13,21 +12,21 @@ use lib.ListN.{length}
 use lib.Seq.{sets-eq}
 use Rattle.refusal.specs.declared.Refusal.{Refusal}
 use Rattle.refusal.specs.Numbers.{numberOf}
-use Rattle.text.specs.Text.{refusedLine}
-use Rattle.text.specs.Put.{Placed}
-use Rattle.text.proofs.Digits.{length-decimal}
-use Rattle.text.proofs.Put.{length-refused}
-use Rattle.limits.specs.declared.Planned.the-variants.{Accepted, Refused}
-use Rattle.plan.specs.Plan.{PlanSays}
+use Rattle.text_spec.specs.Text.{refusedLine}
+use Rattle.text_spec.specs.Put.{Placed}
+use Rattle.text_spec.proofs.Digits.{length-decimal}
+use Rattle.text_spec.proofs.Put.{length-refused}
+use Rattle.limits_spec.specs.declared.Planned.the-variants.{Accepted, Refused}
+use Rattle.plan_spec.specs.Plan.{PlanSays}
 use Rattle.plan.proofs.Plans.{plan-number}
-use Rattle.pages.specs.declared.State.{State}
-use Rattle.pages.specs.declared.Page.{Page}
-use Rattle.pages.specs.Listing.{opening}
-use Rattle.pages.specs.Prints.{most}
-use Rattle.pages.specs.State.{Good, emptyState}
-use Rattle.pages.specs.Paging.{lineRoom, First, small, refused, listed, Next, bad, good, Paged}
-use Rattle.pages_inner.specs.Says.{FillSays, OpenSays}
-use Rattle.listing.specs.Says.{emptyPage, RefusedSays}
+use Rattle.listing_spec.specs.declared.State.{State}
+use Rattle.listing_spec.specs.declared.Page.{Page}
+use Rattle.listing_spec.specs.Listing.{opening}
+use Rattle.listing_spec.specs.Prints.{most}
+use Rattle.listing_spec.specs.State.{GoodState, emptyState}
+use Rattle.listing_spec.specs.Paging.{lineRoom, FirstPage, small, refused, listed, Next, bad, good, Paged}
+use Rattle.listing_pages_inner.specs.Says.{FillSays, OpenSays}
+use Rattle.listing.specs.Says.{emptyPage, RefusedPageSays}
 
 -- a page of no bytes
 paged-none : (P : List ℕ → State → Type 0) (b : List ℕ) (r : Page) → r ≡ emptyPage → P [] (r .state) → Paged P b r b
@@ -44,34 +43,34 @@ pub refused-room : (at x room : ℕ) → at ≤ 64 → x < 10 ^ 20 → lineRoom 
 refused-room at x room near h l = omega (arith, length-refused x, length-decimal 19 x h)
 
 -- the line of the refusal's own number
-pub refused-says : (r : Refusal) (x : ℕ) → x ≡ numberOf r → (b : List ℕ) (p : Page) (b′ : List ℕ) → Placed b 0 (refusedLine x) (p .length) b′ → p .state ≡ emptyState → RefusedSays r b p b′
+pub refused-says : (r : Refusal) (x : ℕ) → x ≡ numberOf r → (b : List ℕ) (p : Page) (b′ : List ℕ) → Placed b 0 (refusedLine x) (p .length) b′ → p .state ≡ emptyState → RefusedPageSays r b p b′
 refused-says r x e b p b′ q f = record { placed = rw e at q; state = f }
 
 module _ (s b : List ℕ) (r : Page) where
   -- no room for a line
-  pub first-small : length b < lineRoom → r ≡ emptyPage → Paged (First s (length b)) b r b
-  first-small h e = paged-none (First s (length b)) b r e (small h refl (ap (λ (x : Page). x .state) e))
+  pub first-small : length b < lineRoom → r ≡ emptyPage → Paged (FirstPage s (length b)) b r b
+  first-small h e = paged-none (FirstPage s (length b)) b r e (small h refl (ap (λ (x : Page). x .state) e))
 
   -- a refusal's line fits, and is the page
   refused-fits : lineRoom ≤ length b → (x : Refusal) → PlanSays most s (Refused x) → length (refusedLine (numberOf x)) ≤ length b
   refused-fits h x p = omega (arith, length-refused (numberOf x), length-decimal 1 (numberOf x) (omega (arith, plan-number most s x p)))
 
-  pub first-refused : (b′ : List ℕ) → lineRoom ≤ length b → (x : Refusal) → PlanSays most s (Refused x) → RefusedSays x b r b′ → Paged (First s (length b)) b r b′
+  pub first-refused : (b′ : List ℕ) → lineRoom ≤ length b → (x : Refusal) → PlanSays most s (Refused x) → RefusedPageSays x b r b′ → Paged (FirstPage s (length b)) b r b′
   first-refused b′ h x p q =
-      placed-paged (First s (length b)) b r b′ (refusedLine (numberOf x)) (q .placed) (refused-fits h x p) (refused h x p refl (q .state))
+      placed-paged (FirstPage s (length b)) b r b′ (refusedLine (numberOf x)) (q .placed) (refused-fits h x p) (refused h x p refl (q .state))
 
   -- a listing's first page
-  pub first-listed : (b′ : List ℕ) → lineRoom ≤ length b → (k n : ℕ) → PlanSays most s (Accepted k n) → OpenSays k n b r b′ → Paged (First s (length b)) b r b′
+  pub first-listed : (b′ : List ℕ) → lineRoom ≤ length b → (k n : ℕ) → PlanSays most s (Accepted k n) → OpenSays k n b r b′ → Paged (FirstPage s (length b)) b r b′
   first-listed b′ h k n p q =
-      placed-paged (First s (length b)) b r b′ (opening k n ++ q .text) (q .placed) (omega (arith, q .inside, q .placed .next))
+      placed-paged (FirstPage s (length b)) b r b′ (opening k n ++ q .text) (q .placed) (omega (arith, q .inside, q .placed .next))
       (listed h k n (q .text) (q .rest) p (q .goes) refl (q .state))
 
 module _ (s : State) (b : List ℕ) (r : Page) where
   -- nothing follows
-  pub next-none : (Good s → ⊥) → r ≡ emptyPage → Paged (Next s (length b)) b r b
+  pub next-none : (GoodState s → ⊥) → r ≡ emptyPage → Paged (Next s (length b)) b r b
   next-none h e = paged-none (Next s (length b)) b r e (bad h refl (ap (λ (x : Page). x .state) e))
 
   -- a page from its beginning on
-  pub next-filled : (b′ : List ℕ) → Good s → FillSays s b 0 r b′ → Paged (Next s (length b)) b r b′
+  pub next-filled : (b′ : List ℕ) → GoodState s → FillSays s b 0 r b′ → Paged (Next s (length b)) b r b′
   next-filled b′ g q =
       placed-paged (Next s (length b)) b r b′ (q .text) (q .placed) (omega (arith, q .inside, q .placed .next)) (good g (q .rest) (q .goes) (q .state))

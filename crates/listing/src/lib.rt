@@ -2,16 +2,16 @@
 
 use limits::MOST_LISTED;
 use limits::Planned;
-use pages::Page;
-use pages::State;
+use listing_spec::Page;
+use listing_spec::State;
 use refusal::Refusal;
 ghost use Prim.Native.Nat.{_≤_};
 ghost use mathlib.Core.Path.{_≡_};
 ghost use lib.ListN.{length};
-ghost use Rattle.plan.specs.Plan.{PlanSays};
-ghost use Rattle.pages.specs.Prints.{most};
-ghost use Rattle.pages.specs.Paging.{lineRoom, First, Next, Paged};
-ghost use Rattle.listing.specs.Says.{emptyPage, RefusedSays};
+ghost use Rattle.plan_spec.specs.Plan.{PlanSays};
+ghost use Rattle.listing_spec.specs.Prints.{most};
+ghost use Rattle.listing_spec.specs.Paging.{lineRoom, FirstPage, Next, Paged};
+ghost use Rattle.listing.specs.Says.{emptyPage, RefusedPageSays};
 
 // No line is longer, nor are the first two together.
 const LINE_ROOM: usize = 107;
@@ -31,33 +31,33 @@ fn empty_page() -> Page
 {
     Page {
         length: 0,
-        state: pages_inner::empty_state(),
+        state: listing_pages_inner::empty_state(),
     }
 }
 
 // A refusal's page: its line alone.
 fn refused_page(r: Refusal, buf: &mut [u8]) -> Page
     requires { ⌜ lineRoom ≤ length (now buf) ⌝ }
-    ensures { λ p. ⌜ RefusedSays r (now (buf .entry)) p (now (buf .exit)) ⌝ }
+    ensures { λ p. ⌜ RefusedPageSays r (now (buf .entry)) p (now (buf .exit)) ⌝ }
 {
     let number = refusal::number(r);
-    let end = text_inner::place_refused(buf, 0, number);
+    let end = text_lines_inner::place_refused(buf, 0, number);
     Page {
         length: end,
-        state: pages_inner::empty_state(),
+        state: listing_pages_inner::empty_state(),
     }
 }
 
 // The first page of the output for a line. Where the buffer has no room for a line it is a page of no bytes.
 pub fn first_page(line: &[u8], buf: &mut [u8]) -> Page
-    ensures { λ r. ⌜ Paged (First (now (line .entry)) (length (now (buf .entry)))) (now (buf .entry)) r (now (buf .exit)) ⌝ }
+    ensures { λ r. ⌜ Paged (FirstPage (now (line .entry)) (length (now (buf .entry)))) (now (buf .entry)) r (now (buf .exit)) ⌝ }
 {
     if buf.len() < LINE_ROOM {
         return empty_page();
     }
     match plan(line) {
         Planned::Refused(r) => refused_page(r, buf),
-        Planned::Accepted(k, n) => pages_inner::open_page(k, n, buf),
+        Planned::Accepted(k, n) => listing_pages_inner::open_page(k, n, buf),
     }
 }
 
@@ -65,8 +65,8 @@ pub fn first_page(line: &[u8], buf: &mut [u8]) -> Page
 pub fn next_page(s: State, buf: &mut [u8]) -> Page
     ensures { λ r. ⌜ Paged (Next s (length (now (buf .entry)))) (now (buf .entry)) r (now (buf .exit)) ⌝ }
 {
-    if !states_inner::is_good(s) {
+    if !listing_states_inner::is_good(s) {
         return empty_page();
     }
-    pages_inner::fill_page(s, buf, 0)
+    listing_pages_inner::fill_page(s, buf, 0)
 }

@@ -1,10 +1,9 @@
--- Parts joined to one number and cut from it again, for every width b of a part (`packing`, specs/Packing).
+-- Parts joined to one number and cut from it again, for every width b of a part (`packing_spec`, specs/Packing).
 --     length-parts, parts-fit    n parts, each of b bits
 --     as-one-lt                  n parts of b bits are a number of b * n bits
 --     parts-of-one               parts of b bits are kept by their number
 --     one-of-parts               and the number by its parts
 --     as-one-snoc                one more part behind
--- Assumes nothing.
 use Prim.Native.Nat.{ℕ, zero, suc, _+_, _*_, _%_, _^_, _<_}
 use mathlib.Core.Path.{_≡_, refl, ap, sym, _∙_}
 use mathlib.Core.List.{List, [], _∷_, _++_}
@@ -13,7 +12,7 @@ use native.Mathlib.Nat.{mod-lt, mul-zero, mul-suc, mul-comm, mul-assoc, add-mul}
 use lib.Pow.{pow-pos, pow-add, split, high, low, shr-lt}
 use lib.Arith.{digits-lt}
 use lib.ListN.{length, length-append}
-use Rattle.packing.specs.Packing.{Fits, asOne, partsOf}
+use Rattle.packing_spec.specs.Packing.{BitsFit, asOne, partsOf}
 
 -- one part more is b bits more
 pow-more : (b n : ℕ) → 2 ^ (b * suc n) ≡ 2 ^ b * 2 ^ (b * n)
@@ -24,23 +23,23 @@ unfolding partsOf
 length-parts b zero x = refl
 length-parts b (suc n) x = ap suc (length-parts b n (x % 2 ^ (b * n)))
 
-pub parts-fit : (b n x : ℕ) → x < 2 ^ (b * n) → Fits b (partsOf b n x)
+pub parts-fit : (b n x : ℕ) → x < 2 ^ (b * n) → BitsFit b (partsOf b n x)
 unfolding partsOf
 parts-fit b zero x h i l = absurd (omega arith)
 parts-fit b (suc n) x h zero l =
     let e : b * suc n ≡ b + b * n = mul-suc b n ∙ omega arith in shr-lt b (b * n) (rw e at h)
 parts-fit b (suc n) x h (suc i) l = parts-fit b n (x % 2 ^ (b * n)) (mod-lt x (pow-pos (b * n))) i (omega arith)
 
-pub as-one-lt : (b : ℕ) (w : List ℕ) → Fits b w → asOne b w < 2 ^ (b * length w)
+pub as-one-lt : (b : ℕ) (w : List ℕ) → BitsFit b w → asOne b w < 2 ^ (b * length w)
 unfolding asOne
 as-one-lt b [] h = pow-pos (b * 0)
 as-one-lt b (x ∷ w) h = rw (pow-more b (length w)) (digits-lt (h 0 (omega arith)) (as-one-lt b w (λ i l. h (suc i) (omega arith))))
 
-pub parts-of-one : (b : ℕ) (w : List ℕ) → Fits b w → partsOf b (length w) (asOne b w) ≡ w
+pub parts-of-one : (b : ℕ) (w : List ℕ) → BitsFit b w → partsOf b (length w) (asOne b w) ≡ w
 unfolding partsOf asOne
 parts-of-one b [] h = refl
 parts-of-one b (x ∷ w) h =
-    let rest : Fits b w = λ i l. h (suc i) (omega arith) in
+    let rest : BitsFit b w = λ i l. h (suc i) (omega arith) in
     let l = as-one-lt b w rest in
     rw (high x (b * length w) l, low x (b * length w) l, parts-of-one b w rest)
 

@@ -1,15 +1,14 @@
--- How many bytes n sectors of b bits take, and how many bits they leave unused (`packing`, specs/Packing).
+-- How many bytes n sectors of b bits take, and how many bits they leave unused (`packing_spec`, specs/Packing).
 --     bits-bytes                the sectors' bits and the unused ones fill the bytes
 --     spare-lt, bytes-is        fewer than 8 are unused, and for no other number of bytes
 --     packed-some, packed-le    at least one byte, and no more than there are sectors
 --     few-bits                  at most 512 bits, for up to 64 sectors of up to 8 bits
 --     bits-within, byte-of-lt   each bit of a sector is one of the sectors' bits, so its first bit lies in one of the bytes
--- Assumes nothing.
 use Prim.Native.Nat.{ℕ, suc, _+_, _*_, _<_, _≤_}
 use mathlib.Core.Path.{_≡_}
 use native.Mathlib.Omega.{arith}
 use native.Mathlib.Nat.{mul-suc, mul-le-mul, mul-le-mul-left}
-use Rattle.packing.specs.Packing.{packedLength, spare, byteOf}
+use Rattle.packing_spec.specs.Packing.{packedLength, spare, byteOf}
 
 pub bits-bytes : (b n : ℕ) → b * n + spare b n ≡ 8 * packedLength b n
 unfolding spare packedLength

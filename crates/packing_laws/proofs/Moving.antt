@@ -4,7 +4,6 @@
 --     moved-take                 one more is taken
 --     moved-give, give-fits      one more is written; it has b bits
 --     grown, fits-set, held-lt   what the loops need too
--- Assumes nothing.
 use Prim.Native.Nat.{ℕ, suc, _+_, _-_, _*_, _/_, _%_, _^_, _<_, _≤_}
 use mathlib.Core.Path.{_≡_, refl, sym}
 use mathlib.Core.List.{List}
@@ -16,7 +15,7 @@ use lib.Arith.{digits-lt}
 use lib.ListN.{length, getD, take, set}
 use lib.Seq.{take-suc, take-suc-set, getD-set-same, getD-set-other}
 use Rattle.words.proofs.Split.{lt, eq, gt, tri}
-use Rattle.packing.specs.Packing.{asOne}
+use Rattle.packing_spec.specs.Packing.{asOne}
 use Rattle.packing_laws.proofs.AsOne.{as-one-snoc}
 
 -- the written parts, and the held bits behind them, are the taken parts as one number

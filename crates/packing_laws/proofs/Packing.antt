@@ -8,7 +8,6 @@
 --     packed-holds, holds-packed         so bytes are the packed sectors exactly where they hold those sectors and their padding is clear
 --     packed-injective                   no two readings of one length are packed to the same bytes
 --     packed-is, unpacked-is             for the code: parts that make the right number are the packed ones, the unpacked ones
--- Assumes nothing.
 use Prim.Native.Nat.{ℕ, zero, suc, _+_, _-_, _*_, _/_, _%_, _^_, _<_, _≤_}
 use mathlib.Core.Path.{_≡_, refl, ap, sym, _∙_}
 use mathlib.Core.Bool.{true}
@@ -19,26 +18,26 @@ use lib.Pow.{pow-add, split, high, shr-lt, shl-lt, shl-shr}
 use lib.ListN.{length, getD, take}
 use lib.Seq.{take-suc, take-all}
 use borrow.Author.Tests.{eqb-true, eq-eqb}
-use Rattle.packing.specs.Packing.{Fits, Bytes, asOne, packedLength, spare, packed, unpacked, clearPadding}
+use Rattle.packing_spec.specs.Packing.{BitsFit, Bytes, asOne, packedLength, spare, packed, unpacked, clearPadding}
 use Rattle.packing_laws.proofs.AsOne.{length-parts, parts-fit, as-one-lt, parts-of-one, one-of-parts, as-one-snoc}
 use Rattle.packing_laws.proofs.Lengths.{bits-bytes, spare-lt}
 
 -- ---- what packing makes
 
 -- the number of the packed bytes fits into them
-packed-lt : (b : ℕ) (w : List ℕ) → Fits b w → asOne b w * 2 ^ spare b (length w) < 2 ^ (8 * packedLength b (length w))
+packed-lt : (b : ℕ) (w : List ℕ) → BitsFit b w → asOne b w * 2 ^ spare b (length w) < 2 ^ (8 * packedLength b (length w))
 packed-lt b w h = rw (sym (bits-bytes b (length w))) (shl-lt (b * length w) (spare b (length w)) (as-one-lt b w h))
 
 pub length-packed : (b : ℕ) (w : List ℕ) → length (packed b w) ≡ packedLength b (length w)
 unfolding packed
 length-packed b w = length-parts 8 (packedLength b (length w)) (asOne b w * 2 ^ spare b (length w))
 
-pub packed-bytes : (b : ℕ) (w : List ℕ) → Fits b w → Bytes (packed b w)
+pub packed-bytes : (b : ℕ) (w : List ℕ) → BitsFit b w → Bytes (packed b w)
 unfolding packed
 packed-bytes b w h = parts-fit 8 (packedLength b (length w)) (asOne b w * 2 ^ spare b (length w)) (packed-lt b w h)
 
 -- its number is that of the sectors, with zeros behind
-pub one-packed : (b : ℕ) (w : List ℕ) → Fits b w → asOne 8 (packed b w) ≡ asOne b w * 2 ^ spare b (length w)
+pub one-packed : (b : ℕ) (w : List ℕ) → BitsFit b w → asOne 8 (packed b w) ≡ asOne b w * 2 ^ spare b (length w)
 unfolding packed
 one-packed b w h = one-of-parts 8 (packedLength b (length w)) (asOne b w * 2 ^ spare b (length w)) (packed-lt b w h)
 
@@ -59,11 +58,11 @@ pub length-unpacked : (b n : ℕ) (c : List ℕ) → length (unpacked b n c) ≡
 unfolding unpacked
 length-unpacked b n c = length-parts b n (asOne 8 c / 2 ^ spare b n)
 
-pub unpacked-fits : (b n : ℕ) (c : List ℕ) → length c ≡ packedLength b n → Bytes c → Fits b (unpacked b n c)
+pub unpacked-fits : (b n : ℕ) (c : List ℕ) → length c ≡ packedLength b n → Bytes c → BitsFit b (unpacked b n c)
 unfolding unpacked
 unpacked-fits b n c l h = parts-fit b n (asOne 8 c / 2 ^ spare b n) (unpacked-lt b n c l h)
 
-pub unpacked-is : (b n r : ℕ) (c w : List ℕ) → length w ≡ n → Fits b w → asOne b w * 2 ^ spare b n + r ≡ asOne 8 c → r < 2 ^ spare b n → w ≡ unpacked b n c
+pub unpacked-is : (b n r : ℕ) (c w : List ℕ) → length w ≡ n → BitsFit b w → asOne b w * 2 ^ spare b n + r ≡ asOne 8 c → r < 2 ^ spare b n → w ≡ unpacked b n c
 unfolding unpacked
 unpacked-is b n r c w l h e z = rw (sym e, high (asOne b w) (spare b n) z, sym l) (sym (parts-of-one b w h))
 
@@ -104,13 +103,13 @@ no-padding b n c h =
     let z : spare b n ≡ 0 = omega (arith, bits-bytes b n, spare-lt b n) in
     eq-eqb _ _ (ap (λ (q : ℕ). getD c (packedLength b n - 1) 0 % 2 ^ q) z ∙ mod-one (getD c (packedLength b n - 1) 0))
 
-pub packed-clear : (b : ℕ) (w : List ℕ) → Fits b w → clearPadding b (length w) (packed b w) ≡ true
+pub packed-clear : (b : ℕ) (w : List ℕ) → BitsFit b w → clearPadding b (length w) (packed b w) ≡ true
 packed-clear b w h =
     low-clear b (length w) (packed b w) (length-packed b w) (ap (λ (q : ℕ). q % 2 ^ spare b (length w)) (one-packed b w h) ∙ mul-mod-left (asOne b w) (2 ^ spare b (length w)))
 
 -- ---- the two directions
 
-pub unpacked-packed : (b : ℕ) (w : List ℕ) → Fits b w → unpacked b (length w) (packed b w) ≡ w
+pub unpacked-packed : (b : ℕ) (w : List ℕ) → BitsFit b w → unpacked b (length w) (packed b w) ≡ w
 unfolding unpacked
 unpacked-packed b w h = rw (one-packed b w h, shl-shr (asOne b w) (spare b (length w))) (parts-of-one b w h)
 
@@ -124,12 +123,12 @@ packed-unpacked b n c l h z =
 -- ---- as its users ask for it
 
 -- bytes that are the packed sectors hold them, and their padding is clear
-pub packed-holds : (b : ℕ) (w c : List ℕ) → Fits b w → c ≡ packed b w → (unpacked b (length w) c ≡ w) × (clearPadding b (length w) c ≡ true)
+pub packed-holds : (b : ℕ) (w c : List ℕ) → BitsFit b w → c ≡ packed b w → (unpacked b (length w) c ≡ w) × (clearPadding b (length w) c ≡ true)
 packed-holds b w c h e = rw e (unpacked-packed b w h, packed-clear b w h)
 
 -- bytes that hold the sectors, with clear padding, are the packed sectors
 pub holds-packed : (b n : ℕ) (w c : List ℕ) → length c ≡ packedLength b n → Bytes c → unpacked b n c ≡ w → clearPadding b n c ≡ true → c ≡ packed b w
 holds-packed b n w c l h e z = sym (packed-unpacked b n c l h z) ∙ ap (packed b) e
 
-pub packed-injective : (b : ℕ) (v w : List ℕ) → Fits b v → Fits b w → length v ≡ length w → packed b v ≡ packed b w → v ≡ w
+pub packed-injective : (b : ℕ) (v w : List ℕ) → BitsFit b v → BitsFit b w → length v ≡ length w → packed b v ≡ packed b w → v ≡ w
 packed-injective b v w f g l e = sym (unpacked-packed b v f) ∙ rw (e, l) (unpacked-packed b w g)

@@ -1,10 +1,9 @@
--- The width of k shades (`packing`, specs/Width).
+-- The width of k shades (`packing_spec`, specs/Width).
 --     width-fits, shade-fits, shades-fit    the highest shade takes no more bits, so no shade does, and no sector of a reading
 --     width-needs                           and the highest needs them all
 --     width-is                              nothing else is so
 --     width-pos, width-le, narrow           at least 1; at most b where k is up to 2 to the power b; so 1 to 4 for 2 to 16 shades
 --     width-leading                         eight less the leading zeros of k - 1 as a byte
--- Assumes nothing.
 use Prim.Native.Nat.{ℕ, zero, suc, _+_, _-_, _*_, _^_, _<_, _≤_}
 use mathlib.Core.Path.{_≡_}
 use mathlib.Core.Bool.{Bool}
@@ -19,8 +18,8 @@ use borrow.Author.Tests.{ltb-true, ltb-false, lt-ltb}
 use Rattle.words.specs.Readings.{Shaded}
 use Rattle.words.proofs.Search.{least-at, least-lt, least-none}
 use Rattle.words.proofs.Split.{lt, eq, gt, tri}
-use Rattle.packing.specs.Width.{width}
-use Rattle.packing.specs.Packing.{Fits}
+use Rattle.packing_spec.specs.Width.{width}
+use Rattle.packing_spec.specs.Packing.{BitsFit}
 
 -- a number is below 2 to its own power
 pow-above : (n : ℕ) → n < 2 ^ n
@@ -36,7 +35,7 @@ width-fits k z =
 pub shade-fits : (k x : ℕ) → x < k → x < 2 ^ width k
 shade-fits k x h = omega (arith, width-fits k (omega arith))
 
-pub shades-fit : (k : ℕ) (w : List ℕ) → ((i : ℕ) → i < length w → getD w i 0 < k) → Fits (width k) w
+pub shades-fit : (k : ℕ) (w : List ℕ) → ((i : ℕ) → i < length w → getD w i 0 < k) → BitsFit (width k) w
 shades-fit k w h i l = shade-fits k (getD w i 0) (h i l)
 
 pub width-needs : (k b : ℕ) → b < width k → 2 ^ b ≤ k - 1

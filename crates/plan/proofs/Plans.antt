@@ -1,18 +1,17 @@
 -- What the parser and the numbers say, the plan says.
 --     plan-spelt      the plan of the numbers that a line spells is the line's
 --     plan-number     the number of a line's refusal is at most 12
--- Assumes nothing.
 use Prim.Native.Nat.{ℕ, _≤_}
 use mathlib.Core.List.{List}
 use native.Mathlib.Omega.{arith}
 use Rattle.refusal.specs.declared.Refusal.{Refusal}
 use Rattle.refusal.specs.Numbers.{numberOf}
-use Rattle.line.specs.Line.{Spells}
-use Rattle.limits.specs.declared.Planned.{Planned}
-use Rattle.limits.specs.declared.Planned.the-variants.{Accepted, Refused}
-use Rattle.limits.specs.Limits.{NumbersSay}
-use Rattle.limits.proofs.Given.{given-number}
-use Rattle.plan.specs.Plan.{RefusedLine, malformed, spelt, PlanSays}
+use Rattle.line_spec.specs.Line.{Spells}
+use Rattle.limits_spec.specs.declared.Planned.{Planned}
+use Rattle.limits_spec.specs.declared.Planned.the-variants.{Accepted, Refused}
+use Rattle.limits_spec.specs.Limits.{NumbersSay}
+use Rattle.limits_spec.proofs.Given.{given-number}
+use Rattle.plan_spec.specs.Plan.{RefusedLine, malformed, spelt, PlanSays}
 
 -- the plan of the numbers that a line spells is the line's
 pub plan-spelt : (limit : ℕ) (s : List ℕ) (k n : ℕ) (p : Planned) → Spells s k n → NumbersSay limit k n p → PlanSays limit s p

@@ -3,7 +3,7 @@
 use limits::Planned;
 use line::Parsed;
 use refusal::Refusal;
-ghost use Rattle.plan.specs.Plan.{PlanSays};
+ghost use Rattle.plan_spec.specs.Plan.{PlanSays};
 
 // A line: 11, 1, 2, 12.
 pub fn plan_line(line: &[u8], limit: usize) -> Planned

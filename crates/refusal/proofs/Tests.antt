@@ -4,7 +4,6 @@
 --     Answers o u  what the answer u says
 --     answered     it holds
 --     given-answer, passed-answer    so a refusal that is given, and that no check fails, each determine the computed answer
--- Assumes nothing.
 use Prim.Native.Nat.{ℕ, _<_}
 use mathlib.Core.Path.{_≡_, refl, sym, ap}
 use mathlib.Core.Bool.{Bool, true, false, not}

@@ -1,4 +1,4 @@
-// Refusals: their numbers and places. The checks that give them stand above, in `checks_inner`, `checks`, `count_checks` and `walk_checks_inner`.
+// Refusals: their numbers and places. The checks that give them stand above, in `check_numbers_inner`, `check_readings_inner`, `check_counts_inner` and `walk_checks_inner`.
 ghost use mathlib.Core.Path.{_≡_};
 ghost use Rattle.refusal.specs.Numbers.{numberOf, placeOf};
 

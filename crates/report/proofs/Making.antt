@@ -2,7 +2,6 @@
 --     taken-is, taken-within, taken-room    how many bytes of a block are taken
 --     feed-says                      a block
 --     end-small, end-none, end-some  the end of the input
--- Assumes nothing.
 use Prim.Native.Nat.{ℕ, zero, suc, _+_, _*_, _/_, _<_, _≤_}
 use mathlib.Core.Path.{_≡_, refl, sym, ap, subst, _∙_}
 use mathlib.Core.Bool.{true, false}
@@ -14,17 +13,17 @@ use lib.ListN.{length, take, drop, length-take}
 use lib.Seq.{take-all, sets-eq}
 use borrow.Author.Tests.{ltb-true, ltb-false}
 use Rattle.words.proofs.Split.{passes, fails, test}
-use Rattle.text.specs.Put.{Placed}
-use Rattle.reports.specs.declared.Pending.{Pending}
-use Rattle.reports.specs.declared.Fed.{Fed}
-use Rattle.reports.specs.Lines.{Answers, ended, under, lastOf, Texts, done}
-use Rattle.reports.specs.Blocks.{lineRoom, keep, lineOf, stateOf, bytesFor, FeedSays, EndSays, small, last}
+use Rattle.text_spec.specs.Put.{Placed}
+use Rattle.report_spec.specs.declared.Pending.{Pending}
+use Rattle.report_spec.specs.declared.Fed.{Fed}
+use Rattle.report_spec.specs.Lines.{Answers, ended, under, lastOf, Texts, done}
+use Rattle.report_spec.specs.Blocks.{lineRoom, keep, lineOf, stateOf, bytesFor, FeedSays, EndSays, small, last}
 use Rattle.report_laws.proofs.Bytes.{texts-one}
 use Rattle.report_laws.proofs.Room.{answer-short}
-use Rattle.answers_inner.specs.Says.{AnswerSays}
-use Rattle.blocks_inner.specs.declared.Behind.{Behind}
-use Rattle.blocks_inner.specs.Says.{smaller, BlockSays}
-use Rattle.blocks_inner.proofs.Holding.{smaller-left, smaller-right, line-take}
+use Rattle.report_answers_inner.specs.Says.{AnswerSays}
+use Rattle.stream_blocks_inner.specs.declared.Behind.{Behind}
+use Rattle.stream_blocks_inner.specs.Says.{smaller, BlockSays}
+use Rattle.stream_blocks_inner.proofs.Holding.{smaller-left, smaller-right, line-take}
 
 -- ---- how much is taken
 

@@ -1,10 +1,10 @@
 // The report (02, request f): many lines of k and n, and for each the necklaces and the Lyndon words, or a refusal. The input comes in blocks, cut anywhere.
 
-use reports::Fed;
-use reports::Pending;
+use report_spec::Fed;
+use report_spec::Pending;
 ghost use mathlib.Core.Path.{_≡_};
 ghost use mathlib.Core.List.{[]};
-ghost use Rattle.reports.specs.Blocks.{stateOf, FeedSays, EndSays};
+ghost use Rattle.report_spec.specs.Blocks.{stateOf, FeedSays, EndSays};
 
 // No line of the report is longer.
 const LINE_ROOM: usize = 22;
@@ -24,8 +24,8 @@ pub fn start() -> Pending
 pub fn feed(p: Pending, block: &[u8], buf: &mut [u8]) -> Fed
     ensures { λ r. ⌜ FeedSays p (now (block .entry)) (now (buf .entry)) r (now (buf .exit)) ⌝ }
 {
-    let taken = blocks_inner::smaller_of(buf.len() / LINE_ROOM, block.len());
-    let q = blocks_inner::take_bytes(p, block, taken, buf);
+    let taken = stream_blocks_inner::smaller_of(buf.len() / LINE_ROOM, block.len());
+    let q = stream_blocks_inner::take_bytes(p, block, taken, buf);
     let line = q.line;
     let len = q.len;
     let state = Pending { line, len };
@@ -45,9 +45,9 @@ pub fn finish(p: Pending, buf: &mut [u8]) -> usize
         return 0;
     }
     let line = p.line;
-    let len = blocks_inner::smaller_of(p.len, 9);
+    let len = stream_blocks_inner::smaller_of(p.len, 9);
     if len == 0 {
         return 0;
     }
-    answers_inner::place_answer(&line[..len], buf, 0)
+    report_answers_inner::place_answer(&line[..len], buf, 0)
 }

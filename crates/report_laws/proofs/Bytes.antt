@@ -4,15 +4,14 @@
 --     ended-on, ended-same, under-on, under-same    one byte more behind a block: it ends the line under way, or it is added to it
 --     texts-append                  what two groups of lines print
 --     texts-one                     what one line prints
--- Assumes nothing.
 use Prim.Native.Nat.{ℕ}
 use mathlib.Core.Path.{_≡_, refl, sym, ap, subst, _∙_}
 use mathlib.Core.Bool.{true, false}
 use mathlib.Core.List.{List, [], _∷_, _++_, append-assoc, append-nil}
 use lib.Dec.{eqb}
 use Rattle.words.proofs.Split.{Test, passes, fails, test}
-use Rattle.text.specs.Ascii.{newline}
-use Rattle.reports.specs.Lines.{Answers, ended, under, Texts, done, more}
+use Rattle.text_spec.specs.Ascii.{newline}
+use Rattle.report_spec.specs.Lines.{Answers, ended, under, Texts, done, more}
 
 -- ---- one byte
 

@@ -4,7 +4,6 @@
 --     run-lines       a run prints what the lines from its state on print
 --     run-report      a run from the start prints what the whole input prints
 --     cut-anyhow      so two runs of one input print the same, whatever blocks and buffers they had
--- Assumes nothing.
 use Prim.Native.Nat.{ℕ, _-_}
 use mathlib.Core.Path.{_≡_, refl, sym, ap, subst, _∙_}
 use mathlib.Core.Bool.{true, false}
@@ -14,12 +13,12 @@ use lib.Dec.{eqb}
 use lib.ListN.{length, take, drop, replicate}
 use lib.Seq.{take-at, take-take}
 use Rattle.words.proofs.Split.{Test, passes, fails, test}
-use Rattle.text.specs.Ascii.{newline}
-use Rattle.reports.specs.declared.Pending.{Pending}
-use Rattle.reports.specs.declared.Fed.{Fed}
-use Rattle.reports.specs.Lines.{Answers, ended, under, lastOf, linesFrom, lines, Texts, done, more, Reports}
-use Rattle.reports.specs.Blocks.{lineRoom, keep, lineOf, stateOf, bytesFor, FeedSays, EndSays, small, last, Run, ends, feeds}
-use Rattle.reports.proofs.Unique.{one-report}
+use Rattle.text_spec.specs.Ascii.{newline}
+use Rattle.report_spec.specs.declared.Pending.{Pending}
+use Rattle.report_spec.specs.declared.Fed.{Fed}
+use Rattle.report_spec.specs.Lines.{Answers, ended, under, lastOf, linesFrom, lines, Texts, done, more, Reports}
+use Rattle.report_spec.specs.Blocks.{lineRoom, keep, lineOf, stateOf, bytesFor, FeedSays, EndSays, small, last, Run, ends, feeds}
+use Rattle.report_spec.proofs.Unique.{one-report}
 use Rattle.report_laws.proofs.Kept.{kept-on, answer-kept}
 use Rattle.report_laws.proofs.Bytes.{ended-newline, ended-other, under-newline, under-other, ended-none, under-none, ended-append, under-append, texts-append}
 

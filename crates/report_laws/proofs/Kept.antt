@@ -3,7 +3,6 @@
 --     plan-kept       the plan of a line is that of its first 9 bytes (the other way: `plan`, First.plan-first)
 --     answer-keep     so what a line prints is what its first 9 bytes print
 --     answer-kept     and two lines with the same first 9 bytes print the same
--- Assumes nothing.
 use Prim.Native.Nat.{ℕ, zero, suc, _<_, _≤_}
 use mathlib.Core.Path.{_≡_, refl, sym, ap, _∙_}
 use mathlib.Core.List.{List, [], _∷_, _++_}
@@ -11,15 +10,15 @@ use native.Mathlib.Omega.{arith}
 use native.Mathlib.Decide.{decLt}
 use lib.ListN.{length, take, length-take}
 use lib.Seq.{take-all}
-use Rattle.limits.specs.declared.Planned.{Planned}
-use Rattle.limits.specs.declared.Planned.the-variants.{Accepted, Refused}
-use Rattle.line.specs.Line.{Spells}
-use Rattle.line.proofs.Lines.{line-short}
-use Rattle.plan.specs.Plan.{malformed, spelt, PlanSays}
-use Rattle.plan.proofs.First.{plan-first}
-use Rattle.how_many.specs.Says.{most}
-use Rattle.reports.specs.Lines.{Answers, counted, refused}
-use Rattle.reports.specs.Blocks.{keep}
+use Rattle.limits_spec.specs.declared.Planned.{Planned}
+use Rattle.limits_spec.specs.declared.Planned.the-variants.{Accepted, Refused}
+use Rattle.line_spec.specs.Line.{Spells}
+use Rattle.line_spec.proofs.Lines.{line-short}
+use Rattle.plan_spec.specs.Plan.{malformed, spelt, PlanSays}
+use Rattle.plan_spec.proofs.First.{plan-first}
+use Rattle.how_many_spec.specs.Says.{most}
+use Rattle.report_spec.specs.Lines.{Answers, counted, refused}
+use Rattle.report_spec.specs.Blocks.{keep}
 
 -- what is kept of what is kept and a byte more
 kept-more : (m : ℕ) (u : List ℕ) (b : ℕ) → take m (take m u ++ (b ∷ [])) ≡ take m (u ++ (b ∷ []))

@@ -2,7 +2,6 @@
 --     ended-count    as many lines end in it as it has newlines, whatever line was under way
 --     open-last      a line is under way behind it exactly where bytes follow its last newline
 --     lines-count    so there are as many lines as newlines, and one more where bytes follow the last
--- Assumes nothing.
 use Prim.Native.Nat.{ℕ, _+_}
 use mathlib.Core.Path.{_≡_, refl}
 use mathlib.Core.Bool.{true, false}
@@ -12,8 +11,8 @@ use lib.Dec.{eqb}
 use lib.ListN.{length, length-append}
 use Rattle.words.specs.Readings.{bit}
 use Rattle.words.proofs.Split.{passes, fails, test}
-use Rattle.text.specs.Ascii.{newline}
-use Rattle.reports.specs.Lines.{ended, under, lastOf, linesFrom, lines}
+use Rattle.text_spec.specs.Ascii.{newline}
+use Rattle.report_spec.specs.Lines.{ended, under, lastOf, linesFrom, lines}
 use Rattle.report_laws.specs.LineCount.{newlines, endsOpen}
 use Rattle.report_laws.proofs.Bytes.{ended-newline, ended-other, under-newline, under-other, ended-none, under-none}
 

@@ -1,6 +1,5 @@
 -- How long the report's lines are.
 --     answer-short    no line prints more than 22 bytes
--- Assumes nothing.
 use Prim.Native.Nat.{ℕ, _+_, _^_, _<_, _≤_}
 use mathlib.Core.Path.{_≡_, refl, ap}
 use mathlib.Core.Bool.{Bool, true}
@@ -12,16 +11,16 @@ use Rattle.words.proofs.Readings.{readings-all}
 use Rattle.words.proofs.Count.{count-le}
 use Rattle.rings.specs.Necklace.{necklace, lyndon}
 use Rattle.rings.specs.Steps.{howMany}
-use Rattle.counting_laws.proofs.Totals.{readings-size}
+use Rattle.ring_total_laws.proofs.Totals.{readings-size}
 use Rattle.refusal.specs.Numbers.{numberOf}
-use Rattle.text.specs.Text.{refusedLine}
-use Rattle.text.proofs.Digits.{length-decimal}
-use Rattle.text.proofs.Put.{length-refused}
-use Rattle.limits.specs.Limits.{Listable}
+use Rattle.text_spec.specs.Text.{refusedLine}
+use Rattle.text_spec.proofs.Digits.{length-decimal}
+use Rattle.text_spec.proofs.Put.{length-refused}
+use Rattle.limits_spec.specs.Limits.{Listable}
 use Rattle.plan.proofs.Plans.{plan-number}
-use Rattle.how_many.specs.Says.{most}
-use Rattle.reports.specs.Lines.{countsLine, Answers, counted, refused}
-use Rattle.reports.specs.Blocks.{lineRoom}
+use Rattle.how_many_spec.specs.Says.{most}
+use Rattle.report_spec.specs.Lines.{countsLine, Answers, counted, refused}
+use Rattle.report_spec.specs.Blocks.{lineRoom}
 
 -- there are at most as many as readings
 few : (kind : List ℕ → Bool) (n k : ℕ) → k ^ n ≤ most → howMany kind n k ≤ most

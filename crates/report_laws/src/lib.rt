@@ -1,1 +1,1 @@
-// No code: this crate holds the theorems (proofs/) about the definitions of `reports`.
+// No code: this crate holds the theorems (proofs/) about the definitions of `report_spec`.

@@ -1,5 +1,4 @@
 -- Comparing readings, a ring seen from the other side, and one ring from each mirror pair (01, 'Rules the work stands on' and 'Catalogue records'; 02, request c).
--- Assumes nothing.
 use Prim.Native.Nat.{ℕ, _+_}
 use mathlib.Core.Bool.{Bool, not, _&&_}
 use mathlib.Core.List.{List, [], _∷_, reverse}

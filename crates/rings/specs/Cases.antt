@@ -1,7 +1,6 @@
 -- The rings that the client checked by hand (01, 'Rings to check by hand'), of the definitions themselves: one table, one claim. Its proof: proofs/Table.
 -- A row's reading is a decimal numeral with the number of its sectors before it: `classed 9 001010010 (Opening 5)`. Leading zeros count.
 -- The first part of the table is the page's starred cases, in its order; the second has a row for each definition that no starred case computes.
--- Assumes nothing.
 use Prim.Native.Nat.{ℕ, zero, suc, _/_, _%_}
 use mathlib.Core.Path.{_≡_}
 use mathlib.Core.Bool.{Bool, true, false}

@@ -6,7 +6,7 @@
 --     isLoose c, isNecklace c              whether it is Loose, and whether it is a necklace's
 --     loosePlace c   the place that Loose carries, 0 for the other classes
 --     lookAt w       the sector of w to look at
--- That each reading has exactly one class, `classOf w`: `necklace_laws`, proofs/Classes. Assumes nothing.
+-- That each reading has exactly one class, `classOf w`: `ring_laws`, proofs/Classes.
 use Prim.Native.Nat.{ℕ}
 use mathlib.Core.Path.{_≡_}
 use mathlib.Core.Bool.{Bool, true, false, _&&_}

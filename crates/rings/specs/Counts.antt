@@ -1,5 +1,4 @@
 -- Shade counts (01, 'Walks'; 002, section 2: fixed content). The caller lends k counts, one for each shade; a count may be 0, that of shade 0 included.
--- Assumes nothing.
 use Prim.Native.Nat.{ℕ, _+_}
 use mathlib.Core.Bool.{Bool, _&&_}
 use mathlib.Core.List.{List, [], _∷_}

@@ -1,5 +1,4 @@
 -- The home reading and its shift (01, 'Rules the work stands on'; 000, section 1.1: the least of a ring's readings stands for it).
--- Assumes nothing.
 use Prim.Native.Nat.{ℕ}
 use mathlib.Core.Bool.{Bool}
 use mathlib.Core.List.{List}

@@ -1,5 +1,4 @@
 -- Necklaces, periods and Lyndon words (000, section 1.1; 001, Definition 1; 01, 'Rules the work stands on').
--- Assumes nothing.
 use Prim.Native.Nat.{ℕ, suc, _-_, _%_}
 use mathlib.Core.Bool.{Bool, _&&_}
 use mathlib.Core.List.{List}
@@ -29,6 +28,6 @@ period w = suc (least (length w) (λ i. repeatsBy w (suc i)))
 unfoldable pub lyndon : List ℕ → Bool
 lyndon w = necklace w && eqb (period w) (length w)
 
--- the other form of a Lyndon word: below each of its other turns. proofs of `necklace_laws`, Lyndon: the two agree
+-- the other form of a Lyndon word: below each of its other turns. proofs of `ring_laws`, Lyndon: the two agree
 unfoldable pub belowOtherTurns : List ℕ → Bool
 belowOtherTurns w = allBelow (length w - 1) (λ i. before w (turn (suc i) w))

@@ -1,6 +1,6 @@
 -- The next prenecklace as the page builds it (01, 'Rules the work stands on'; 001, Definition 2): let i be the last place, counted from 1, that holds
 -- less than k - 1; raise that sector by one, drop what follows, and repeat the first i sectors until n are filled, the last copy cut where needed.
--- That this is the least prenecklace above: `necklace_laws`, proofs/Next. Assumes nothing.
+-- That this is the least prenecklace above: `ring_laws`, proofs/Next.
 use Prim.Native.Nat.{ℕ, suc, _-_, _%_}
 use mathlib.Core.Bool.{Bool}
 use mathlib.Core.List.{List, [], _∷_, _++_}

@@ -1,6 +1,6 @@
 -- Prenecklaces, in the two forms of the page, lyn (001, Definition 3 and Theorem 1; 000, section 2; 002, section 2), and where a reading goes wrong
 -- (02, b).
--- That the two forms agree: `necklace_laws`, proofs/Begin. What is so of the place where a reading goes wrong: proofs/Wrong there. Assumes nothing.
+-- That the two forms agree: `ring_laws`, proofs/Begin. What is so of the place where a reading goes wrong: proofs/Wrong there.
 use Prim.Native.Nat.{ℕ, suc, _-_}
 use mathlib.Core.Path.{_≡_}
 use mathlib.Core.Bool.{Bool, true, not}

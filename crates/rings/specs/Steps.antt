@@ -1,6 +1,5 @@
 -- Steps and walks (01, 'Walks'): the next reading of a kind, the moves to it, and a full walk.
 -- A kind is a test of readings: prenecklace, necklace, lyndon, or a necklace with given counts.
--- Assumes nothing.
 use Prim.Native.Nat.{ℕ, zero, suc, _+_}
 use mathlib.Core.Path.{_≡_}
 use mathlib.Core.Bool.{Bool, _&&_}

@@ -1,5 +1,5 @@
 // A chart job's command (02, g).
 
 fn main() {
-    set_printing_inner::run();
+    set_program_inner::run();
 }

@@ -11,7 +11,6 @@
 --     greedy-looked, greedy-last    each word taken is one of those looked at, and where enough are taken the last taken is the last looked at
 --     looked-begins, short-looked   the words looked at are a beginning of the words, and all of them where fewer are taken than wanted
 --     greedy-settles                each word looked at is taken or nearer than d to an earlier one taken
--- Assumes nothing.
 use Prim.Native.Nat.{ℕ, zero, suc, _+_, _-_, _<_, _≤_}
 use mathlib.Core.Path.{_≡_, refl, sym, ap, _∙_}
 use mathlib.Core.Bool.{true, false, not}
@@ -26,9 +25,9 @@ use Rattle.words.proofs.Split.{Test, passes, fails, test, lt, eq, gt, tri, clas
 use Rattle.words.proofs.Search.{all-at, not-all}
 use Rattle.words.proofs.Readings.{All, nothing, also, all-weaken, all-append, Increasing, empty, more, increasing-append}
 use Rattle.rings.specs.Alike.{apart}
-use Rattle.set_choice.specs.Greedy.{farFrom, clear, greedy, looked}
-unfoldable pub use Rattle.set_choice.specs.Greedy.{offered}
-use Rattle.set_choice.specs.Worth.{lastOf, Spread, Near, Settled, took, left-out}
+use Rattle.set_spec.specs.Greedy.{farFrom, clear, greedy, looked}
+unfoldable pub use Rattle.set_spec.specs.Greedy.{offered}
+use Rattle.set_spec.specs.Worth.{lastTaken, Spread, Near, Settled, took, left-out}
 use Rattle.set_laws.proofs.Lists.{length-more, at-old, at-new, all-place, Begins, none-yet, one-more}
 
 -- ---- the next word
@@ -192,12 +191,12 @@ greedy-looked {P} d (suc left) ts (w ∷ ws) a (also p b) =
     ]
 
 -- the last of a list is that of its rest, where there is one
-last-rest : (w : List ℕ) (ws : List (List ℕ)) → 0 < length ws → lastOf (w ∷ ws) ≡ lastOf ws
+last-rest : (w : List ℕ) (ws : List (List ℕ)) → 0 < length ws → lastTaken (w ∷ ws) ≡ lastTaken ws
 last-rest w [] h = absurd (omega arith)
 last-rest w (v ∷ ws) h = let e : suc (suc (length ws)) - 1 ≡ suc (length ws) = omega arith in let f : suc (length ws) - 1 ≡ length ws = omega arith in rw (e, f) refl
 
 -- the last of a list with one word more is that word
-last-new : (ts : List (List ℕ)) (w : List ℕ) → lastOf (ts ++ (w ∷ [])) ≡ w
+last-new : (ts : List (List ℕ)) (w : List ℕ) → lastTaken (ts ++ (w ∷ [])) ≡ w
 last-new ts w = let e : length (ts ++ (w ∷ [])) - 1 ≡ length ts = omega (arith, length-more ts w) in rw e (at-new ts w)
 
 -- where one more is taken, one was looked at
@@ -207,7 +206,7 @@ looked-some d left ts [] h = absurd (omega arith)
 looked-some d left ts (w ∷ ws) h = omega arith
 
 -- where all that are wanted are taken, and one at least is, the last one taken is the last one looked at
-pub greedy-last : (d left : ℕ) (ts ws : List (List ℕ)) → length (greedy d (suc left) ts ws) ≡ length ts + suc left → lastOf (greedy d (suc left) ts ws) ≡ lastOf (looked d (suc left) ts ws)
+pub greedy-last : (d left : ℕ) (ts ws : List (List ℕ)) → length (greedy d (suc left) ts ws) ≡ length ts + suc left → lastTaken (greedy d (suc left) ts ws) ≡ lastTaken (looked d (suc left) ts ws)
 unfolding greedy looked
 greedy-last d left ts [] h = absurd (omega arith)
 greedy-last d zero ts (w ∷ ws) h =

@@ -4,7 +4,6 @@
 --     rest k u                      the Lyndon words of u's length above u
 --     rest-step, rest-end           a step to the next Lyndon word takes the first of them; where there is none, nothing is left
 --     lyndons-one, lyndons-more     the Lyndon words from the all-zero ring on, which is one of them only where n is 1
--- Assumes nothing.
 use Prim.Native.Nat.{ℕ, _+_, _<_, _≤_}
 use mathlib.Core.Path.{_≡_, refl, sym, ap, subst, _∙_}
 use mathlib.Core.Bool.{Bool, true, false, _&&_}
@@ -19,9 +18,9 @@ use Rattle.words.proofs.Lex.{Lex, ahead, equal, behind, lex, before-irrefl, bef
 use Rattle.words.proofs.Readings.{All, nothing, also, all-weaken, Increasing, empty, more, readings-all, readings-increasing, first-none, first-is}
 use Rattle.rings.specs.Necklace.{lyndon}
 use Rattle.rings.specs.Steps.{aboveOf, nextOf}
-use Rattle.necklace_laws.proofs.Lyndon.{of-lyndon, lyndon-one}
-use Rattle.necklace_laws.proofs.FullWalk.{next-facts, zeros, length-zeros, zeros-at, zeros-reading}
-use Rattle.set_choice.specs.Greedy.{kept, lyndons}
+use Rattle.ring_laws.proofs.Lyndon.{of-lyndon, lyndon-one}
+use Rattle.ring_laws.proofs.FullWalk.{next-facts, zeros, length-zeros, zeros-at, zeros-reading}
+use Rattle.set_spec.specs.Greedy.{kept, lyndons}
 
 -- the Lyndon words above u
 unfoldable pub rest : ℕ → List ℕ → List (List ℕ)

@@ -3,7 +3,6 @@
 --     all-place, place-all           what holds of all holds at each place, and the other way round
 --     increasing-rising              a list in increasing order rises from place to place
 --     Begins vs ws                   vs is a beginning of ws; of a list in increasing order it has all words up to one that it has (`begins-down`)
--- Assumes nothing.
 use Prim.Native.Nat.{ℕ, zero, suc, _+_, _<_}
 use mathlib.Core.Path.{_≡_, refl, _∙_}
 use mathlib.Core.Bool.{true}

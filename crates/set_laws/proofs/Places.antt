@@ -4,7 +4,6 @@
 --     place-laid                         the reading in place j is the ring number j
 --     length-set-in, set-in-at           the readings in the first t places
 --     put-laid                           a ring put at the first free place is one ring more
--- Assumes nothing.
 use Prim.Native.Nat.{ℕ, zero, suc, _+_, _-_, _*_, _/_, _%_, _<_, _≤_}
 use mathlib.Core.Path.{_≡_, refl, sym, ap, _∙_}
 use mathlib.Core.List.{List, [], _∷_, _++_}
@@ -13,7 +12,7 @@ use lib.ListN.{length, getD, take, drop, replicate, length-append, length-drop, 
 use lib.Seq.{ext-getD, getD-take, getD-drop, getD-append-add, length-take-le}
 use Rattle.words.proofs.Split.{Tri, lt, eq, gt, tri}
 use Rattle.words.proofs.Search.{length-tab, getD-tab}
-use Rattle.set_choice.specs.Places.{sectorOf, laid, placeAt, setIn}
+use Rattle.set_spec.specs.Places.{sectorOf, laid, placeAt, setIn}
 use Rattle.set_laws.proofs.Lists.{length-more, at-old, at-new}
 
 -- ---- the sectors

@@ -1,7 +1,6 @@
 -- The greedy choice is worth what is asked of a set (02, 'g').
 --     picked-most      it takes at most the wanted number
 --     picked-worth     every sentence of `Worth`, where `full` says whether the wanted number was taken
--- Assumes nothing.
 use Prim.Native.Nat.{ℕ, zero, suc, _<_, _≤_}
 use mathlib.Core.Path.{_≡_, refl, sym, subst, _∙_}
 use mathlib.Core.Bool.{Bool, true, false}
@@ -14,14 +13,14 @@ use Rattle.words.specs.Order.{upTo}
 use Rattle.words.specs.Readings.{readings}
 use Rattle.words.proofs.Readings.{All, nothing, all-weaken, Increasing, empty, readings-all, readings-increasing, each-reading}
 use Rattle.rings.specs.Necklace.{lyndon}
-use Rattle.set_choice.specs.Greedy.{greedy, looked, lyndons, picked, lookedAt}
-use Rattle.set_choice.specs.Worth.{OneOf, lastOf, LyndonOf, LyndonWords, Rising, Spread, Settled, Worth}
+use Rattle.set_spec.specs.Greedy.{greedy, looked, lyndons, picked, lookedAt}
+use Rattle.set_spec.specs.Worth.{OneOf, lastTaken, LyndonOf, LyndonWords, Rising, Spread, Settled, Worth}
 use Rattle.set_laws.proofs.Lists.{all-place, place-all, increasing-rising, begins-down}
 use Rattle.set_laws.proofs.Kept.{kept-all, kept-each, kept-increasing}
 use Rattle.set_laws.proofs.Choice.{Ordered, greedy-all, greedy-spread, greedy-most, greedy-increasing, greedy-settles, greedy-looked, greedy-last, looked-begins, short-looked}
 
 -- where all that are wanted are taken, the last one taken is the last one looked at; both are none where none is wanted
-last-of-all : (d want : ℕ) (ws : List (List ℕ)) → length (greedy d want [] ws) ≡ want → lastOf (greedy d want [] ws) ≡ lastOf (looked d want [] ws)
+last-of-all : (d want : ℕ) (ws : List (List ℕ)) → length (greedy d want [] ws) ≡ want → lastTaken (greedy d want [] ws) ≡ lastTaken (looked d want [] ws)
 unfolding greedy looked
 last-of-all d zero ws e = refl
 last-of-all d (suc left) ws e = greedy-last d left [] ws (omega arith)
@@ -94,7 +93,7 @@ module _ (n k d want : ℕ) where
   fewer full e f = omega (arith, picked-most, eqb-false (length (picked n k d want)) want (sym e ∙ f))
 
   -- full: the last one taken is the last one looked at
-  last-looked : length (picked n k d want) ≡ want → lastOf (picked n k d want) ≡ lastOf (lookedAt n k d want)
+  last-looked : length (picked n k d want) ≡ want → lastTaken (picked n k d want) ≡ lastTaken (lookedAt n k d want)
   unfolding picked lookedAt
   last-looked e = last-of-all d want (lyndons n k) e
 

@@ -1,1 +1,1 @@
-// No code: this crate holds the theorems (proofs/) about the definitions of `set_choice`.
+// No code: this crate holds the theorems (proofs/) about the definitions of `set_spec`.

@@ -1,13 +1,8 @@
 // The line of a chart job (02, g): n, k, the distance and the wanted number, written as the two numbers of the listing program's line.
 
 use line::Parsed;
-ghost use Rattle.set_line.specs.Line.{SpellSays, FourSays, SecondSpace};
-
-// what the line says: n, k, the distance and the wanted number; or that it is malformed
-pub enum Spelt {
-    Numbers(usize, usize, usize, usize),
-    Malformed,
-}
+pub use set_line_spec::Spelt;
+ghost use Rattle.set_line_spec.specs.Line.{SpellSays, FourSays, SecondSpace};
 
 // The second space, or the length where there are not two.
 fn second_space(s: &[u8]) -> usize

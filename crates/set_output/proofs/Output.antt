@@ -3,7 +3,6 @@
 --     line-malformed, line-numbers      the output for a malformed line, and for one of numbers
 --     numbers-refused, numbers-chosen   the output for numbers that are refused, and for others
 --     places-fit                        the places of an answer can be printed
--- Assumes nothing.
 use Prim.Native.Nat.{ℕ, _+_, _^_, _<_, _≤_}
 use mathlib.Core.Path.{_≡_, refl, ap, _∙_}
 use mathlib.Core.Bool.{Bool}
@@ -14,42 +13,42 @@ use lib.Dec.{eqb}
 use Rattle.refusal.specs.declared.Refusal.{Refusal}
 use Rattle.refusal.specs.declared.Refusal.the-variants.{Line}
 use Rattle.refusal.specs.Numbers.{numberOf}
-use Rattle.text.specs.Text.{refusedLine}
-use Rattle.text.specs.Put.{Placed}
-use Rattle.text.proofs.Digits.{length-decimal}
-use Rattle.text.proofs.Put.{length-refused}
-use Rattle.set_choice.specs.Greedy.{picked}
-use Rattle.set_choice.specs.Places.{setIn}
+use Rattle.text_spec.specs.Text.{refusedLine}
+use Rattle.text_spec.specs.Put.{Placed}
+use Rattle.text_spec.proofs.Digits.{length-decimal}
+use Rattle.text_spec.proofs.Put.{length-refused}
+use Rattle.set_spec.specs.Greedy.{picked}
+use Rattle.set_spec.specs.Places.{setIn}
 use Rattle.set_laws.proofs.Places.{laid-length}
 use Rattle.refusal.specs.Order.{Given}
-use Rattle.set_answers.specs.Order.{setOrder}
-use Rattle.set_answers.specs.Says.{Chosen}
-use Rattle.set_answers.proofs.Worth.{answer-most, answer-set}
-use Rattle.set_text.specs.Text.{ringTexts, takenText, setText}
-use Rattle.set_line.specs.declared.Spelt.the-variants.{Numbers, Malformed}
-use Rattle.set_line.specs.Line.{SpellSays}
-use Rattle.set_text.specs.Prints.{setRoom, refused, chosen, malformed, spelt, Printed, whole}
-use Rattle.set_text.proofs.Lengths.{length-rings, length-taken}
+use Rattle.set_pick_spec.specs.Order.{setOrder}
+use Rattle.set_pick_spec.specs.Says.{Chosen}
+use Rattle.set_pick_spec.proofs.Worth.{answer-most, answer-set}
+use Rattle.set_text_spec.specs.Text.{ringTexts, takenText, setText}
+use Rattle.set_line_spec.specs.declared.Spelt.the-variants.{Numbers, Malformed}
+use Rattle.set_line_spec.specs.Line.{SpellSays}
+use Rattle.set_text_spec.specs.Prints.{setRoom, refused, chosen, malformed, spelt, Printed, whole}
+use Rattle.set_text_spec.proofs.Lengths.{length-rings, length-taken}
 use Rattle.set_text_inner.specs.Says.{Rings}
-use Rattle.set_output.specs.Says.{NumbersSay, RefusedSays}
+use Rattle.set_output.specs.Says.{SetNumbersSay, RefusedSetSays}
 
 -- a number's line has room
 pub refused-room : (x : ℕ) → x < 10 ^ 20 → length (refusedLine x) ≤ setRoom
 refused-room x h = omega (arith, length-refused x, length-decimal 19 x h)
 
 -- the line of the refusal's own number
-pub refused-says : (r : Refusal) (x : ℕ) → x ≡ numberOf r → x < 10 ^ 20 → (b : List ℕ) (y : ℕ) (b′ : List ℕ) → Placed b 0 (refusedLine x) y b′ → RefusedSays r b y b′
+pub refused-says : (r : Refusal) (x : ℕ) → x ≡ numberOf r → x < 10 ^ 20 → (b : List ℕ) (y : ℕ) (b′ : List ℕ) → Placed b 0 (refusedLine x) y b′ → RefusedSetSays r b y b′
 refused-says r x e h b y b′ q = record { fits = rw e at (refused-room x h); placed = rw e at q }
 
 -- a malformed line, and a line of numbers
-pub line-malformed : (s b : List ℕ) (y : ℕ) (b′ : List ℕ) → setRoom ≤ length b → SpellSays s Malformed → RefusedSays Line b y b′ → Printed s b y b′
+pub line-malformed : (s b : List ℕ) (y : ℕ) (b′ : List ℕ) → setRoom ≤ length b → SpellSays s Malformed → RefusedSetSays Line b y b′ → Printed s b y b′
 line-malformed s b y b′ h p q = whole h (refusedLine (numberOf Line)) (malformed p refl) (q .fits) (q .placed)
 
-pub line-numbers : (s b : List ℕ) (y : ℕ) (b′ : List ℕ) (n k d want : ℕ) → setRoom ≤ length b → SpellSays s (Numbers n k d want) → NumbersSay n k d want b y b′ → Printed s b y b′
+pub line-numbers : (s b : List ℕ) (y : ℕ) (b′ : List ℕ) (n k d want : ℕ) → setRoom ≤ length b → SpellSays s (Numbers n k d want) → SetNumbersSay n k d want b y b′ → Printed s b y b′
 line-numbers s b y b′ n k d want h p q = whole h (q .text) (spelt n k d want p (q .says)) (q .fits) (q .placed)
 
 module _ (n k d want : ℕ) where
-  pub numbers-refused : (r : Refusal) → Given (setOrder n k d want) r → (b : List ℕ) (x : ℕ) (b′ : List ℕ) → RefusedSays r b x b′ → NumbersSay n k d want b x b′
+  pub numbers-refused : (r : Refusal) → Given (setOrder n k d want) r → (b : List ℕ) (x : ℕ) (b′ : List ℕ) → RefusedSetSays r b x b′ → SetNumbersSay n k d want b x b′
   numbers-refused r g b x b′ q = record { text = refusedLine (numberOf r); says = refused r g refl; fits = q .fits; placed = q .placed }
 
   module _ (p : List ℕ) (t : ℕ) (f : Bool) (c : Chosen n k d want p t f) where
@@ -71,5 +70,5 @@ module _ (n k d want : ℕ) where
     unfolding setText
     text-is = rw (answer-set n k d want p t f c, c .number, c .full) refl
 
-    pub numbers-chosen : (b : List ℕ) (x : ℕ) (b′ : List ℕ) → Placed b 0 (ringTexts (setIn n p t) ++ takenText t f) x b′ → NumbersSay n k d want b x b′
+    pub numbers-chosen : (b : List ℕ) (x : ℕ) (b′ : List ℕ) → Placed b 0 (ringTexts (setIn n p t) ++ takenText t f) x b′ → SetNumbersSay n k d want b x b′
     numbers-chosen b x b′ q = record { text = ringTexts (setIn n p t) ++ takenText t f; says = chosen (c .asked) text-is; fits = text-fits; placed = q }

@@ -1,21 +1,20 @@
 -- What the parts of the call promise.
---     RefusedSays r b x b′               the line of the refusal r at the beginning of the buffer
---     NumbersSay n k d want b x b′       the output for the numbers at the beginning of the buffer
--- Assumes nothing.
+--     RefusedSetSays r b x b′               the line of the refusal r at the beginning of the buffer
+--     SetNumbersSay n k d want b x b′       the output for the numbers at the beginning of the buffer
 use Prim.Native.Nat.{ℕ, _≤_}
 use mathlib.Core.List.{List}
 use lib.ListN.{length}
 use Rattle.refusal.specs.declared.Refusal.{Refusal}
 use Rattle.refusal.specs.Numbers.{numberOf}
-use Rattle.text.specs.Text.{refusedLine}
-use Rattle.text.specs.Put.{Placed}
-use Rattle.set_text.specs.Prints.{setRoom, NumbersPrint}
+use Rattle.text_spec.specs.Text.{refusedLine}
+use Rattle.text_spec.specs.Put.{Placed}
+use Rattle.set_text_spec.specs.Prints.{setRoom, NumbersPrint}
 
-pub record RefusedSays (r : Refusal) (b : List ℕ) (x : ℕ) (b′ : List ℕ) : Type 0 where
+pub record RefusedSetSays (r : Refusal) (b : List ℕ) (x : ℕ) (b′ : List ℕ) : Type 0 where
   pub fits : length (refusedLine (numberOf r)) ≤ setRoom
   pub placed : Placed b 0 (refusedLine (numberOf r)) x b′
 
-pub record NumbersSay (n k d want : ℕ) (b : List ℕ) (x : ℕ) (b′ : List ℕ) : Type 0 where
+pub record SetNumbersSay (n k d want : ℕ) (b : List ℕ) (x : ℕ) (b′ : List ℕ) : Type 0 where
   pub text : List ℕ
   pub says : NumbersPrint n k d want text
   pub fits : length text ≤ setRoom

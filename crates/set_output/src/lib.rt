@@ -5,8 +5,8 @@ use refusal::Refusal;
 use set_line::Spelt;
 ghost use Prim.Native.Nat.{_≤_};
 ghost use lib.ListN.{length};
-ghost use Rattle.set_text.specs.Prints.{setRoom, Printed};
-ghost use Rattle.set_output.specs.Says.{NumbersSay, RefusedSays};
+ghost use Rattle.set_text_spec.specs.Prints.{setRoom, Printed};
+ghost use Rattle.set_output.specs.Says.{SetNumbersSay, RefusedSetSays};
 
 // No output is longer.
 const ROOM: usize = 818;
@@ -14,15 +14,15 @@ const ROOM: usize = 818;
 // A refusal's line.
 fn print_refused(r: Refusal, buf: &mut [u8]) -> usize
     requires { ⌜ setRoom ≤ length (now buf) ⌝ }
-    ensures { λ x. ⌜ RefusedSays r (now (buf .entry)) x (now (buf .exit)) ⌝ }
+    ensures { λ x. ⌜ RefusedSetSays r (now (buf .entry)) x (now (buf .exit)) ⌝ }
 {
-    text_inner::place_refused(buf, 0, refusal::number(r))
+    text_lines_inner::place_refused(buf, 0, refusal::number(r))
 }
 
 // The set for these numbers, or the refusal's line.
 fn print_numbers(n: usize, k: usize, d: usize, wanted: usize, buf: &mut [u8]) -> usize
     requires { ⌜ setRoom ≤ length (now buf) ⌝ }
-    ensures { λ r. ⌜ NumbersSay n k d wanted (now (buf .entry)) r (now (buf .exit)) ⌝ }
+    ensures { λ r. ⌜ SetNumbersSay n k d wanted (now (buf .entry)) r (now (buf .exit)) ⌝ }
 {
     let picked = sets::pick(n, k, d, wanted);
     let answer = picked.answer;

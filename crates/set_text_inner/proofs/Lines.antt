@@ -3,7 +3,6 @@
 --     lines-start, lines-room, lines-on     the loop over the rings
 --     taken-room                            there is room for the last line
 --     word-room, number-room, full-room, placed-full, short-room, placed-short-of     the last line, piece after piece
--- Assumes nothing.
 use Prim.Native.Nat.{ℕ, _+_, _-_, _*_, _<_, _≤_}
 use mathlib.Core.Path.{_≡_, refl}
 use mathlib.Core.Bool.{Bool, true, false}
@@ -11,15 +10,15 @@ use mathlib.Core.List.{List, map, _++_}
 use native.Mathlib.Omega.{arith}
 use native.Mathlib.Numerals.{add-one}
 use lib.ListN.{length, take, drop, length-append, length-map}
-use Rattle.text.specs.Ascii.{ascii}
-use Rattle.text.specs.Decimal.{decimal}
-use Rattle.text.specs.Text.{hexOf}
-use Rattle.text.specs.Put.{Placed}
-use Rattle.text.proofs.Put.{placed-append, placed-length}
-use Rattle.set_choice.specs.Places.{placeAt, setIn}
-use Rattle.set_text.specs.Text.{ringText, ringTexts, fullText, takenText}
-use Rattle.set_text.specs.Prints.{setRoom}
-use Rattle.set_text.proofs.Lengths.{rings-more, length-rings, length-ring-text, length-taken}
+use Rattle.text_spec.specs.Ascii.{ascii}
+use Rattle.text_spec.specs.Decimal.{decimal}
+use Rattle.text_spec.specs.Text.{hexOf}
+use Rattle.text_spec.specs.Put.{Placed}
+use Rattle.text_spec.proofs.Put.{placed-append, placed-length}
+use Rattle.set_spec.specs.Places.{placeAt, setIn}
+use Rattle.set_text_spec.specs.Text.{ringText, ringTexts, fullText, takenText}
+use Rattle.set_text_spec.specs.Prints.{setRoom}
+use Rattle.set_text_spec.proofs.Lengths.{rings-more, length-rings, length-ring-text, length-taken}
 use Rattle.set_text_inner.specs.Says.{Rings}
 
 -- a ring's line: its sectors, placed up to a, and a newline

@@ -1,4 +1,4 @@
--- What is asked of places whose rings are printed. Assumes nothing.
+-- What is asked of places whose rings are printed.
 use Prim.Native.Nat.{ℕ, _≤_}
 use mathlib.Core.Path.{_≡_}
 use mathlib.Core.List.{List}

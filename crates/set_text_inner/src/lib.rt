@@ -2,10 +2,10 @@
 ghost use Prim.Native.Nat.{_+_, _≤_};
 ghost use mathlib.Core.List.{_++_};
 ghost use lib.ListN.{length};
-ghost use Rattle.text.specs.Put.{Placed};
-ghost use Rattle.set_choice.specs.Places.{setIn};
-ghost use Rattle.set_text.specs.Text.{ringText, ringTexts, takenText};
-ghost use Rattle.set_text.specs.Prints.{setRoom};
+ghost use Rattle.text_spec.specs.Put.{Placed};
+ghost use Rattle.set_spec.specs.Places.{setIn};
+ghost use Rattle.set_text_spec.specs.Text.{ringText, ringTexts, takenText};
+ghost use Rattle.set_text_spec.specs.Prints.{setRoom};
 ghost use Rattle.set_text_inner.specs.Says.{Rings};
 
 // The sectors of a place.
@@ -16,8 +16,8 @@ fn place_ring(buf: &mut [u8], at: usize, ring: &[u8]) -> usize
     requires { ⌜ at + length (ringText (now ring)) ≤ length (now buf) ⌝ }
     ensures { λ r. ⌜ Placed (now (buf .entry)) at (ringText (now (ring .entry))) r (now (buf .exit)) ⌝ }
 {
-    let a = digits_inner::place_sectors(buf, at, ring);
-    digits_inner::place_text(buf, a, b"\n")
+    let a = text_digits_inner::place_sectors(buf, at, ring);
+    text_digits_inner::place_text(buf, a, b"\n")
 }
 
 // One ring a line.
@@ -42,12 +42,12 @@ fn place_taken(buf: &mut [u8], at: usize, taken: usize, full: bool) -> usize
     requires { ⌜ at + length (takenText taken full) ≤ length (now buf) ⌝ }
     ensures { λ r. ⌜ Placed (now (buf .entry)) at (takenText taken full) r (now (buf .exit)) ⌝ }
 {
-    let a = digits_inner::place_text(buf, at, b"taken ");
-    let b = digits_inner::place_decimal(buf, a, taken);
+    let a = text_digits_inner::place_text(buf, at, b"taken ");
+    let b = text_digits_inner::place_decimal(buf, a, taken);
     if full {
-        return digits_inner::place_text(buf, b, b" full\n");
+        return text_digits_inner::place_text(buf, b, b" full\n");
     }
-    digits_inner::place_text(buf, b, b" not full\n")
+    text_digits_inner::place_text(buf, b, b" not full\n")
 }
 
 // The whole text of the set in the first places.

@@ -1,7 +1,6 @@
 -- What the checks leave to the functions behind them.
 --     first-asks, first-found     what filling the output asks, and what it leaves there
 --     next-asks, next-found, next-done    what the search for the next ring asks, and what it answers
--- Assumes nothing.
 use Prim.Native.Nat.{ℕ}
 use mathlib.Core.Path.{_≡_, refl, sym, ap, _∙_}
 use mathlib.Core.Bool.{true, false}
@@ -15,11 +14,11 @@ use Rattle.rings.specs.Steps.{firstOf, nextOf}
 use Rattle.refusal.specs.Order.{Passed}
 use Rattle.refusal.specs.Calls.{countedFirst, countedNext}
 use Rattle.words.specs.Sum.{sumOf}
-use Rattle.pool_laws.proofs.Letters.{letters}
-use Rattle.fill_inner.specs.Fillable.{Fillable}
-use Rattle.counted_inner.specs.declared.Sought.{Sought}
-use Rattle.raising_inner.specs.Ready.{Ready}
-use Rattle.counted_inner.specs.Above.{Answers}
+use Rattle.shades_laws.proofs.Letters.{letters}
+use Rattle.shades_fill_inner.specs.Fillable.{Fillable}
+use Rattle.shades_next_inner.specs.declared.Sought.{Sought}
+use Rattle.shades_raise_inner.specs.Ready.{Ready}
+use Rattle.shades_next_inner.specs.Above.{Finds}
 use Rattle.shades.proofs.Least.{first-letters}
 
 module _ (n k : ℕ) (cs : List ℕ) (passed : Passed (countedFirst n k cs)) where
@@ -52,9 +51,9 @@ module _ (w : List ℕ) (k m : ℕ) (cs t rest : List ℕ) (passed : Passed (cou
   }
 
   -- what it answers is the next ring
-  pub next-found : (r : Sought) → Answers (t ++ rest) (length w) k cs r → r .some ≡ true → (o : List ℕ) → o ≡ take (length w) (r .ring) → nextOf (countedNecklace cs) k w ≡ some o
+  pub next-found : (r : Sought) → Finds (t ++ rest) (length w) k cs r → r .some ≡ true → (o : List ℕ) → o ≡ take (length w) (r .ring) → nextOf (countedNecklace cs) k w ≡ some o
   next-found r a h o q = (rw front at (a .ring h)) ∙ ap some (sym q)
 
   -- or that there is none
-  pub next-done : (r : Sought) → Answers (t ++ rest) (length w) k cs r → r .some ≡ false → nextOf (countedNecklace cs) k w ≡ none
+  pub next-done : (r : Sought) → Finds (t ++ rest) (length w) k cs r → r .some ≡ false → nextOf (countedNecklace cs) k w ≡ none
   next-done r a h = rw front at (a .done h)

@@ -2,7 +2,6 @@
 --     sorted-least       a sorted word is not greater than any word with the same letters
 --     sorted-necklace    so it is a necklace
 --     first-letters      so the letters of the counts in increasing order are the first ring
--- Assumes nothing.
 use Prim.Native.Nat.{ℕ, suc, _<_, _≤_}
 use mathlib.Core.Path.{_≡_, refl, sym, ap, _∙_}
 use mathlib.Core.Bool.{true, false}
@@ -22,12 +21,12 @@ use Rattle.rings.specs.Necklace.{necklace, notAboveTurn}
 use Rattle.rings.specs.Counts.{occurs, hasCounts, countedNecklace}
 use Rattle.rings.specs.Steps.{firstOf}
 use Rattle.words.specs.Sum.{sumOf}
-use Rattle.pool_laws.proofs.Pool.{Sorted}
-use Rattle.pool_laws.proofs.Copies.{occurs-append}
-use Rattle.pool_laws.proofs.Letters.{letters, occurs-letters, sorted-letters, length-letters}
-use Rattle.tally_inner.proofs.Tallying.{occurs-none, occurs-here, occurs-other, occurs-at, counts-end}
-use Rattle.raising_inner.specs.Places.{Ring}
-use Rattle.raising_inner.proofs.Blocking.{ring-known, ring-past}
+use Rattle.shades_laws.proofs.Pool.{Sorted}
+use Rattle.shades_laws.proofs.Copies.{occurs-append}
+use Rattle.shades_laws.proofs.Letters.{letters, occurs-letters, sorted-letters, length-letters}
+use Rattle.shades_tally_inner.proofs.Tallying.{occurs-none, occurs-here, occurs-other, occurs-at, counts-end}
+use Rattle.shades_raise_inner.specs.Places.{CountedRing}
+use Rattle.shades_raise_inner.proofs.Blocking.{ring-known, ring-past}
 
 -- no letter of a sorted word is below its first
 sorted-first : (a : ℕ) (w : List ℕ) (c : ℕ) → Sorted (a ∷ w) → 0 < occurs c (a ∷ w) → a ≤ c
@@ -88,7 +87,7 @@ module _ (n k : ℕ) (cs : List ℕ) (many : length cs ≡ k) (whole : sumOf cs 
   letters-counts = counts-end cs (letters cs) (length cs) (omega arith) (λ b h. occurs-letters b 0 b cs (omega arith))
 
   -- each ring with the counts has the same letters
-  same-letters : (v : List ℕ) → Ring cs n k v → (b : ℕ) → occurs b v ≡ occurs b (letters cs)
+  same-letters : (v : List ℕ) → CountedRing cs n k v → (b : ℕ) → occurs b v ≡ occurs b (letters cs)
   same-letters v ring b = go (tri b (length cs)) ∙ sym (occurs-letters b 0 b cs (omega arith))
     where
       past : length cs ≤ b → occurs b v ≡ getD cs b 0

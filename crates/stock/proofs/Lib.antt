@@ -1,3 +1,2 @@
 -- Bytes and their readings (Bits), and the rule of a table of bytes (Table).
-pub mod Bits
 pub mod Table

@@ -1,5 +1,4 @@
 -- The table's 256 entries, and one computed test that carries the rule to each of them.
--- Assumes nothing.
 use Prim.Native.Nat.{ℕ, _<_}
 use mathlib.Core.Path.{_≡_, refl, _∙_}
 use native.Mathlib.Omega.{arith}
@@ -11,8 +10,8 @@ use borrow.Author.Tests.{eqb-true}
 use Rattle.words.specs.Search.{allBelow}
 use Rattle.words.proofs.Search.{all-at}
 use Rattle.rings.specs.Open.{open-all}
-use Rattle.stock.specs.Stock.{bits, byteOf, homeByte}
-use Rattle.stock.proofs.Bits.{home-d0}
+use Rattle.stock_spec.specs.Stock.{bits, byteOfSectors, homeByte}
+use Rattle.stock_spec.proofs.Bits.{home-d0}
 
 -- the table of src/lib.rt
 unfoldable pub homes : List ℕ
@@ -40,7 +39,7 @@ right b = eqb (getD homes b 0) (homeByte b)
 
 -- the test passes at every byte
 all-right : allBelow 256 right ≡ true
-unfolding homes right homeByte bits byteOf open-all
+unfolding homes right homeByte bits byteOfSectors open-all
 all-right = refl
 
 -- so each entry follows the rule

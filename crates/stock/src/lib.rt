@@ -1,6 +1,6 @@
 // The stock targets (01, 'Stock table'): 8 sectors of 2 shades, kept as a byte with the first sector in the highest bit.
 ghost use mathlib.Core.Path.{_≡_};
-ghost use Rattle.stock.specs.Stock.{homeByte};
+ghost use Rattle.stock_spec.specs.Stock.{homeByte};
 
 // the home reading of each byte
 const HOMES: [u8; 256] = [

@@ -3,32 +3,31 @@
 --     written-long      what is written has k ^ n sectors
 --     written-once      each reading of n and k stands at exactly one place of it
 --     written-told      n neighbouring sectors of it, round its end too, tell their place: no other answer fits
--- Assumes nothing.
 use Prim.Native.Nat.{ℕ, _^_, _<_, _≤_}
 use mathlib.Core.Path.{_≡_, refl, sym, subst}
 use mathlib.Core.List.{List}
 use native.Mathlib.Omega.{arith}
 use lib.ListN.{length}
 use Rattle.words.specs.Readings.{Reading}
-use Rattle.limits.specs.Limits.{Listable}
-use Rattle.strips.specs.Strip.{strip}
-use Rattle.strips.specs.Places.{window, OnceEach, OnePlace}
+use Rattle.limits_spec.specs.Limits.{Listable}
+use Rattle.strip_spec.specs.Strip.{strip}
+use Rattle.strip_spec.specs.Places.{window, OnceEach, OnePlace}
 use Rattle.strip_laws.proofs.Pieces.{length-strip, strip-shades}
 use Rattle.strip_laws.proofs.Once.{window-reading, once, window-place}
-use Rattle.strip.specs.declared.Written.{Written}
-use Rattle.strip.specs.declared.Written.the-variants as W
-use Rattle.strip.specs.declared.Position.{Position}
-use Rattle.strip.specs.declared.Position.the-variants as P
-use Rattle.strip.specs.Says.{WriteSays, PlaceSays}
-use Rattle.strip.proofs.Unique.{never-refused, one-telling}
+use Rattle.strip_spec.specs.declared.Written.{Written}
+use Rattle.strip_spec.specs.declared.Written.the-variants as W
+use Rattle.strip_spec.specs.declared.Position.{Position}
+use Rattle.strip_spec.specs.declared.Position.the-variants as P
+use Rattle.strip_spec.specs.Says.{StripSays, PlaceSays}
+use Rattle.strip_spec.proofs.Unique.{never-refused, one-telling}
 use Rattle.strip.proofs.Telling.{reading-passed}
 
 -- where n, k and the output's length pass the checks the strip is written
-pub written-strip : (n k : ℕ) (o : List ℕ) (a : Written) (u : List ℕ) → Listable 4096 k n → length o ≡ k ^ n → WriteSays n k o a u → a ≡ W.Strip
+pub written-strip : (n k : ℕ) (o : List ℕ) (a : Written) (u : List ℕ) → Listable 4096 k n → length o ≡ k ^ n → StripSays n k o a u → a ≡ W.Strip
 written-strip n k o W.Strip u l e s = refl
 written-strip n k o (W.Refused r) u l e s = absurd (never-refused n k (length o) r l e (s .0))
 
-module _ (n k : ℕ) (o u : List ℕ) (s : WriteSays n k o W.Strip u) where
+module _ (n k : ℕ) (o u : List ℕ) (s : StripSays n k o W.Strip u) where
   pos : 0 < n
   pos = omega (arith, s .0 .sized .0)
 

@@ -1,4 +1,3 @@
 -- The strip's calls have one answer (Unique); from the checks of a reading to its place (Telling); what follows from the promises (Laws).
-pub mod Unique
 pub mod Telling
 pub mod Laws

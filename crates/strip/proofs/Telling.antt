@@ -2,7 +2,6 @@
 --     passed-reading, reading-passed    a reading that passed 1, 2, 3 is one of n and k, and the other way
 --     passed-listable                   and where k ^ n is not above 4096 its strip can be written
 --     place-asked                       so that what `place_in` asks of the strip and the reading holds
--- Assumes nothing.
 use Prim.Native.Nat.{ℕ, _^_, _<_, _≤_}
 use mathlib.Core.Path.{_≡_, refl, sym, subst, _∙_}
 use mathlib.Core.Bool.{false}
@@ -14,9 +13,9 @@ use borrow.Author.Tests.{ltb-false}
 use Rattle.words.specs.Readings.{Sized, Shaded, Reading}
 use Rattle.refusal.specs.Order.{Passed}
 use Rattle.refusal.specs.Calls.{oneReading}
-use Rattle.limits.specs.Limits.{Listable}
-use Rattle.strips.specs.Strip.{strip}
-use Rattle.strips.specs.Places.{OnePlace}
+use Rattle.limits_spec.specs.Limits.{Listable}
+use Rattle.strip_spec.specs.Strip.{strip}
+use Rattle.strip_spec.specs.Places.{OnePlace}
 use Rattle.strip_laws.proofs.Pieces.{length-strip}
 use Rattle.strip_laws.proofs.Once.{one-place}
 

@@ -3,7 +3,6 @@
 --     link                   what Around uses of a necklace and the next one
 --     Built n t z x s        s is the strip from the necklace x on, and each turn of each necklace from x on, but for the last, is found in it
 --     join, finish, build    a necklace in front; the last but one; the whole walk
--- Assumes nothing.
 use Prim.Native.Nat.{ℕ, suc, _+_, _-_, _≤_, _<_}
 use mathlib.Core.Path.{_≡_, refl, sym, ap, _∙_}
 use mathlib.Core.Bool.{true}
@@ -23,15 +22,15 @@ use Rattle.words.proofs.Lex.{ahead, equal, behind, lex, before-less, less-befor
 use Rattle.words.proofs.Readings.{nothing-first}
 use Rattle.rings.specs.Necklace.{necklace, period}
 use Rattle.rings.specs.Steps.{aboveOf, nextOf, FullWalk, done, step}
-use Rattle.necklace_laws.proofs.Run.{Lyn, lyn-through}
-use Rattle.necklace_laws.proofs.Repeat.{Turned, Neck}
-use Rattle.necklace_laws.proofs.Words.{pre-of, of-neck, necklace-prenecklace}
-use Rattle.necklace_laws.proofs.Lyndon.{lyndon-of}
-use Rattle.necklace_laws.proofs.Classes.{lyndon-necklace}
-use Rattle.necklace_laws.proofs.FullWalk.{next-facts}
-use Rattle.home_laws.proofs.Period.{period-pos, period-le}
-use Rattle.counting_laws.proofs.OneRing.{Ring}
-use Rattle.strips.specs.Strip.{joined}
+use Rattle.ring_laws.proofs.Run.{Lyn, lyn-through}
+use Rattle.ring_laws.proofs.Repeat.{Turned, Neck}
+use Rattle.ring_laws.proofs.Words.{pre-of, of-neck, necklace-prenecklace}
+use Rattle.ring_laws.proofs.Lyndon.{lyndon-of}
+use Rattle.ring_laws.proofs.Classes.{lyndon-necklace}
+use Rattle.ring_laws.proofs.FullWalk.{next-facts}
+use Rattle.ring_home_laws.proofs.Period.{period-pos, period-le}
+use Rattle.ring_total_laws.proofs.OneRing.{Ring}
+use Rattle.strip_spec.specs.Strip.{joined}
 use Rattle.strip_laws.proofs.Around.{tops, Link, reaches, Tail, Found, keep, new, new-last}
 use Rattle.strip_laws.proofs.Pieces.{root, length-root, period-round}
 

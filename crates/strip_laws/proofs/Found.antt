@@ -2,7 +2,6 @@
 --     whole     the whole strip is built
 --     found     each reading stands inside the strip or round its end
 --     placed    so it is a window of it
--- Assumes nothing.
 use Prim.Native.Nat.{ℕ, suc, _+_, _-_, _%_, _≤_, _<_}
 use mathlib.Core.Path.{_≡_, refl, sym, ap, subst, _∙_}
 use mathlib.Core.Bool.{true}
@@ -21,14 +20,14 @@ use Rattle.words.proofs.Sequence.{sec}
 use Rattle.words.proofs.Lex.{not-less-upTo}
 use Rattle.rings.specs.Necklace.{necklace, period}
 use Rattle.rings.specs.Home.{home}
-use Rattle.necklace_laws.proofs.Repeat.{Turned}
-use Rattle.necklace_laws.proofs.Words.{turned}
-use Rattle.necklace_laws.proofs.FullWalk.{zeros, zeros-at, zeros-reading, zeros-necklace, length-zeros, walk-exists}
-use Rattle.home_laws.proofs.Period.{period-pos, period-le}
-use Rattle.home_laws.proofs.Home.{home-reading, home-necklace, home-home, one-home-turn}
-use Rattle.counting_laws.proofs.OneRing.{Ring}
-use Rattle.strips.specs.Strip.{strip}
-use Rattle.strips.specs.Places.{window}
+use Rattle.ring_laws.proofs.Repeat.{Turned}
+use Rattle.ring_laws.proofs.Words.{turned}
+use Rattle.ring_laws.proofs.FullWalk.{zeros, zeros-at, zeros-reading, zeros-necklace, length-zeros, walk-exists}
+use Rattle.ring_home_laws.proofs.Period.{period-pos, period-le}
+use Rattle.ring_home_laws.proofs.Home.{home-reading, home-necklace, home-home, one-home-turn}
+use Rattle.ring_total_laws.proofs.OneRing.{Ring}
+use Rattle.strip_spec.specs.Strip.{strip}
+use Rattle.strip_spec.specs.Places.{window}
 use Rattle.strip_laws.proofs.Around.{Found, begins, ends, settle}
 use Rattle.strip_laws.proofs.Pieces.{period-round, strip-walk}
 use Rattle.strip_laws.proofs.Built.{only-top, Built, build}

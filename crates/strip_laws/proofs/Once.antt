@@ -4,7 +4,6 @@
 --     once               each reading of n and k stands at exactly one place of the strip
 --     one-place          that place, and no other
 --     window-place       n neighbouring sectors tell their place
--- Assumes nothing.
 use Prim.Native.Nat.{ℕ, zero, suc, _+_, _%_, _^_, _≤_, _<_}
 use mathlib.Core.Path.{_≡_, refl, sym, ap, subst, _∙_}
 use mathlib.Core.Bool.{Bool, true}
@@ -19,9 +18,9 @@ use Rattle.words.proofs.Search.{length-tab, getD-tab}
 use Rattle.words.proofs.Lex.{true-same}
 use Rattle.words.proofs.Readings.{All, nothing, also, all-weaken, readings-all, each-reading}
 use Rattle.words.proofs.Count.{sumBelow, sum-cong, count-one}
-use Rattle.counting_laws.proofs.Totals.{below-const, total-below, readings-size}
-use Rattle.strips.specs.Strip.{strip}
-use Rattle.strips.specs.Places.{window, countBelow, occurrences, OnceEach, OnePlace}
+use Rattle.ring_total_laws.proofs.Totals.{below-const, total-below, readings-size}
+use Rattle.strip_spec.specs.Strip.{strip}
+use Rattle.strip_spec.specs.Places.{window, countBelow, occurrences, OnceEach, OnePlace}
 use Rattle.strip_laws.proofs.Pieces.{length-strip, strip-shades}
 use Rattle.strip_laws.proofs.Found.{placed}
 

@@ -4,7 +4,6 @@
 --     roots-rise                    of two necklaces, the greater has the greater root (a beginning comes first)
 --     words-are-roots, strip-walk   the strip's words are the roots of the walk's necklaces, so the strip is these roots, joined
 --     length-strip, strip-shades    it has k ^ n sectors, each a shade; for every n and k of at least 1
--- Assumes nothing.
 use Prim.Native.Nat.{ℕ, zero, suc, _+_, _^_, _≤_, _<_, _∣_}
 use mathlib.Core.Path.{_≡_, refl, sym, ap, subst, _∙_}
 use mathlib.Core.Bool.{true}
@@ -26,17 +25,17 @@ use Rattle.words.proofs.Count.{total-cong, total-map}
 use Rattle.rings.specs.Necklace.{necklace, period, lyndon}
 use Rattle.rings.specs.Next.{repeated}
 use Rattle.rings.specs.Steps.{nextOf, FullWalk, done, step}
-use Rattle.necklace_laws.proofs.Repeat.{Turned}
-use Rattle.necklace_laws.proofs.Words.{pre-of, turned, necklace-prenecklace}
-use Rattle.necklace_laws.proofs.Lyndon.{lyndon-pos}
-use Rattle.necklace_laws.proofs.FullWalk.{zeros, zeros-reading, zeros-necklace, next-facts, walk-exists, walk-increasing}
-use Rattle.home_laws.proofs.Period.{period-pos, period-le, period-divides, period-turn}
-use Rattle.counting_laws.proofs.OneRing.{Ring, walk-rings, walk-all, period-sum}
-use Rattle.counting_laws.proofs.Beginnings.{necklaceBy, beginning-lyndon, repeated-necklace}
-use Rattle.strips.specs.Strip.{joined, stripWords, strip}
-use Rattle.strips.proofs.Listed.{In, in-map, in-count, one-list}
-use Rattle.strips.proofs.Words.{StripWord, words-only, words-each, words-increasing}
-use Rattle.strips.proofs.Joined.{length-joined, joined-shades}
+use Rattle.ring_laws.proofs.Repeat.{Turned}
+use Rattle.ring_laws.proofs.Words.{pre-of, turned, necklace-prenecklace}
+use Rattle.ring_laws.proofs.Lyndon.{lyndon-pos}
+use Rattle.ring_laws.proofs.FullWalk.{zeros, zeros-reading, zeros-necklace, next-facts, walk-exists, walk-increasing}
+use Rattle.ring_home_laws.proofs.Period.{period-pos, period-le, period-divides, period-turn}
+use Rattle.ring_total_laws.proofs.OneRing.{Ring, walk-rings, walk-all, period-sum}
+use Rattle.ring_total_laws.proofs.Beginnings.{necklaceBy, beginning-lyndon, repeated-necklace}
+use Rattle.strip_spec.specs.Strip.{joined, stripWords, strip}
+use Rattle.strip_spec.proofs.Listed.{In, in-map, in-count, one-list}
+use Rattle.strip_spec.proofs.Words.{StripWord, words-only, words-each, words-increasing}
+use Rattle.strip_spec.proofs.Joined.{length-joined, joined-shades}
 use Rattle.strip_laws.proofs.Around.{differ-early}
 
 -- the first `period` sectors

@@ -5,7 +5,6 @@
 --     standing-room           and has room there
 --     standing-next           the next necklace goes behind it
 --     standing-done           where there is none the strip is full
--- Assumes nothing.
 use Prim.Native.Nat.{ℕ, _+_, _≤_, _<_}
 use mathlib.Core.Path.{_≡_, refl, sym, ap, _∙_}
 use mathlib.Core.Option.{none, some}
@@ -15,10 +14,10 @@ use lib.ListN.{length, getD, length-append}
 use lib.Seq.{getD-take}
 use Rattle.rings.specs.Necklace.{necklace, period}
 use Rattle.rings.specs.Steps.{nextOf, FullWalk, done, step}
-use Rattle.necklace_laws.proofs.FullWalk.{zeros, zeros-reading, zeros-necklace, next-facts, walk-exists}
-use Rattle.counting_laws.proofs.OneRing.{Ring}
-use Rattle.strips.specs.Strip.{joined, strip}
-use Rattle.strips.proofs.Joined.{joined-append, joined-at}
+use Rattle.ring_laws.proofs.FullWalk.{zeros, zeros-reading, zeros-necklace, next-facts, walk-exists}
+use Rattle.ring_total_laws.proofs.OneRing.{Ring}
+use Rattle.strip_spec.specs.Strip.{joined, strip}
+use Rattle.strip_spec.proofs.Joined.{joined-append, joined-at}
 use Rattle.strip_laws.proofs.Pieces.{root, length-root, strip-walk}
 
 -- a walk by necklaces that writes the strip stands at w, and the root of w goes to this place

@@ -1,31 +1,31 @@
 // Walks (01, 'Walks'): one record, a start and three steps, and the step to the next bracelet (02, request c). The record and what is promised of it stand in
-// `walk_record`, what the last step promises in `bracelet_answers`.
+// `walk_spec`, what the last step promises in `walk_bracelet_spec`.
 
-pub use bracelet_answers::Arrival;
-pub use bracelet_answers::Arrived;
-use moves_inner::Kind;
 use refusal::Checked;
-pub use walk_record::Outcome;
-pub use walk_record::Started;
-pub use walk_record::Stepped;
-pub use walk_record::Walk;
+pub use walk_bracelet_spec::Arrival;
+pub use walk_bracelet_spec::Arrived;
+use walk_moves_inner::Kind;
+pub use walk_spec::Outcome;
+pub use walk_spec::Started;
+pub use walk_spec::Stepped;
+pub use walk_spec::Walk;
 ghost use Rattle.rings.specs.Necklace.{necklace, lyndon};
 ghost use Rattle.rings.specs.Prenecklace.{prenecklace};
-ghost use Rattle.moves_inner.specs.Kinds.{kindOf};
-ghost use Rattle.walk_record.specs.Says.{StartSays, StepSays};
-ghost use Rattle.bracelet_answers.specs.Says.{ArrivalSays};
+ghost use Rattle.walk_moves_inner.specs.Kinds.{kindOf};
+ghost use Rattle.walk_spec.specs.Says.{StartSays, StepSays};
+ghost use Rattle.walk_bracelet_spec.specs.Says.{ArrivalSays};
 
 // A walk from a lent prenecklace: its record, or 1, 2, 3, 5.
 pub fn start(s: &[u8], k: usize) -> Started
     ensures { λ r. ⌜ StartSays (now (s .entry)) k (r .walk) (r .answer) ⌝ }
 {
-    let v = checks::check_reading(s, k);
+    let v = check_readings_inner::check_reading(s, k);
     match v {
         Checked::Refused(r) => Started {
-            walk: start_inner::empty(),
+            walk: walk_start_inner::empty(),
             answer: Checked::Refused(r),
         },
-        Checked::Good => start_inner::start_good(s, k),
+        Checked::Good => walk_start_inner::start_good(s, k),
     }
 }
 
@@ -40,7 +40,7 @@ fn step(w: Walk, kind: Kind) -> Stepped
             walk: w,
             outcome: Outcome::Refused(r),
         },
-        Checked::Good => step_inner::step_good(w, kind),
+        Checked::Good => walk_step_inner::step_good(w, kind),
     }
 }
 
@@ -77,6 +77,6 @@ pub fn next_bracelet(w: Walk) -> Arrived
             walk: w,
             arrival: Arrival::Refused(r),
         },
-        Checked::Good => bracelet_step_inner::step_good(w),
+        Checked::Good => walk_bracelet_inner::step_good(w),
     }
 }

@@ -1,7 +1,6 @@
 -- The sectors of a walk's ring, settled by two scans.
 --     head-bad, head-good      the first n sectors
 --     tail-bad, tail-good      those past n
--- Assumes nothing.
 use Prim.Native.Nat.{ℕ, _+_, _-_, _<_, _≤_}
 use mathlib.Core.Path.{_≡_, refl, sym, _∙_}
 use mathlib.Core.Bool.{Bool}
@@ -12,8 +11,8 @@ use lib.Seq.{getD-take, getD-drop}
 use borrow.Author.Tests.{lt-ltb, le-ltb}
 use Rattle.words.proofs.Sequence.{sec, place}
 use Rattle.refusal.specs.Calls.{Below, askRecord, ringLimit}
-use Rattle.checks_inner.specs.Scan.{Scanned}
-use Rattle.checks_inner.proofs.Parts.{BelowTo, Bad, Part, part-bad, part-good, nothing}
+use Rattle.check_numbers_inner.specs.Scan.{Scanned}
+use Rattle.check_numbers_inner.proofs.Parts.{BelowTo, Bad, Part, part-bad, part-good, nothing}
 
 module _ (n k : ℕ) (ring : List ℕ) (b : Bool) (fits : n ≤ length ring) where
   head : Part (askRecord n k ring b) 0 k (take n ring)

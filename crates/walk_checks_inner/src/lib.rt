@@ -3,11 +3,11 @@
 use refusal::Checked;
 use refusal::Refusal;
 use rings::MOST_SECTORS;
-use walk_record::Walk;
+use walk_spec::Walk;
 ghost use mathlib.Core.Bool.{true};
 ghost use Rattle.refusal.specs.Order.{CheckSays};
 ghost use Rattle.refusal.specs.Calls.{walkRecord};
-ghost use Rattle.walk_record.specs.Record.{walkAsked};
+ghost use Rattle.walk_spec.specs.Record.{walkAsked};
 
 // ---- its sectors
 
@@ -15,14 +15,14 @@ ghost use Rattle.walk_record.specs.Record.{walkAsked};
 pub fn check_ring(n: usize, k: usize, ring: [u8; 64]) -> Checked
     ensures { λ r. ⌜ CheckSays (walkRecord n k ring true) r ⌝ }
 {
-    match checks_inner::check_numbers(n, n, k) {
+    match check_numbers_inner::check_numbers(n, n, k) {
         Checked::Refused(r) => Checked::Refused(r),
         Checked::Good => {
-            let at = checks_inner::first_bad(&ring[..n], k);
+            let at = check_numbers_inner::first_bad(&ring[..n], k);
             if at < n {
                 return Checked::Refused(Refusal::Sector(at));
             }
-            let past = checks_inner::first_bad(&ring[n..], 1);
+            let past = check_numbers_inner::first_bad(&ring[n..], 1);
             if past < MOST_SECTORS - n {
                 return Checked::Refused(Refusal::Sector(n + past));
             }
@@ -44,12 +44,12 @@ pub fn check_walk(w: Walk) -> Checked
     match v {
         Checked::Refused(r) => Checked::Refused(r),
         Checked::Good => {
-            let looked = class_inner::on_walk(ring, n, class);
+            let looked = walk_class_inner::on_walk(ring, n, class);
             if !looked.on {
                 return Checked::Refused(Refusal::OffWalk(looked.at));
             }
-            let own = counts_inner::counts_of(ring, n);
-            if counts_inner::same_counts(counts, own) {
+            let own = walk_counts_inner::counts_of(ring, n);
+            if walk_counts_inner::same_counts(counts, own) {
                 return Checked::Good;
             }
             Checked::Refused(Refusal::OffWalk(0))

@@ -6,7 +6,6 @@
 --     lyndon-step-ceiling, necklace-step-ceiling    `walk::next_lyndon` and `walk::next_necklace` stay within n / 2 + 1 and (n + 1) / 2
 --     lyndon-step-reached, necklace-step-reached    and reach them
 --     accepted-lyndon     at a record that passes its checks a step to the next Lyndon word is not refused, and reports at most n / 2 + 1 moves
--- Assumes nothing.
 use Prim.Native.Nat.{ℕ, _+_, _/_, _≤_}
 use mathlib.Core.Path.{_≡_, sym, ap, _∙_}
 use mathlib.Core.Bool.{Bool}
@@ -17,19 +16,19 @@ use lib.ListN.{length}
 use Rattle.words.specs.Readings.{Sized, Shaded}
 use Rattle.rings.specs.Necklace.{necklace, lyndon}
 use Rattle.rings.specs.Steps.{nextOf, moves}
-use Rattle.ceiling_laws.specs.Ceiling.{PrenecklaceOf, stepMoves, Ceiling, Best, lyndonCeiling, necklaceCeiling}
-use Rattle.ceiling_laws.specs.Notched.{lyndonStart, necklaceStart}
-use Rattle.ceiling_laws.proofs.Ceiling.{lyndon-ceiling, necklace-ceiling}
-use Rattle.ceiling_laws.proofs.Reached.{lyndon-best, necklace-best}
+use Rattle.ring_ceiling_laws.specs.Ceiling.{PrenecklaceOf, stepMoves, Ceiling, Best, lyndonCeiling, necklaceCeiling}
+use Rattle.ring_ceiling_laws.specs.Notched.{lyndonStart, necklaceStart}
+use Rattle.ring_ceiling_laws.proofs.Ceiling.{lyndon-ceiling, necklace-ceiling}
+use Rattle.ring_ceiling_laws.proofs.Reached.{lyndon-best, necklace-best}
 use Rattle.refusal.specs.Order.{Passed}
 use Rattle.refusal.proofs.Unique.{never-both}
-use Rattle.walk_record.specs.declared.Walk.{Walk}
-use Rattle.walk_record.specs.declared.Outcome.{Outcome}
-use Rattle.walk_record.specs.declared.Outcome.the-variants.{Moved, Done, Refused}
-use Rattle.walk_record.specs.Record.{ringOf, walkOf, walkAsked}
-use Rattle.walk_record.specs.Says.{StepSays}
-use Rattle.walk_record.proofs.Good.{good-ready, good-long, ring-of, walk-good}
-use Rattle.walk_laws.specs.Reports.{ReportsUpTo, Reports}
+use Rattle.walk_spec.specs.declared.Walk.{Walk}
+use Rattle.walk_spec.specs.declared.Outcome.{Outcome}
+use Rattle.walk_spec.specs.declared.Outcome.the-variants.{Moved, Done, Refused}
+use Rattle.walk_spec.specs.Record.{ringOf, walkOf, walkAsked}
+use Rattle.walk_spec.specs.Says.{StepSays}
+use Rattle.walk_record_laws.proofs.Good.{good-ready, good-long, ring-of, walk-good}
+use Rattle.walk_laws.specs.Reports.{ReportsUpTo, ReportsMoves}
 use Rattle.walk_laws.proofs.Reports.{reports-within, accepted-reports}
 
 -- ---- any kind
@@ -55,7 +54,7 @@ step-ceiling kind m w v (Done x) size top says =
 step-ceiling kind m w v (Refused r) size top says = tt
 
 -- from the record of a ring that reaches a ceiling a step is not refused, and reports as many moves
-pub step-reached : (kind : List ℕ → Bool) (n k m : ℕ) (s : List ℕ) → Sized n → Shaded k → Best kind n k m s → (v : Walk) (o : Outcome) → StepSays kind (walkOf k s) v o → Reports m o
+pub step-reached : (kind : List ℕ → Bool) (n k m : ℕ) (s : List ℕ) → Sized n → Shaded k → Best kind n k m s → (v : Walk) (o : Outcome) → StepSays kind (walkOf k s) v o → ReportsMoves m o
 step-reached kind n k m s sized shaded best v (Moved x) says =
     counted-is kind k (ringOf (walkOf k s)) (some (says .to)) x (says .next) (says .counted) ∙ ap (stepMoves kind k) (ring-of k s) ∙ best .reached
 step-reached kind n k m s sized shaded best v (Done x) says =
@@ -70,13 +69,13 @@ pub lyndon-step-ceiling : (w v : Walk) (o : Outcome) → length (w .ring) ≡ 64
 lyndon-step-ceiling w v o size says = step-ceiling lyndon (lyndonCeiling (w .n)) w v o size (lyndon-ceiling (w .n) (w .k)) says
 
 -- so at a record that passes its checks a step is not refused, and reports at most n / 2 + 1 moves, whatever answer the contract admits
-pub accepted-lyndon : (w v : Walk) (o : Outcome) → length (w .ring) ≡ 64 → Passed (walkAsked w) → StepSays lyndon w v o → (m : ℕ) × Reports m o × (m ≤ w .n / 2 + 1)
+pub accepted-lyndon : (w v : Walk) (o : Outcome) → length (w .ring) ≡ 64 → Passed (walkAsked w) → StepSays lyndon w v o → (m : ℕ) × ReportsMoves m o × (m ≤ w .n / 2 + 1)
 accepted-lyndon w v o size good says =
     let r = accepted-reports lyndon w v o good says in
     (r .0, r .1, reports-within (lyndonCeiling (w .n)) (r .0) o (lyndon-step-ceiling w v o size says) (r .1))
 
 -- and from the record of `lyndonStart` as many
-pub lyndon-step-reached : (n k : ℕ) → Sized n → (n ≡ 2 → ⊥) → Shaded k → (v : Walk) (o : Outcome) → StepSays lyndon (walkOf k (lyndonStart k n)) v o → Reports (lyndonCeiling n) o
+pub lyndon-step-reached : (n k : ℕ) → Sized n → (n ≡ 2 → ⊥) → Shaded k → (v : Walk) (o : Outcome) → StepSays lyndon (walkOf k (lyndonStart k n)) v o → ReportsMoves (lyndonCeiling n) o
 lyndon-step-reached n k sized long shaded v o says =
     step-reached lyndon n k (lyndonCeiling n) (lyndonStart k n) sized shaded (lyndon-best n k (omega arith) long (shaded .0)) v o says
 
@@ -88,6 +87,6 @@ necklace-step-ceiling w v o size says =
     step-ceiling necklace (necklaceCeiling (w .n)) w v o size (necklace-ceiling (w .n) (w .k)) says
 
 -- and from the record of `necklaceStart` as many
-pub necklace-step-reached : (n k : ℕ) → Sized n → Shaded k → (v : Walk) (o : Outcome) → StepSays necklace (walkOf k (necklaceStart k n)) v o → Reports (necklaceCeiling n) o
+pub necklace-step-reached : (n k : ℕ) → Sized n → Shaded k → (v : Walk) (o : Outcome) → StepSays necklace (walkOf k (necklaceStart k n)) v o → ReportsMoves (necklaceCeiling n) o
 necklace-step-reached n k sized shaded v o says =
     step-reached necklace n k (necklaceCeiling n) (necklaceStart k n) sized shaded (necklace-best n k (omega arith) (shaded .0)) v o says

@@ -3,7 +3,6 @@
 --     start-carries       of the record that a start hands out
 --     step-carries        of the record that a step hands on, of whatever kind
 --     arrival-carries     and of the one that a step to the next bracelet does
--- Assumes nothing.
 use Prim.Native.Nat.{ℕ, _<_, _≤_}
 use mathlib.Core.Path.{_≡_, sym, ap, _∙_}
 use mathlib.Core.Bool.{Bool}
@@ -16,17 +15,17 @@ use Rattle.words.proofs.Search.{length-tab, getD-tab}
 use Rattle.words.proofs.Lex.{same-true}
 use Rattle.rings.specs.Alike.{bracelet}
 use Rattle.rings.specs.Counts.{occurs, countsOf}
-use Rattle.necklace_laws.proofs.FullWalk.{next-facts}
-use Rattle.tally_inner.proofs.Tallying.{occurs-past}
+use Rattle.ring_laws.proofs.FullWalk.{next-facts}
+use Rattle.shades_tally_inner.proofs.Tallying.{occurs-past}
 use Rattle.refusal.specs.declared.Checked.the-variants as C
 use Rattle.refusal.specs.Order.{Passed}
-use Rattle.walk_record.specs.declared.Walk.{Walk}
-use Rattle.walk_record.specs.declared.Outcome.the-variants.{Moved}
-use Rattle.walk_record.specs.Record.{ringOf, shadeCounts, walkOf, onWalk, walkAsked}
-use Rattle.walk_record.specs.Says.{StartSays, StepSays}
-use Rattle.walk_record.proofs.Good.{good-ready, ring-of}
-use Rattle.bracelet_answers.specs.declared.Arrival.the-variants as A
-use Rattle.bracelet_answers.specs.Says.{ArrivalSays}
+use Rattle.walk_spec.specs.declared.Walk.{Walk}
+use Rattle.walk_spec.specs.declared.Outcome.the-variants.{Moved}
+use Rattle.walk_spec.specs.Record.{ringOf, shadeCounts, walkOf, onWalk, walkAsked}
+use Rattle.walk_spec.specs.Says.{StartSays, StepSays}
+use Rattle.walk_record_laws.proofs.Good.{good-ready, ring-of}
+use Rattle.walk_bracelet_spec.specs.declared.Arrival.the-variants as A
+use Rattle.walk_bracelet_spec.specs.Says.{ArrivalSays}
 use Rattle.walk_laws.specs.Carries.{Carries}
 
 -- counts that are a ring's, in a record of k shades whose ring has no others

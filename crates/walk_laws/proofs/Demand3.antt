@@ -1,7 +1,7 @@
--- Demand 3 of the code, for whatever answer the contract admits at a record that passes its checks. (Of Moved and of Done apart: `walk_record`, proofs/Sums.)
+-- Demand 3 of the code, for whatever answer the contract admits at a record that passes its checks. (Of Moved and of Done apart: `walk_spec`, proofs/Sums.)
 --     accepted-moves    a step to the next necklace is not refused, and reports at most (n + 1) / 2 moves, rounded down
 --     accepted-last     at the last ring a step of any kind is Done with 0 moves
--- The sums over a full walk, and that steps from a start come to Done, so that they are about something: OneRing. Assumes nothing.
+-- The sums over a full walk, and that steps from a start come to Done, so that they are about something: OneRing.
 use Prim.Native.Nat.{ℕ, _+_, _-_, _/_, _≤_}
 use mathlib.Core.Path.{_≡_, refl, sym, ap, _∙_}
 use mathlib.Core.Bool.{Bool}
@@ -10,21 +10,21 @@ use native.Mathlib.Omega.{arith}
 use lib.ListN.{length, replicate}
 use Rattle.rings.specs.Necklace.{necklace}
 use Rattle.rings.specs.Steps.{nextOf, moves}
-use Rattle.necklace_laws.proofs.Next.{low-or-full, next-none}
-use Rattle.necklace_laws.proofs.Bound.{bound-necklace}
+use Rattle.ring_laws.proofs.Next.{low-or-full, next-none}
+use Rattle.ring_laws.proofs.Bound.{bound-necklace}
 use Rattle.refusal.specs.Order.{Passed}
 use Rattle.refusal.proofs.Unique.{never-both}
-use Rattle.walk_record.specs.declared.Walk.{Walk}
-use Rattle.walk_record.specs.declared.Outcome.{Outcome}
-use Rattle.walk_record.specs.declared.Outcome.the-variants.{Moved, Done, Refused}
-use Rattle.walk_record.specs.Record.{ringOf, walkAsked}
-use Rattle.walk_record.specs.Says.{StepSays}
-use Rattle.walk_record.proofs.Good.{good-ready, good-long}
-use Rattle.walk_record.proofs.Sums.{step-bound, step-last}
-use Rattle.walk_laws.specs.Reports.{Reports}
+use Rattle.walk_spec.specs.declared.Walk.{Walk}
+use Rattle.walk_spec.specs.declared.Outcome.{Outcome}
+use Rattle.walk_spec.specs.declared.Outcome.the-variants.{Moved, Done, Refused}
+use Rattle.walk_spec.specs.Record.{ringOf, walkAsked}
+use Rattle.walk_spec.specs.Says.{StepSays}
+use Rattle.walk_record_laws.proofs.Good.{good-ready, good-long}
+use Rattle.walk_record_laws.proofs.Sums.{step-bound, step-last}
+use Rattle.walk_laws.specs.Reports.{ReportsMoves}
 
 -- a step to the next necklace is not refused, and reports at most (n + 1) / 2 moves
-pub accepted-moves : (w v : Walk) (o : Outcome) → length (w .ring) ≡ 64 → Passed (walkAsked w) → StepSays necklace w v o → (m : ℕ) × Reports m o × (m ≤ (w .n + 1) / 2)
+pub accepted-moves : (w v : Walk) (o : Outcome) → length (w .ring) ≡ 64 → Passed (walkAsked w) → StepSays necklace w v o → (m : ℕ) × ReportsMoves m o × (m ≤ (w .n + 1) / 2)
 accepted-moves w v (Moved m) size good says = (m, refl, step-bound w v m size says)
 accepted-moves w v (Done m) size good says =
     let ready = good-ready w good size in

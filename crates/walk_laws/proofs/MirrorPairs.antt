@@ -7,8 +7,8 @@
 --     walk-arrivals            steps from a record do what the full walk from its ring does
 --     arrivals-end             so from every record that a start hands out, whatever prenecklace it is of, they come to Done
 --     pairs-handed-out         for every n and k of the page there is what the sentences speak of
--- The calls are spoken of by their contracts, which no two answers satisfy (`walk_record` and `bracelet_answers`, proofs/Unique): so the answers here are the
--- code's. Assumes nothing.
+-- The calls are spoken of by their contracts, which no two answers satisfy (`walk_spec` and `walk_bracelet_spec`, proofs/Unique): so the answers here are the
+-- code's.
 use Prim.Native.Nat.{ℕ, _+_, _<_}
 use mathlib.Core.Path.{_≡_, refl, sym, subst, ap, _∙_}
 use mathlib.Core.Bool.{true}
@@ -21,17 +21,17 @@ use Rattle.words.proofs.Readings.{All, Increasing}
 use Rattle.rings.specs.Prenecklace.{prenecklace}
 use Rattle.rings.specs.Alike.{bracelet}
 use Rattle.rings.specs.Steps.{moves, FullWalk, done, step}
-use Rattle.necklace_laws.proofs.Words.{necklace-prenecklace}
-use Rattle.necklace_laws.proofs.FullWalk.{next-facts, walk-exists, zeros, length-zeros}
+use Rattle.ring_laws.proofs.Words.{necklace-prenecklace}
+use Rattle.ring_laws.proofs.FullWalk.{next-facts, walk-exists, zeros, length-zeros}
 use Rattle.bracelet_laws.specs.Pairs.{OneOfEachPair, EvenForItself}
 use Rattle.bracelet_laws.proofs.Words.{bracelet-necklace}
 use Rattle.bracelet_laws.proofs.Pairs.{walk-bracelets, walk-order, walk-pairs, walk-even}
 use Rattle.refusal.specs.declared.Checked.the-variants as C
-use Rattle.walk_record.specs.declared.Walk.{Walk}
-use Rattle.walk_record.specs.Record.{ringOf, walkOf}
-use Rattle.walk_record.specs.Says.{StartSays}
-use Rattle.walk_record.proofs.Good.{ring-of, walk-good}
-use Rattle.bracelet_answers.specs.Says.{Onward}
+use Rattle.walk_spec.specs.declared.Walk.{Walk}
+use Rattle.walk_spec.specs.Record.{ringOf, walkOf}
+use Rattle.walk_spec.specs.Says.{StartSays}
+use Rattle.walk_record_laws.proofs.Good.{ring-of, walk-good}
+use Rattle.walk_bracelet_spec.specs.Says.{Onward}
 use Rattle.walk_laws.specs.Arrivals.{Arrivals, PairsHandedOut, ends, goes}
 use Rattle.walk_laws.proofs.OneRing.{handed-out}
 

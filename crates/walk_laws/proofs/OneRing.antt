@@ -8,7 +8,6 @@
 --     walk-steps             steps from a record do what the full walk from its ring does
 --     steps-end              so from every record that a start hands out they come to Done
 --     handed-out             for every n and k of the page there is what these sentences speak of
--- Assumes nothing.
 use Prim.Native.Nat.{ℕ, _+_, _<_}
 use mathlib.Core.Path.{_≡_, refl, sym, subst, ap, _∙_}
 use mathlib.Core.Bool.{Bool, true}
@@ -20,16 +19,16 @@ use Rattle.words.specs.Readings.{Sized, Shaded, Reading}
 use Rattle.rings.specs.Necklace.{necklace}
 use Rattle.rings.specs.Prenecklace.{prenecklace}
 use Rattle.rings.specs.Steps.{moves, FullWalk, done, step}
-use Rattle.necklace_laws.proofs.Words.{necklace-prenecklace}
-use Rattle.necklace_laws.proofs.FullWalk.{next-facts, walk-exists, zeros, length-zeros, zeros-reading, zeros-prenecklace, walk-sum, walk-sum-bound}
-use Rattle.counting_laws.specs.OneRing.{OneRingEach, PeriodsAddUp}
-use Rattle.counting_laws.proofs.OneRing.{one-ring, period-sum}
+use Rattle.ring_laws.proofs.Words.{necklace-prenecklace}
+use Rattle.ring_laws.proofs.FullWalk.{next-facts, walk-exists, zeros, length-zeros, zeros-reading, zeros-prenecklace, walk-sum, walk-sum-bound}
+use Rattle.ring_total_laws.specs.OneRing.{OneRingEach, PeriodsAddUp}
+use Rattle.ring_total_laws.proofs.OneRing.{one-ring, period-sum}
 use Rattle.refusal.specs.declared.Checked.the-variants as C
-use Rattle.walk_record.specs.declared.Walk.{Walk}
-use Rattle.walk_record.specs.Record.{ringOf, walkOf}
-use Rattle.walk_record.specs.Says.{StartSays, Steps, ends, goes}
-use Rattle.walk_record.proofs.Good.{ring-of, walk-good}
-use Rattle.walk_record.proofs.Sums.{steps-walk}
+use Rattle.walk_spec.specs.declared.Walk.{Walk}
+use Rattle.walk_spec.specs.Record.{ringOf, walkOf}
+use Rattle.walk_spec.specs.Says.{StartSays, Steps, ends, goes}
+use Rattle.walk_record_laws.proofs.Good.{ring-of, walk-good}
+use Rattle.walk_record_laws.proofs.Sums.{steps-walk}
 use Rattle.walk_laws.specs.HandedOut.{HandedOut, OneRingHandedOut, PeriodsHandedOut, MovesHandedOut, MovesWithin}
 
 -- ---- the sentences

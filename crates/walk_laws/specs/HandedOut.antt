@@ -4,19 +4,19 @@
 --     PeriodsHandedOut          the periods of the rings handed out add up to k to the power n
 --     MovesHandedOut, MovesWithin    demand 3: the moves that the steps report add up to one less than the prenecklaces of n and k, and to at most one less
 --                                    than the necklaces of lengths 1 to n together
--- The calls are spoken of by their contracts, which no two answers satisfy (`walk_record`, proofs/Unique): so the answers here are the code's. That they hold, and that there
--- is such a start and such steps for every n and k of the page: proofs/OneRing. Assumes nothing.
+-- The calls are spoken of by their contracts, which no two answers satisfy (`walk_spec`, proofs/Unique): so the answers here are the code's. That they hold, and that there
+-- is such a start and such steps for every n and k of the page: proofs/OneRing.
 use Prim.Native.Nat.{ℕ, suc, _≤_}
 use mathlib.Core.Path.{_≡_}
 use mathlib.Core.List.{List}
 use Rattle.rings.specs.Necklace.{necklace}
 use Rattle.rings.specs.Prenecklace.{prenecklace}
 use Rattle.rings.specs.Steps.{howMany, howManyTo, zeros}
-use Rattle.counting_laws.specs.OneRing.{OneRingEach, PeriodsAddUp}
+use Rattle.ring_total_laws.specs.OneRing.{OneRingEach, PeriodsAddUp}
 use Rattle.refusal.specs.declared.Checked.the-variants as C
-use Rattle.walk_record.specs.declared.Walk.{Walk}
-use Rattle.walk_record.specs.Record.{ringOf}
-use Rattle.walk_record.specs.Says.{StartSays, Steps}
+use Rattle.walk_spec.specs.declared.Walk.{Walk}
+use Rattle.walk_spec.specs.Record.{ringOf}
+use Rattle.walk_spec.specs.Says.{StartSays, Steps}
 
 -- a start from the all-zero ring of n sectors and k shades, and the steps by necklaces from it until Done, as their contracts tell them
 pub record HandedOut (n k : ℕ) : Type 0 where

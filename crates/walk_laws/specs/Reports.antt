@@ -1,11 +1,10 @@
 -- What the outcome of a step reports (01, 'Walks'): Moved and Done report their moves, a refusal reports none.
 --     ReportsUpTo m o    the outcome reports at most m moves, or is a refusal
---     Reports m o        it reports m moves, and is no refusal
--- Assumes nothing.
+--     ReportsMoves m o        it reports m moves, and is no refusal
 use Prim.Native.Nat.{ℕ, _≤_}
 use mathlib.Core.Path.{_≡_}
-use Rattle.walk_record.specs.declared.Outcome.{Outcome}
-use Rattle.walk_record.specs.declared.Outcome.the-variants.{Moved, Done, Refused}
+use Rattle.walk_spec.specs.declared.Outcome.{Outcome}
+use Rattle.walk_spec.specs.declared.Outcome.the-variants.{Moved, Done, Refused}
 
 -- at most m moves
 abbrev pub ReportsUpTo : ℕ → Outcome → Type 0
@@ -14,7 +13,7 @@ ReportsUpTo m (Done x) = x ≤ m
 ReportsUpTo m (Refused r) = Unit {0}
 
 -- exactly m moves
-abbrev pub Reports : ℕ → Outcome → Type 0
-Reports m (Moved x) = x ≡ m
-Reports m (Done x) = x ≡ m
-Reports m (Refused r) = ⊥
+abbrev pub ReportsMoves : ℕ → Outcome → Type 0
+ReportsMoves m (Moved x) = x ≡ m
+ReportsMoves m (Done x) = x ≡ m
+ReportsMoves m (Refused r) = ⊥

@@ -6,7 +6,6 @@
 --     count-cong, count-zero, count-le, count-split    the same of counts: a test that splits in two counts as the two together
 --     count-one                                        each reading is in the list of all readings exactly once
 --     total-cons, total-snoc                           readings with one sector more, at the front and at the end
--- Assumes nothing.
 use Prim.Native.Nat.{ℕ, zero, suc, _+_, _<_, _≤_}
 use mathlib.Core.Path.{_≡_, refl, sym, ap, _∙_}
 use mathlib.Core.Bool.{Bool, true, false}

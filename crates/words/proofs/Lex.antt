@@ -9,7 +9,6 @@
 --     not-before, upTo-not-before, not-upTo, before-not-upTo     upTo fails exactly where before passes the other way
 --     upTo-refl, upTo-trans, upTo-antisym, upTo-total    upTo is a total order
 --     before-upTo, before-upTo-trans, upTo-before-trans, upTo-split    the two together
--- Assumes nothing.
 use Prim.Native.Nat.{ℕ, zero, suc, _<_}
 use mathlib.Core.Path.{_≡_, refl, sym, ap, _∙_}
 use mathlib.Core.Bool.{true, false, not, false≢true}

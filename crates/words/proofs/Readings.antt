@@ -7,7 +7,6 @@
 --     first-none                            where nothing is found, nothing passes
 --     first-some, first-is                  what is found is the least reading that passes, and the other way round
 --     nothing-first, first-nothing          nothing is found exactly where no reading passes
--- Assumes nothing.
 use Prim.Native.Nat.{ℕ, zero, suc, _<_}
 use mathlib.Core.Path.{_≡_, refl, subst, ap, _∙_}
 use mathlib.Core.Bool.{Bool, true, false}

@@ -2,7 +2,6 @@
 -- shifted, appending a sector is going from n to suc n. Nothing here cuts or joins lists.
 --     sec, from, Less    specs/Sequence, passed on
 --     Cmp f g n, cmp     within n places f is below g, or they agree, or g is below f
--- Assumes nothing.
 use Prim.Native.Nat.{ℕ, zero, suc, _+_, _<_, _≤_}
 use mathlib.Core.Path.{_≡_, sym, ap, _∙_}
 use mathlib.Core.List.{List}

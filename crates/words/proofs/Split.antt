@@ -5,7 +5,6 @@
 --     either, either-left, either-right                   a disjunction of two tests
 --     clash, refuted, forced                              no test is both true and false, and one of the two it is
 --     agree                                               two tests that pass together are equal
--- Assumes nothing.
 use Prim.Native.Nat.{ℕ, _<_, _≤_}
 use mathlib.Core.Path.{_≡_, refl, sym, _∙_}
 use mathlib.Core.Bool.{Bool, true, false, _&&_, _||_, false≢true}

@@ -5,7 +5,6 @@
 --     turn-again, turn-between                                           a turn of a turn is a turn, and each is one of each other
 --     reading-turn, reading-reverse                                      a turn of a reading, and its reversal, are readings
 --     getD-reverse, reverse-turn                                         sectors and turns of the reversal
--- Assumes nothing.
 use Prim.Native.Nat.{ℕ, zero, suc, _+_, _-_, _<_, _≤_}
 use mathlib.Core.Path.{_≡_, refl, sym, ap, _∙_}
 use mathlib.Core.List.{List, [], _∷_, _++_, reverse, append-nil, append-assoc, reverse-cons, reverse-append}

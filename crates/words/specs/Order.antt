@@ -3,7 +3,7 @@
 --     before v w    v stands before w
 --     upTo v w      v stands before w or is w
 --     same v w      v is w
--- That the order is total, transitive and antisymmetric: proofs/Lex. Assumes nothing.
+-- That the order is total, transitive and antisymmetric: proofs/Lex.
 use Prim.Native.Nat.{ℕ}
 use mathlib.Core.Bool.{Bool, true, false, not, _&&_, _||_}
 use mathlib.Core.List.{List, [], _∷_}

@@ -7,7 +7,6 @@
 --     All P ws             P holds of each word of the list
 --     Increasing ws        each word of the list is before all that follow it
 -- That `readings n k` holds each reading exactly once, nothing else, and in increasing order: proofs/Readings.
--- Assumes nothing.
 use Prim.Native.Nat.{ℕ, zero, suc, _+_, _≤_, _<_}
 use mathlib.Core.Path.{_≡_}
 use mathlib.Core.Bool.{Bool, true, false}

@@ -5,7 +5,7 @@
 --     least n f        the least number below n at which f passes, or n where none does
 --     greatest n f     the greatest number from 1 to n at which f passes, or 0 where none does
 --     tab n f          the list f 0, f 1, .., f (n - 1)
--- Their laws: proofs/Search. Assumes nothing.
+-- Their laws: proofs/Search.
 use Prim.Native.Nat.{ℕ, zero, suc}
 use mathlib.Core.Bool.{Bool, true, false, _&&_, _||_}
 use mathlib.Core.List.{List, [], _∷_}

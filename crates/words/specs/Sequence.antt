@@ -2,7 +2,6 @@
 --     sec w              the sectors of a list, 0 past its end
 --     from i a           the sequence a from place i on
 --     Less f g n         f is below g within n places, with the first difference as witness
--- Assumes nothing.
 use Prim.Native.Nat.{ℕ, _+_, _<_}
 use mathlib.Core.Path.{_≡_}
 use mathlib.Core.List.{List}

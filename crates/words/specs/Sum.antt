@@ -1,5 +1,4 @@
 -- The exact sum of a list of numbers: shade counts (01, 'Walks'), and lengths of words that stand one behind the other.
--- Assumes nothing.
 use Prim.Native.Nat.{ℕ, _+_}
 use mathlib.Core.List.{List, [], _∷_}
 

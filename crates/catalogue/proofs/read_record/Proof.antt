@@ -1,5 +1,4 @@
 -- `catalogue::read_record` meets its contract: the output's length, the start, the end, or what the record answers.
--- Assumes nothing.
 use mathlib.Core.Path.{refl}
 use mathlib.Core.Logic.{inl, inr}
 use native.Mathlib.Omega.{arith}

@@ -1,4 +1,4 @@
--- `classify::classify` meets its contract: what the check answers, and then the class. Assumes nothing.
+-- `classify::classify` meets its contract: what the check answers, and then the class.
 use borrow.Author.Needs.{needs}
 use Rattle.classify.proofs.classify.Statement.{statement}
 use Rattle.classify.proofs.classify.Tie as tie

@@ -1,7 +1,7 @@
--- `converter::convert` meets its contract: the lengths differ, the catalogue is damaged, or all of it is written. Assumes nothing.
+-- `converter::convert` meets its contract: the lengths differ, the catalogue is damaged, or all of it is written.
 use mathlib.Core.Path.{refl}
 use native.Mathlib.Omega.{arith}
-use Rattle.old_record.specs.Converts.Unconverted.{room, damaged}
+use Rattle.converter_spec.specs.Converts.Unconverted.{room, damaged}
 use borrow.Author.Needs.{needs}
 use Rattle.converter.proofs.convert.Statement.{statement}
 use Rattle.converter.proofs.convert.Tie as tie

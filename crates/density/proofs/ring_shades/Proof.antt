@@ -1,4 +1,4 @@
--- `density::ring_shades` meets its contract: the numbers, the card, the output, each value, and only then a byte is written. Assumes nothing.
+-- `density::ring_shades` meets its contract: the numbers, the card, the output, each value, and only then a byte is written.
 use mathlib.Core.Path.{_≡_, refl, sym, _∙_}
 use mathlib.Core.Bool.{true}
 use mathlib.Core.Logic.{inl, inr}

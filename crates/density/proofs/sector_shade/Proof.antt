@@ -1,4 +1,4 @@
--- `density::sector_shade` meets its contract: the shades, the card, then what the value tells. Assumes nothing.
+-- `density::sector_shade` meets its contract: the shades, the card, then what the value tells.
 use mathlib.Core.Path.{_≡_, refl, sym, _∙_}
 use mathlib.Core.Bool.{true}
 use mathlib.Core.Logic.{inl, inr}

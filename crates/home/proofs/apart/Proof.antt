@@ -1,4 +1,4 @@
--- `home::apart` meets its contract: what the check answers, or else the fewest places at which a turn of the one differs from the other. Assumes nothing.
+-- `home::apart` meets its contract: what the check answers, or else the fewest places at which a turn of the one differs from the other.
 use borrow.Author.Needs.{needs}
 use Rattle.home.proofs.Answers.{passed-pair}
 use Rattle.home.proofs.apart.Statement.{statement}

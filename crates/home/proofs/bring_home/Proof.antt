@@ -1,4 +1,4 @@
--- `home::bring_home` meets its contract: what the check answers, or else the turn by the shift. Assumes nothing.
+-- `home::bring_home` meets its contract: what the check answers, or else the turn by the shift.
 use mathlib.Core.Path.{_∙_, refl}
 use native.Mathlib.Omega.{arith}
 use lib.ListN.{length}

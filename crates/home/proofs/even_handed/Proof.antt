@@ -1,4 +1,4 @@
--- `home::even_handed` meets its contract: what the check answers, or else what the bytes are. Assumes nothing.
+-- `home::even_handed` meets its contract: what the check answers, or else what the bytes are.
 use mathlib.Core.Path.{_∙_, sym}
 use borrow.Author.Needs.{needs}
 use Rattle.home.proofs.even_handed.Statement.{statement}

@@ -1,4 +1,4 @@
--- `home::same_ring` meets its contract: what the check answers, or else whether the two turns by the shifts are the same. Assumes nothing.
+-- `home::same_ring` meets its contract: what the check answers, or else whether the two turns by the shifts are the same.
 use mathlib.Core.Path.{_∙_, sym}
 use native.Mathlib.Omega.{arith}
 use borrow.Author.Needs.{needs}

@@ -1,8 +1,8 @@
--- `how_many::lyndon_words` meets its contract. Assumes nothing.
+-- `how_many::lyndon_words` meets its contract.
 use borrow.Author.Needs.{needs}
 use native.Mathlib.Omega.{arith}
-use Rattle.limits.proofs.Given.{accepted-listable, listable-within}
-use Rattle.how_many.specs.Says.{most}
+use Rattle.limits_spec.proofs.Given.{accepted-listable, listable-within}
+use Rattle.how_many_spec.specs.Says.{most}
 use Rattle.how_many.proofs.lyndon_words.Statement.{statement}
 use Rattle.how_many.proofs.lyndon_words.Tie as tie
 

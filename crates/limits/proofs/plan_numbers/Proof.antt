@@ -1,4 +1,4 @@
--- `limits::plan_numbers` meets its contract. Assumes nothing.
+-- `limits::plan_numbers` meets its contract.
 use Prim.Native.Nat.{_^_}
 use mathlib.Core.Path.{_∙_, sym, refl}
 use mathlib.Core.Logic.{inl, inr}

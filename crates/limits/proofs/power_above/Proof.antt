@@ -1,5 +1,4 @@
 -- `limits::power_above` meets its contract. The loop's invariant: p is k to the power i, and within the limit.
--- Assumes nothing.
 use Prim.Native.Nat.{_≤_, _-_, _^_}
 use mathlib.Core.Path.{_≡_, sym}
 use native.Mathlib.Omega.{arith}

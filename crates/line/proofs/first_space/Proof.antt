@@ -1,5 +1,4 @@
 -- `line::first_space` meets its contract. The loop's invariant: no character passed is a space.
--- Assumes nothing.
 use Prim.Native.Nat.{ℕ, _≤_, _<_, _-_}
 use mathlib.Core.Path.{_≡_}
 use lib.ListN.{length, getD}

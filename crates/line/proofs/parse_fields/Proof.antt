@@ -1,12 +1,11 @@
 -- `line::parse_fields` meets its contract: k stands before the first space, n behind it.
--- Assumes nothing.
 use Prim.Native.Nat.{_+_, _-_}
 use mathlib.Core.Path.{_∙_, sym}
 use native.Mathlib.Omega.{arith}
 use lib.ListN.{length, drop, length-take, length-drop}
 use borrow.Author.Needs.{needs}
 use lib.Seq.{take-all}
-use Rattle.line.proofs.Lines.{fields-at, fields-join}
+use Rattle.line_spec.proofs.Lines.{fields-at, fields-join}
 use Rattle.line.proofs.parse_fields.Statement.{statement}
 use Rattle.line.proofs.parse_fields.Tie as tie
 

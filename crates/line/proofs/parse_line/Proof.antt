@@ -1,9 +1,8 @@
 -- `line::parse_line` meets its contract: the last character says whether there is a newline.
--- Assumes nothing.
 use native.Mathlib.Omega.{arith}
 use borrow.Author.Needs.{needs}
 use lib.ListN.{length-take}
-use Rattle.line.proofs.Lines.{line-some, ended-says, bare-says}
+use Rattle.line_spec.proofs.Lines.{line-some, ended-says, bare-says}
 use Rattle.line.proofs.parse_line.Statement.{statement}
 use Rattle.line.proofs.parse_line.Tie as tie
 

@@ -1,5 +1,4 @@
 -- `line::parse_number` meets its contract. The loop's invariant: the characters passed are digits, and x is what they spell.
--- Assumes nothing.
 use Prim.Native.Nat.{_-_}
 use native.Mathlib.Omega.{arith}
 use lib.ListN.{length}

@@ -1,8 +1,8 @@
--- `listing::empty_page` meets its contract. Assumes nothing.
+-- `listing::empty_page` meets its contract.
 use borrow.Author.Needs.{needs}
 use mathlib.Core.Path.{ap}
-use Rattle.pages.specs.declared.State.{State}
-use Rattle.pages.specs.declared.Page.{Page}
+use Rattle.listing_spec.specs.declared.State.{State}
+use Rattle.listing_spec.specs.declared.Page.{Page}
 use Rattle.listing.proofs.empty_page.Statement.{statement}
 use Rattle.listing.proofs.empty_page.Tie as tie
 

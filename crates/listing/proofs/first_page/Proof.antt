@@ -1,4 +1,4 @@
--- `listing::first_page` meets its contract. Assumes nothing.
+-- `listing::first_page` meets its contract.
 use native.Mathlib.Omega.{arith}
 use borrow.Author.Needs.{needs}
 use Rattle.listing.proofs.Making.{first-small, first-refused, first-listed}

@@ -1,4 +1,4 @@
--- `listing::next_page` meets its contract. Assumes nothing.
+-- `listing::next_page` meets its contract.
 use native.Mathlib.Omega.{arith}
 use borrow.Author.Tests.{not-true, not-false}
 use borrow.Author.Needs.{needs}

@@ -1,4 +1,4 @@
--- `listing::refused_page` meets its contract. Assumes nothing.
+-- `listing::refused_page` meets its contract.
 use native.Mathlib.Omega.{arith}
 use borrow.Author.Needs.{needs}
 use Rattle.listing.proofs.Making.{refused-room, refused-says}

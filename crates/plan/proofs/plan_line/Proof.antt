@@ -1,7 +1,7 @@
--- `plan::plan_line` meets its contract. Assumes nothing.
+-- `plan::plan_line` meets its contract.
 use mathlib.Core.Path.{refl}
 use borrow.Author.Needs.{needs}
-use Rattle.plan.specs.Plan.{malformed}
+use Rattle.plan_spec.specs.Plan.{malformed}
 use Rattle.plan.proofs.Plans.{plan-spelt}
 use Rattle.plan.proofs.plan_line.Statement.{statement}
 use Rattle.plan.proofs.plan_line.Tie as tie

@@ -1,4 +1,4 @@
--- `report::feed` meets its contract. Assumes nothing.
+-- `report::feed` meets its contract.
 use Rattle.report.proofs.Making.{taken-within, taken-room, feed-says}
 use borrow.Author.Needs.{needs}
 use Rattle.report.proofs.feed.Statement.{statement}

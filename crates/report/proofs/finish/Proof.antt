@@ -1,10 +1,10 @@
--- `report::finish` meets its contract. Assumes nothing.
+-- `report::finish` meets its contract.
 use mathlib.Core.Path.{_≡_, refl}
 use native.Mathlib.Omega.{arith}
 use lib.ListN.{length, length-take}
-use Rattle.text.proofs.Put.{placed-length}
-use Rattle.reports.specs.Blocks.{small}
-use Rattle.blocks_inner.proofs.Holding.{smaller-right}
+use Rattle.text_spec.proofs.Put.{placed-length}
+use Rattle.report_spec.specs.Blocks.{small}
+use Rattle.stream_blocks_inner.proofs.Holding.{smaller-right}
 use Rattle.report.proofs.Making.{end-none, end-some}
 use borrow.Author.Needs.{needs}
 use Rattle.report.proofs.finish.Statement.{statement}

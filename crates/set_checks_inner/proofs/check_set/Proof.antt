@@ -1,4 +1,4 @@
--- `set_checks_inner::check_set` meets its contract. Assumes nothing.
+-- `set_checks_inner::check_set` meets its contract.
 use mathlib.Core.Path.{refl}
 use mathlib.Core.Logic.{inl, inr}
 use Rattle.set_checks_inner.proofs.Checks.{distance-says}

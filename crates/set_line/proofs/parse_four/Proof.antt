@@ -1,8 +1,8 @@
--- `set_line::parse_four` meets its contract: two numbers stand before the second space, two behind it. Assumes nothing.
+-- `set_line::parse_four` meets its contract: two numbers stand before the second space, two behind it.
 use Prim.Native.Nat.{_+_}
 use mathlib.Core.Path.{_∙_, sym}
 use native.Mathlib.Omega.{arith}
-use Rattle.set_line.proofs.Four.{rest-all, four-at, four-join}
+use Rattle.set_line_spec.proofs.Four.{rest-all, four-at, four-join}
 use lib.ListN.{length-take}
 use borrow.Author.Needs.{needs}
 use Rattle.set_line.proofs.parse_four.Statement.{statement}

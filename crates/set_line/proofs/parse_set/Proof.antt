@@ -1,6 +1,6 @@
--- `set_line::parse_set` meets its contract: the last character says whether there is a newline. Assumes nothing.
+-- `set_line::parse_set` meets its contract: the last character says whether there is a newline.
 use native.Mathlib.Omega.{arith}
-use Rattle.set_line.proofs.Four.{set-line-some, ended-four, bare-four}
+use Rattle.set_line_spec.proofs.Four.{set-line-some, ended-four, bare-four}
 use lib.ListN.{length-take}
 use borrow.Author.Needs.{needs}
 use Rattle.set_line.proofs.parse_set.Statement.{statement}

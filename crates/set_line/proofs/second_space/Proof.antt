@@ -1,5 +1,5 @@
--- `set_line::second_space` meets its contract. Assumes nothing.
-use Rattle.set_line.proofs.Four.{second-none, second-some}
+-- `set_line::second_space` meets its contract.
+use Rattle.set_line_spec.proofs.Four.{second-none, second-some}
 use borrow.Author.Needs.{needs}
 use Rattle.set_line.proofs.second_space.Statement.{statement}
 use Rattle.set_line.proofs.second_space.Tie as tie

@@ -1,4 +1,4 @@
--- `set_output::print_numbers` meets its contract. Assumes nothing.
+-- `set_output::print_numbers` meets its contract.
 use Rattle.set_output.proofs.Output.{numbers-refused, places-fit, numbers-chosen}
 use borrow.Author.Needs.{needs}
 use Rattle.set_output.proofs.print_numbers.Statement.{statement}

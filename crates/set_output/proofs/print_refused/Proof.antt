@@ -1,4 +1,4 @@
--- `set_output::print_refused` meets its contract. Assumes nothing.
+-- `set_output::print_refused` meets its contract.
 use Prim.Native.Nat.{_<_}
 use native.Mathlib.Omega.{arith}
 use Prim.Native.Nat.{_^_}

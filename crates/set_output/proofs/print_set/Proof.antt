@@ -1,6 +1,6 @@
--- `set_output::print_set` meets its contract. Assumes nothing.
+-- `set_output::print_set` meets its contract.
 use mathlib.Core.Path.{refl}
-use Rattle.set_text.specs.Prints.{small}
+use Rattle.set_text_spec.specs.Prints.{small}
 use Rattle.set_output.proofs.Output.{line-malformed, line-numbers}
 use borrow.Author.Needs.{needs}
 use Rattle.set_output.proofs.print_set.Statement.{statement}

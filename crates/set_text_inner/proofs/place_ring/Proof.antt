@@ -1,7 +1,7 @@
--- `set_text_inner::place_ring` meets its contract: the two pieces stand behind each other, and there is room for both. Assumes nothing.
+-- `set_text_inner::place_ring` meets its contract: the two pieces stand behind each other, and there is room for both.
 use native.Mathlib.Omega.{arith}
 use borrow.Author.Needs.{needs}
-use Rattle.set_text.proofs.Lengths.{length-ring-text}
+use Rattle.set_text_spec.proofs.Lengths.{length-ring-text}
 use Rattle.set_text_inner.proofs.Lines.{ring-room, placed-ring-text}
 use Rattle.set_text_inner.proofs.place_ring.Statement.{statement}
 use Rattle.set_text_inner.proofs.place_ring.Tie as tie

@@ -1,12 +1,12 @@
--- `set_text_inner::place_rings` meets its contract. The lines of the rings in the first j places are placed, one behind another. Assumes nothing.
+-- `set_text_inner::place_rings` meets its contract. The lines of the rings in the first j places are placed, one behind another.
 use Prim.Native.Nat.{_≤_, _-_}
 use mathlib.Core.Path.{_≡_}
 use native.Mathlib.Omega.{arith}
 use Rattle.set_text_inner.proofs.Lines.{lines-start, lines-room, lines-on}
-use Rattle.text.specs.Put.{Placed}
-use Rattle.text.proofs.Put.{placed-length}
-use Rattle.set_choice.specs.Places.{setIn}
-use Rattle.set_text.specs.Text.{ringTexts}
+use Rattle.text_spec.specs.Put.{Placed}
+use Rattle.text_spec.proofs.Put.{placed-length}
+use Rattle.set_spec.specs.Places.{setIn}
+use Rattle.set_text_spec.specs.Text.{ringTexts}
 use lib.ListN.{length-take}
 use borrow.Author.Needs.{needs}
 use Rattle.set_text_inner.proofs.place_rings.Statement.{statement}

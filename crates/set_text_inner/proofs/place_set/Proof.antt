@@ -1,6 +1,6 @@
--- `set_text_inner::place_set` meets its contract: the last line stands behind the rings, and there is room for it. Assumes nothing.
+-- `set_text_inner::place_set` meets its contract: the last line stands behind the rings, and there is room for it.
 use borrow.Author.Needs.{needs}
-use Rattle.text.proofs.Put.{placed-length, placed-append}
+use Rattle.text_spec.proofs.Put.{placed-length, placed-append}
 use Rattle.set_text_inner.proofs.Lines.{taken-room}
 use Rattle.set_text_inner.proofs.place_set.Statement.{statement}
 use Rattle.set_text_inner.proofs.place_set.Tie as tie

@@ -1,4 +1,4 @@
--- `set_text_inner::place_taken` meets its contract: each piece stands behind the one before it, and there is room for all. Assumes nothing.
+-- `set_text_inner::place_taken` meets its contract: each piece stands behind the one before it, and there is room for all.
 use Rattle.set_text_inner.proofs.Lines.{word-room, number-room, full-room, placed-full, short-room, placed-short-of}
 use borrow.Author.Needs.{needs}
 use Rattle.set_text_inner.proofs.place_taken.Statement.{statement}

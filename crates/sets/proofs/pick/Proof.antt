@@ -1,4 +1,4 @@
--- `sets::pick` meets its contract. Assumes nothing.
+-- `sets::pick` meets its contract.
 use mathlib.Core.Path.{refl}
 use borrow.Author.Needs.{needs}
 use Rattle.sets.proofs.pick.Statement.{statement}

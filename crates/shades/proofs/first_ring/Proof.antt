@@ -1,5 +1,4 @@
 -- `shades::first_ring` meets its contract. Behind the checks, the letters of the counts in increasing order are the first ring.
--- Assumes nothing.
 use mathlib.Core.Path.{refl}
 use lib.ListN.{length}
 use borrow.Author.Needs.{needs}

@@ -1,12 +1,11 @@
 -- `shades::next_ring` meets its contract. Behind the checks, the search answers the next ring or that there is none.
--- Assumes nothing.
 use mathlib.Core.Path.{_≡_, _∙_, sym, refl}
 use native.Mathlib.Omega.{arith}
 use lib.ListN.{length, take, length-take}
 use borrow.Author.Needs.{needs}
 use lib.Seq.{length-take-le}
 use borrow.Author.Tests.{not-true, not-false}
-use Rattle.copy_laws.proofs.Copy.{copied}
+use Rattle.word_copy_laws.proofs.Copy.{copied}
 use Rattle.shades.proofs.Asking.{next-asks, next-found, next-done}
 use Rattle.shades.proofs.next_ring.Statement.{statement}
 use Rattle.shades.proofs.next_ring.Tie as tie

@@ -1,5 +1,4 @@
 -- `stock::stock_home` meets its contract: each entry of the table follows the rule.
--- Assumes nothing.
 use borrow.Author.Needs.{needs}
 use Rattle.stock.proofs.Table.{homes, entry}
 use Rattle.stock.proofs.stock_home.Statement.{statement}

@@ -1,4 +1,4 @@
--- `strip::place_good` meets its contract: the power, and then the place. Assumes nothing.
+-- `strip::place_good` meets its contract: the power, and then the place.
 use Prim.Native.Nat.{_^_}
 use mathlib.Core.Path.{_≡_, refl, sym, _∙_}
 use native.Mathlib.Omega.{arith}

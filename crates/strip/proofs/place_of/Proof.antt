@@ -1,4 +1,4 @@
--- `strip::place_of` meets its contract: what the check answers, and then what telling the place answers. Assumes nothing.
+-- `strip::place_of` meets its contract: what the check answers, and then what telling the place answers.
 use borrow.Author.Needs.{needs}
 use mathlib.Core.Logic.{inl}
 use Rattle.strip.proofs.place_of.Statement.{statement}

@@ -1,4 +1,4 @@
--- `strip::place_on` meets its contract: on the strip that was written the reading has its one place. Assumes nothing.
+-- `strip::place_on` meets its contract: on the strip that was written the reading has its one place.
 use mathlib.Core.Path.{_≡_}
 use borrow.Author.Needs.{needs}
 use Rattle.strip.proofs.Telling.{place-asked}

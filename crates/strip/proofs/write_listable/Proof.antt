@@ -1,9 +1,9 @@
--- `strip::write_listable` meets its contract: the output's length, and then the strip. Assumes nothing.
+-- `strip::write_listable` meets its contract: the output's length, and then the strip.
 use mathlib.Core.Path.{_≡_, refl, sym, _∙_}
 use native.Mathlib.Omega.{arith}
 use borrow.Author.Needs.{needs}
 use mathlib.Core.Logic.{inr}
-use Rattle.limits.proofs.Unique.{listable-passed}
+use Rattle.limits_spec.proofs.Unique.{listable-passed}
 use Rattle.strip.proofs.write_listable.Statement.{statement}
 use Rattle.strip.proofs.write_listable.Tie as tie
 

@@ -1,4 +1,4 @@
--- `strip::write_strip` meets its contract: what the plan of the numbers answers, and then what writing answers. Assumes nothing.
+-- `strip::write_strip` meets its contract: what the plan of the numbers answers, and then what writing answers.
 use mathlib.Core.Path.{_≡_, refl}
 use borrow.Author.Needs.{needs}
 use mathlib.Core.Logic.{inl}

@@ -1,4 +1,4 @@
--- `walk::next_bracelet` meets its contract. Assumes nothing.
+-- `walk::next_bracelet` meets its contract.
 use mathlib.Core.Path.{refl}
 use borrow.Author.Needs.{needs}
 use Rattle.walk.proofs.next_bracelet.Statement.{statement}

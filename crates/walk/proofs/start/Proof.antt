@@ -1,4 +1,4 @@
--- `walk::start` meets its contract. Assumes nothing.
+-- `walk::start` meets its contract.
 use borrow.Author.Needs.{needs}
 use Rattle.rings.specs.Prenecklace.{prenecklace}
 use Rattle.refusal.proofs.More.{more-start}

@@ -1,4 +1,4 @@
--- `walk::step` meets its contract. Assumes nothing.
+-- `walk::step` meets its contract.
 use mathlib.Core.Path.{refl}
 use borrow.Author.Needs.{needs}
 use Rattle.walk.proofs.step.Statement.{statement}

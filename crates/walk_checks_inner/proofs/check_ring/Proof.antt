@@ -1,5 +1,5 @@
 -- `walk_checks_inner::check_ring` meets its contract: what the numbers' check answers; then the first scan settles the sectors up to n,
--- and the second those past n. Assumes nothing.
+-- and the second those past n.
 use Prim.Native.Nat.{_-_}
 use mathlib.Core.Path.{_≡_, refl}
 use mathlib.Core.Logic.{inl, inr}

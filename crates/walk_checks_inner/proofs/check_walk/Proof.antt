@@ -1,10 +1,10 @@
 -- `walk_checks_inner::check_walk` meets its contract. The refusals of the sectors' check are the record's; its own check, 5, comes last: the class, and then
--- the counts. Assumes nothing.
+-- the counts.
 use mathlib.Core.Path.{_∙_, sym}
 use borrow.Author.Needs.{needs}
 use borrow.Author.Tests.{not-true, not-false}
 use Rattle.refusal.proofs.More.{more-walk}
-use Rattle.walk_record.proofs.Good.{on-record, off-class, off-counts}
+use Rattle.walk_record_laws.proofs.Good.{on-record, off-class, off-counts}
 use Rattle.walk_checks_inner.proofs.check_walk.Statement.{statement}
 use Rattle.walk_checks_inner.proofs.check_walk.Tie as tie
 

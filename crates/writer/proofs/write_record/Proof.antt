@@ -1,4 +1,4 @@
--- `writer::write_record` meets its contract: what the check of the reading answers, a cut buffer, or the record in its place. Assumes nothing.
+-- `writer::write_record` meets its contract: what the check of the reading answers, a cut buffer, or the record in its place.
 use mathlib.Core.Path.{refl}
 use mathlib.Core.Logic.{inl, inr}
 use native.Mathlib.Omega.{arith}

@@ -1,0 +1,112 @@
+-- `bracelet_next_inner::lift` meets its contract. The loop's invariant, `Lifting`: from place i on, raising is of no use.
+use Prim.Native.Nat.{_-_}
+use mathlib.Core.Path.{_∙_, sym, refl}
+use native.Mathlib.Omega.{arith}
+use lib.ListN.{length-set}
+use borrow.Author.Needs.{needs}
+use Rattle.bracelet_next_inner.proofs.Lifting.{Lifting, lifting-start, lifting-long, lifting-full, lifting-stuck, lifting-shade, lifting-below, lifting-settles, lifting-found, lifting-none}
+use Rattle.bracelet_next_inner.proofs.lift.Statement.{statement}
+use Rattle.bracelet_next_inner.proofs.lift.Tie as tie
+
+abbrev Inv-loop : tie.InvT-loop
+Inv-loop s₀ k top i₀ s i = Lifting k s₀ s i
+
+abbrev μ-loop : tie.MeasureT-loop
+μ-loop s₀ k top i₀ s i = i
+
+sub-top : tie.Need-sub-top Inv-loop μ-loop
+sub-top c = search needs
+
+cast-top : tie.Need-cast-top Inv-loop μ-loop
+cast-top c = search needs
+
+loop-holds : tie.Need-loop-holds Inv-loop μ-loop
+loop-holds c = let g = c .before in lifting-start (g .args .k) (g .args .s .now) (g .pre)
+
+sub-i : tie.Need-sub-i Inv-loop μ-loop
+sub-i c = search needs
+
+slice-read-here : tie.Need-slice-read-here Inv-loop μ-loop
+slice-read-here c = search needs
+
+loop-less : tie.Need-loop-less Inv-loop μ-loop
+loop-less c = search needs
+
+loop-again : tie.Need-loop-again Inv-loop μ-loop
+loop-again c = let g = c .before .before .before .before .before in let a = g .args in let l = c .before .before .before .loop in lifting-full (a .k) (a .s .now) (g .pre) (l .s) (l .i) (l .i - 1) (a .k - 1) (l .inv) (omega arith) refl (c .if1 .taken)
+
+slice-write-s : tie.Need-slice-write-s Inv-loop μ-loop
+slice-write-s c = search needs
+
+is-bracelet-requires : tie.Need-is-bracelet-requires Inv-loop μ-loop
+is-bracelet-requires c κs = simp length-set (omega (arith, c .before .before .before .before .loop .inv .long, c .before .before .before .before .before .before .pre .pos))
+
+add-settle : tie.Need-add-settle Inv-loop μ-loop
+add-settle c =
+    let g = c .before .before .before .before .before .before .before .before .before in
+    let a = g .args in
+    let l = c .before .before .before .before .before .before .before .loop in
+    omega (arith, g .pre .shades, lifting-shade (a .k) (a .s .now) (g .pre) (l .s) (l .i) (l .i - 1) (a .k - 1) (l .inv) (omega arith) refl)
+
+settle-requires : tie.Need-settle-requires Inv-loop μ-loop
+settle-requires c κs =
+    let g = c .before .before .before .before .before .before .before .before .before in
+    let a = g .args in
+    let l = c .before .before .before .before .before .before .before .loop in
+    let is = sym (c .before .before .is-bracelet .ensures) ∙ c .before .if2 .taken in
+    let up = c .before .before .before .before .if1 .left in
+    lifting-settles (a .k) (a .s .now) (g .pre) (l .s) (l .i) (l .i - 1) (a .k - 1) (l .inv) (omega arith) refl is up _ (omega (arith, lifting-below (a .k) (a .s .now) (g .pre) (l .s) (l .i) (l .i - 1) (a .k - 1) (l .inv) (omega arith) refl is up))
+
+add-result : tie.Need-add-result Inv-loop μ-loop
+add-result c = search needs
+
+same-length : tie.Need-same-length Inv-loop μ-loop
+same-length c =
+    let g = c .before .before .before .before .before .before .before .before .before .before .before .before in
+    let a = g .args in
+    let l = c .before .before .before .before .before .before .before .before .before .before .loop in
+    lifting-long (a .k) (a .s .now) (g .pre) (l .s) (l .i) (l .i - 1) (a .k - 1) (l .inv) (omega arith) refl _ _ (c .before .before .settle .ensures)
+
+returns : tie.Need-returns Inv-loop μ-loop
+returns c =
+    let g = c .before .before .before .before .before .before .before .before .before .before .before .before in
+    let a = g .args in
+    let l = c .before .before .before .before .before .before .before .before .before .before .loop in
+    lifting-found (a .k) (a .s .now) (g .pre) (l .s) (l .i) (l .i - 1) (a .k - 1) (l .inv) (omega arith) refl (sym (c .before .before .before .before .before .is-bracelet .ensures) ∙ c .before .before .before .before .if2 .taken) (c .before .before .before .before .before .before .before .if1 .left) _ (omega arith) (omega arith) _ (c .before .before .settle .ensures)
+
+loop-less-2 : tie.Need-loop-less-2 Inv-loop μ-loop
+loop-less-2 c = search needs
+
+loop-again-2 : tie.Need-loop-again-2 Inv-loop μ-loop
+loop-again-2 c = let g = c .before .before .before .before .before .before .before .before in let a = g .args in let l = c .before .before .before .before .before .before .loop in lifting-stuck (a .k) (a .s .now) (g .pre) (l .s) (l .i) (l .i - 1) (a .k - 1) (l .inv) (omega arith) refl (sym (c .before .is-bracelet .ensures) ∙ c .if2 .left)
+
+same-length-2 : tie.Need-same-length-2 Inv-loop μ-loop
+same-length-2 c = search needs
+
+returns-2 : tie.Need-returns-2 Inv-loop μ-loop
+returns-2 c = let g = c .before .before .before in let a = g .args in let l = c .before .loop in lifting-none (a .k) (a .s .now) (g .pre) (l .s) (l .i) (l .inv) (c .loop-test .left)
+
+pub lift-spec : {M : Type 1} → statement M
+lift-spec =
+    tie.close
+    (tie.spec
+    Inv-loop
+    μ-loop
+    sub-top
+    cast-top
+    loop-holds
+    sub-i
+    slice-read-here
+    loop-less
+    loop-again
+    slice-write-s
+    is-bracelet-requires
+    add-settle
+    settle-requires
+    add-result
+    same-length
+    returns
+    loop-less-2
+    loop-again-2
+    same-length-2
+    returns-2)

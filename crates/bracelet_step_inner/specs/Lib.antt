@@ -1,1 +1,0 @@
--- The step promises what `bracelet_answers` says; nothing is defined here.

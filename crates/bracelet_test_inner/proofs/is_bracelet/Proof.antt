@@ -1,0 +1,30 @@
+-- `bracelet_test_inner::is_bracelet` meets its contract.
+use mathlib.Core.Path.{sym}
+use native.Mathlib.Omega.{arith}
+use borrow.Author.Needs.{needs}
+use Rattle.bracelet_test_inner.proofs.Facing.{scan-broken, scan-uneven, scan-whole}
+use Rattle.bracelet_test_inner.proofs.is_bracelet.Statement.{statement}
+use Rattle.bracelet_test_inner.proofs.is_bracelet.Tie as tie
+
+scan-requires : tie.Need-scan-requires
+scan-requires c κs = search needs
+
+returns : tie.Need-returns
+returns c = let w = c .before .before .before .before .args .s .now in let o = c .before .before .scan in sym (scan-broken w (o .result) (o .ensures) (c .if1 .taken))
+
+rem-if2 : tie.Need-rem-if2
+rem-if2 c = let r = c .before .before .scan .ensures .run in omega (arith, r .pos, r .fits)
+
+returns-2 : tie.Need-returns-2
+returns-2 c = let w = c .before .before .before .before .before .args .s .now in let o = c .before .before .before .scan in sym (scan-uneven w (o .result) (o .ensures) (c .before .if1 .left) (c .if2 .taken))
+
+not-above-mirror-requires : tie.Need-not-above-mirror-requires
+not-above-mirror-requires c κs = let w = c .before .before .before .before .before .args .s .now in let o = c .before .before .before .scan in (c .before .before .before .before .before .pre, scan-whole w (o .result) (o .ensures) (c .before .if1 .left) (c .if2 .left))
+
+returns-3 : tie.Need-returns-3
+returns-3 c = search needs
+
+pub is-bracelet-spec : {M : Type 1} → statement M
+is-bracelet-spec =
+    tie.close
+    (tie.spec scan-requires returns rem-if2 returns-2 not-above-mirror-requires returns-3)

@@ -1,1 +1,0 @@
--- The functions' own proofs stand beside.

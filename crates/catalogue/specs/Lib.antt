@@ -1,1 +1,0 @@
--- The call promises what `catalogue_record` says; nothing is defined here.

@@ -1,0 +1,44 @@
+-- `check_numbers_inner::greatest` meets its contract. The loop's invariant: no sector passed is above `top`.
+use Prim.Native.Nat.{ℕ, _≤_, _<_, _-_}
+use mathlib.Core.Logic.{⊎-elim}
+use native.Mathlib.Omega.{arith}
+use lib.ListN.{length, getD}
+use borrow.Author.Needs.{needs}
+use borrow.Author.Count.{below-more}
+use Rattle.check_numbers_inner.proofs.greatest.Statement.{statement}
+use Rattle.check_numbers_inner.proofs.greatest.Tie as tie
+
+abbrev Inv-loop : tie.InvT-loop
+Inv-loop s top₀ i₀ top i = (i ≤ length s) × ((j : ℕ) → j < i → getD s j 0 ≤ top)
+
+abbrev μ-loop : tie.MeasureT-loop
+μ-loop s top₀ i₀ top i = length s - i
+
+loop-holds : tie.Need-loop-holds Inv-loop μ-loop
+loop-holds c = search needs
+
+shared-slice-read-here : tie.Need-shared-slice-read-here Inv-loop μ-loop
+shared-slice-read-here c = search needs
+
+add-i : tie.Need-add-i Inv-loop μ-loop
+add-i c = search needs
+
+loop-less : tie.Need-loop-less Inv-loop μ-loop
+loop-less c = search needs
+
+loop-again : tie.Need-loop-again Inv-loop μ-loop
+loop-again c =
+    let l = c .before .before .before .loop in (
+      search needs,
+      below-more _ _
+          (λ j h. ⊎-elim (λ m. omega (arith, m .0 .taken, m .1, l .inv .1 j h)) (λ m. omega (arith, m .1, l .inv .1 j h)) (c .if1 .came))
+          (⊎-elim (λ m. omega (arith, m .1)) (λ m. omega (arith, m .0 .left, m .1)) (c .if1 .came)),
+    )
+
+returns : tie.Need-returns Inv-loop μ-loop
+returns c = λ j h. c .before .loop .inv .1 j (omega arith)
+
+pub greatest-spec : {M : Type 1} → statement M
+greatest-spec =
+    tie.close
+    (tie.spec Inv-loop μ-loop loop-holds shared-slice-read-here add-i loop-less loop-again returns)

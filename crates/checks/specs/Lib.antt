@@ -1,1 +1,0 @@
--- The checks promise what `refusal` says of the calls (Order, Calls); nothing is defined here.

@@ -1,1 +1,0 @@
--- No definitions: the contracts are of `set_answers` and `walk_record`.

@@ -1,1 +1,0 @@
--- What it promises stands in `walk_record`; nothing is defined here.

@@ -1,2 +1,0 @@
--- That classifying has one answer (Unique).
-pub mod Unique

@@ -1,5 +1,0 @@
-// The converting program run with a catalogue of exactly 65,536 bytes, the most that it takes: 963 back records of 64 sectors and a front record. All are converted.
-
-fn main() {
-    converting_inner::run();
-}

@@ -1,5 +1,0 @@
-// The converting program run with a catalogue that has one byte more than it takes, 65,537, and is good throughout: it writes nothing to standard output.
-
-fn main() {
-    converting_inner::run();
-}

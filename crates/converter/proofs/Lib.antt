@@ -1,1 +1,0 @@
--- No laws of its own: the proof cites the contracts of its parts.

@@ -1,0 +1,56 @@
+-- `converter_check_inner::check_old` meets its contract: a cut head, an unknown mark, or what the check of the rest answers.
+use mathlib.Core.Path.{refl}
+use mathlib.Core.Logic.{inl, inr}
+use native.Mathlib.Omega.{arith}
+use Rattle.converter_spec.specs.Sides.Side.{front, back}
+use Rattle.converter_check_inner.proofs.Marks.{unknown, rest-checked}
+use borrow.Author.Needs.{needs}
+use Rattle.converter_check_inner.proofs.check_old.Statement.{statement}
+use Rattle.converter_check_inner.proofs.check_old.Tie as tie
+
+returns : tie.Need-returns
+returns c = inl (inl (refl, λ h. omega (arith, c .if1 .taken)))
+
+shared-slice-read-if2 : tie.Need-shared-slice-read-if2
+shared-slice-read-if2 c = search needs
+
+returns-2 : tie.Need-returns-2
+returns-2 c = inl (inr (search needs, (refl, λ k. c .if2 .taken (k .1 .0))))
+
+shared-slice-read-if3 : tie.Need-shared-slice-read-if3
+shared-slice-read-if3 c = search needs
+
+check-rest-requires : tie.Need-check-rest-requires
+check-rest-requires c κs = search needs
+
+returns-3 : tie.Need-returns-3
+returns-3 c = let a = c .before .before .before .before .before .before .before .args in rest-checked (a .rest .now) (a .start) front (c .check-rest .result) (search needs) (c .before .before .before .if2 .left, c .before .if3 .taken) (c .check-rest .ensures)
+
+shared-slice-read-if4 : tie.Need-shared-slice-read-if4
+shared-slice-read-if4 c = search needs
+
+check-rest-requires-2 : tie.Need-check-rest-requires-2
+check-rest-requires-2 c κs = search needs
+
+returns-4 : tie.Need-returns-4
+returns-4 c = let a = c .before .before .before .before .before .before .before .before .before .args in rest-checked (a .rest .now) (a .start) back (c .check-rest2 .result) (search needs) (c .before .before .before .before .before .if2 .left, c .before .if4 .taken) (c .check-rest2 .ensures)
+
+returns-5 : tie.Need-returns-5
+returns-5 c =
+    let t = c .before .before .before .before .before .before .before .before .args .rest .now in
+    inl (inr (search needs, (refl, λ k. unknown t (c .before .before .if3 .left) (c .if4 .left) (k .0) (k .1))))
+
+pub check-old-spec : {M : Type 1} → statement M
+check-old-spec =
+    tie.close
+    (tie.spec
+    returns
+    shared-slice-read-if2
+    returns-2
+    shared-slice-read-if3
+    check-rest-requires
+    returns-3
+    shared-slice-read-if4
+    check-rest-requires-2
+    returns-4
+    returns-5)

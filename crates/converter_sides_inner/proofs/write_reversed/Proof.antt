@@ -1,0 +1,20 @@
+-- `converter_sides_inner::write_reversed` meets its contract: the sectors are copied, and then reversed in place.
+use Rattle.word_copy_laws.proofs.Copy.{reversed}
+use borrow.Author.Needs.{needs}
+use Rattle.converter_sides_inner.proofs.write_reversed.Statement.{statement}
+use Rattle.converter_sides_inner.proofs.write_reversed.Tie as tie
+
+copy-requires : tie.Need-copy-requires
+copy-requires c κs = search needs
+
+reverse-requires : tie.Need-reverse-requires
+reverse-requires c κs = search needs
+
+same-length : tie.Need-same-length
+same-length c = search needs
+
+returns : tie.Need-returns
+returns c = let p = c .before .before .before .before .before .before in let a = c .before .before .before .before .before .before .before .before .before .before .args in reversed (a .s .now) (a .out .now) _ _ _ (p .copy .ensures .1) (c .before .before .before .before .before .before .before .before .before .before .pre) (p .copy .ensures .0) (c .before .before .reverse .ensures)
+
+pub write-reversed-spec : {M : Type 1} → statement M
+write-reversed-spec = tie.close (tie.spec copy-requires reverse-requires same-length returns)

@@ -1,5 +1,0 @@
-// The report program run with no input: it prints nothing.
-
-fn main() {
-    reporting_inner::run();
-}

@@ -1,1 +1,0 @@
--- The counts are those of `rings`, Counts; nothing is defined here.

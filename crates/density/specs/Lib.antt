@@ -1,1 +1,0 @@
--- The calls promise what `density_answers` says; nothing is defined here.

@@ -1,0 +1,47 @@
+// How far apart two lent readings are. No public call: the calls of `home` check what these ask for.
+
+ghost use mathlib.Core.Path.{_≡_};
+ghost use Prim.Native.Nat.{_≤_, min};
+ghost use lib.ListN.{length};
+ghost use Rattle.words.specs.Turn.{turn};
+ghost use Rattle.rings.specs.Alike.{differing, apart};
+
+// At how many places a turned by i and b differ, or limit where these are not fewer: it gives up once it has found so many.
+pub fn differing_below(a: &[u8], i: usize, b: &[u8], limit: usize) -> usize
+    requires { ⌜ (length (now a) ≡ length (now b)) × (i ≤ length (now a)) ⌝ }
+    ensures { λ r. ⌜ r ≡ min (differing (turn i (now (a .entry))) (now (b .entry))) limit ⌝ }
+{
+    let mut d = 0;
+    let mut m = 0;
+    while m < a.len() {
+        if limit <= d {
+            return limit;
+        }
+        let x = home_turns_inner::sector(a, i, m);
+        let y = b[m];
+        if x != y {
+            d += 1;
+        }
+        m += 1;
+    }
+    d
+}
+
+// The smallest number of places at which a turn of a differs from b. A turn is given up once it is no better than the best so far, and all of them where
+// that is 0.
+pub fn fewest_differing(a: &[u8], b: &[u8]) -> usize
+    requires { ⌜ length (now a) ≡ length (now b) ⌝ }
+    ensures { λ r. ⌜ r ≡ apart (now (a .entry)) (now (b .entry)) ⌝ }
+{
+    let n = a.len();
+    let mut best = n;
+    let mut i = 0;
+    while i < n {
+        best = differing_below(a, i, b, best);
+        if best == 0 {
+            return 0;
+        }
+        i += 1;
+    }
+    best
+}

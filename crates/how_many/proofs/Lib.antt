@@ -1,2 +1,0 @@
--- That no numbers have two answers (Unique).
-pub mod Unique

@@ -1,2 +1,0 @@
--- What is promised about how many rings there are (02, request f).
-pub mod Says

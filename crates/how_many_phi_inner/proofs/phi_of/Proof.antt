@@ -1,0 +1,45 @@
+-- `how_many_phi_inner::phi_of` meets its contract. The loop's invariant: x is the sum up to i.
+use Prim.Native.Nat.{ℕ, _≤_, _-_}
+use mathlib.Core.Path.{_≡_}
+use native.Mathlib.Omega.{arith}
+use lib.Dec.{eqb}
+use Rattle.words.specs.Readings.{bit}
+use Rattle.how_many_number_spec.specs.Divisors.{sumTo}
+use Rattle.how_many_number_spec.specs.Phi.{gcd, phi}
+use Rattle.how_many_number_laws.proofs.Loops.{sum-start, sum-on, sum-end}
+use borrow.Author.Needs.{needs}
+use Rattle.how_many_phi_inner.proofs.phi_of.Statement.{statement}
+use Rattle.how_many_phi_inner.proofs.phi_of.Tie as tie
+
+abbrev Inv-loop : tie.InvT-loop
+Inv-loop m x₀ i₀ x i = (i ≤ m) × (x ≡ sumTo i (λ j. bit (eqb (gcd j m) 1))) × (x ≤ i)
+
+abbrev μ-loop : tie.MeasureT-loop
+μ-loop m x₀ i₀ x i = m - i
+
+loop-holds : tie.Need-loop-holds Inv-loop μ-loop
+loop-holds c = let a = c .args in (omega arith, sum-start (λ j. bit (eqb (gcd j (a .m)) 1)), omega arith)
+
+add-i : tie.Need-add-i Inv-loop μ-loop
+add-i c = search needs
+
+coprime-requires : tie.Need-coprime-requires Inv-loop μ-loop
+coprime-requires c κs = search needs
+
+add-x : tie.Need-add-x Inv-loop μ-loop
+add-x c = omega (arith, c .coprime .ensures .1)
+
+loop-less : tie.Need-loop-less Inv-loop μ-loop
+loop-less c = search needs
+
+loop-again : tie.Need-loop-again Inv-loop μ-loop
+loop-again c = let a = c .before .before .before .args in (omega arith, sum-on (λ j. bit (eqb (gcd j (a .m)) 1)) (c .before .before .loop .x) (c .before .before .loop .i) (c .coprime .result) (c .before .before .loop .inv .1) (c .coprime .ensures .0), omega (arith, c .coprime .ensures .1))
+
+returns : tie.Need-returns Inv-loop μ-loop
+unfolding phi
+returns c = let a = c .before .before .args in let l = c .before .loop in (sum-end (λ j. bit (eqb (gcd j (a .m)) 1)) (l .x) (l .i) (a .m) (l .inv .0) (c .loop-test .left) (l .inv .1), omega arith)
+
+pub phi-of-spec : {M : Type 1} → statement M
+phi-of-spec =
+    tie.close
+    (tie.spec Inv-loop μ-loop loop-holds add-i coprime-requires add-x loop-less loop-again returns)

@@ -1,0 +1,49 @@
+-- `how_many_sums_inner::weigh` meets its contract.
+use native.Mathlib.Omega.{arith}
+use Rattle.how_many_number_spec.specs.Mu.{muPlus, muMinus}
+use borrow.Author.Needs.{needs}
+use Rattle.how_many_sums_inner.proofs.weigh.Statement.{statement}
+use Rattle.how_many_sums_inner.proofs.weigh.Tie as tie
+
+enum-told : tie.Need-enum-told
+enum-told c = search needs
+
+phi-of-requires : tie.Need-phi-of-requires
+phi-of-requires c κs = search needs
+
+enum-told-2 : tie.Need-enum-told-2
+enum-told-2 c = search needs
+
+mu-of-requires : tie.Need-mu-of-requires
+mu-of-requires c κs = search needs
+
+enum-told-3 : tie.Need-enum-told-3
+enum-told-3 c = search needs
+
+mu-of-requires-2 : tie.Need-mu-of-requires-2
+mu-of-requires-2 c κs = search needs
+
+returns : tie.Need-returns
+returns c = rw (c .before .enum-told .given .1) (c .phi-of .ensures .0, omega (arith, c .phi-of .ensures .1, c .before .before .before .pre))
+
+returns-2 : tie.Need-returns-2
+unfolding muPlus
+returns-2 c = rw (c .before .enum-told2 .given .1) (c .mu-of .ensures .0, omega (arith, c .mu-of .ensures .1))
+
+returns-3 : tie.Need-returns-3
+unfolding muMinus
+returns-3 c = rw (c .before .enum-told3 .given .1) (c .mu-of2 .ensures .0, omega (arith, c .mu-of2 .ensures .1))
+
+pub weigh-spec : {M : Type 1} → statement M
+weigh-spec =
+    tie.close
+    (tie.spec
+    enum-told
+    phi-of-requires
+    enum-told-2
+    mu-of-requires
+    enum-told-3
+    mu-of-requires-2
+    returns
+    returns-2
+    returns-3)

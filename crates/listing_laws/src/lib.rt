@@ -1,0 +1,1 @@
+// No code: theorems about crate `listing_spec`'s definitions.

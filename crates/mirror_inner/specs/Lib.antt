@@ -1,1 +1,0 @@
--- The functions promise what `rings` says (`bracelet`); nothing is defined here.

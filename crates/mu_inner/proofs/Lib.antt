@@ -1,1 +1,0 @@
--- No laws of its own: those of the loops stand in `number_laws`, proofs/Loops.

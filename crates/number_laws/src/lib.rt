@@ -1,1 +1,0 @@
-// No code: this crate holds the theorems (proofs/) about the definitions of `numbers`.

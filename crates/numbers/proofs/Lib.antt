@@ -1,2 +1,0 @@
--- Values of the definitions, computed (Cases). Their theorems: `number_laws`.
-pub mod Cases

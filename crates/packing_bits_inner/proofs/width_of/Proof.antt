@@ -1,0 +1,26 @@
+-- `packing_bits_inner::width_of` meets its contract: the leading zeros of k - 1 give its width.
+use mathlib.Core.Path.{sym}
+use native.Mathlib.Omega.{arith}
+use lib.Count.{leading-le}
+use borrow.Author.Needs.{needs}
+use Rattle.packing_laws.proofs.Width.{width-leading}
+use Rattle.packing_bits_inner.proofs.width_of.Statement.{statement}
+use Rattle.packing_bits_inner.proofs.width_of.Tie as tie
+
+sub-top : tie.Need-sub-top
+sub-top c = search needs
+
+cast-top : tie.Need-cast-top
+cast-top c = search needs
+
+sub-result : tie.Need-sub-result
+sub-result c = leading-le 8 _
+
+cast-result : tie.Need-cast-result
+cast-result c = search needs
+
+returns : tie.Need-returns
+returns c = sym (width-leading (c .args .k) (c .pre .0) (omega (arith, c .pre .1)))
+
+pub width-of-spec : {M : Type 1} → statement M
+width-of-spec = tie.close (tie.spec sub-top cast-top sub-result cast-result returns)

@@ -1,1 +1,0 @@
-// No code: theorems about crate `pages`'s definitions.

@@ -1,2 +1,0 @@
--- The plan of a line (01, 'The listing program').
-pub mod Plan

@@ -1,1 +1,0 @@
--- A move promises what `rings` says of the next prenecklace; nothing is defined here.

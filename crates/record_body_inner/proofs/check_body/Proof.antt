@@ -1,0 +1,60 @@
+-- `record_body_inner::check_body` meets its contract: what looking at the sectors tells, at their places.
+use Prim.Native.Nat.{ℕ, _+_}
+use mathlib.Core.Path.{ap, refl}
+use mathlib.Core.Logic.{inl, inr}
+use native.Mathlib.Omega.{arith}
+use Rattle.refusal.specs.declared.Refusal.the-variants.{NotHome}
+use Rattle.words.proofs.Split.{clash}
+use Rattle.record_body_inner.proofs.Bodies.{look-in}
+use borrow.Author.Needs.{needs}
+use Rattle.record_body_inner.proofs.check_body.Statement.{statement}
+use Rattle.record_body_inner.proofs.check_body.Tie as tie
+
+look-requires : tie.Need-look-requires
+look-requires c κs = search needs
+
+enum-told : tie.Need-enum-told
+enum-told c = search needs
+
+enum-known-i : tie.Need-enum-known-i
+enum-known-i c = search needs
+
+add-t8 : tie.Need-add-t8
+add-t8 c = search needs
+
+add-t9 : tie.Need-add-t9
+add-t9 c = let g = rw (c .before .i .given .1) at (c .before .before .before .look .ensures) in omega (arith, g .within)
+
+enum-known-i-2 : tie.Need-enum-known-i-2
+enum-known-i-2 c = search needs
+
+add-t11 : tie.Need-add-t11
+add-t11 c = search needs
+
+add-t12 : tie.Need-add-t12
+add-t12 c = let e = c .before .before .before .before .before in let g = rw (c .before .i2 .given .1) at (c .before .before .before .look .ensures) in omega (arith, look-in (e .args .body .now) (c .before .i2 .given .0 .0) (e .pre .1) (g .0))
+
+returns : tie.Need-returns
+returns c = let g = rw (c .enum-told .given .1) at (c .before .before .look .ensures) in ((g .0, refl), g .1)
+
+returns-2 : tie.Need-returns-2
+returns-2 c = inl (inl (c .before .i .given .0 .0, refl, rw (c .before .i .given .1) at (c .before .before .before .look .ensures)))
+
+returns-3 : tie.Need-returns-3
+returns-3 c = let a = c .before .before .before .before .before .args in let g = rw (c .before .i2 .given .1) at (c .before .before .before .look .ensures) in inr ((g .1, refl), (ap (λ (x : ℕ). NotHome (a .start + 4 + x)) (g .0), λ e. clash _ e (g .2)))
+
+pub check-body-spec : {M : Type 1} → statement M
+check-body-spec =
+    tie.close
+    (tie.spec
+    look-requires
+    enum-told
+    enum-known-i
+    add-t8
+    add-t9
+    enum-known-i-2
+    add-t11
+    add-t12
+    returns
+    returns-2
+    returns-3)

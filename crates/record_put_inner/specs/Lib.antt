@@ -1,0 +1,2 @@
+-- What writing promises stands in `record_spec`; here is what its parts promise each other (Head).
+pub mod Head

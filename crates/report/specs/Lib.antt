@@ -1,1 +1,0 @@
--- What the calls promise stands in `reports`, specs/Blocks; nothing is defined here.

@@ -1,0 +1,34 @@
+-- Every row of the table of specs/Cases holds, by computing the definitions.
+use mathlib.Core.Path.{refl}
+use Rattle.words.specs.Table.{Hold}
+use Rattle.rings.specs.Steps.{done, step}
+use Rattle.rings.specs.Open.{open-all}
+use Rattle.rings.specs.Cases.{digits, ring}
+use Rattle.ring_total_laws.specs.Turns.{isTurn}
+use Rattle.ring_total_laws.specs.Cases.{Holds, table}
+
+-- the one claim
+pub cases : Hold Holds table
+unfolding digits ring isTurn Holds Hold table open-all
+cases = (
+  refl,
+  (
+    refl,
+    (
+      refl,
+      (
+        refl,
+        (
+          ((_, step refl (done refl)), refl, refl),
+          (
+            ((_, step refl (step refl (step refl (done refl)))), refl, refl),
+            (
+              ((_, step refl (step refl (step refl (step refl (step refl (done refl)))))), refl, refl),
+              (((_, step refl (step refl (step refl (step refl (step refl (done refl)))))), refl, refl), tt),
+            ),
+          ),
+        ),
+      ),
+    ),
+  ),
+)

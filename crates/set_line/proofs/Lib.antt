@@ -1,2 +1,0 @@
--- Laws of a chart job's line (Four).
-pub mod Four

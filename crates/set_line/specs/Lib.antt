@@ -1,2 +1,0 @@
--- The line of a chart job (02, 'g').
-pub mod Line

@@ -1,0 +1,66 @@
+-- `set_places_inner::offer` meets its contract.
+use Prim.Native.Nat.{_+_}
+use mathlib.Core.Path.{_∙_, sym, refl}
+use native.Mathlib.Omega.{arith}
+use lib.ListN.{length}
+use borrow.Author.Tests.{not-true, not-false}
+use Rattle.set_places_inner.proofs.Clear.{stock-length}
+use Rattle.set_places_inner.proofs.Offering.{offer-no, offer-yes}
+use Rattle.set_places_inner.proofs.Offering.{offer-no, offer-yes, copied-over}
+use Prim.Native.Nat.{_*_}
+use borrow.Author.Needs.{needs}
+use Rattle.set_places_inner.proofs.offer.Statement.{statement}
+use Rattle.set_places_inner.proofs.offer.Tie as tie
+
+is-clear-requires : tie.Need-is-clear-requires
+is-clear-requires c κs = let q = c .before .before .before .pre in (q .0, (q .1 .0, (q .1 .1 .0, omega (arith, q .1 .1 .1))))
+
+same-length : tie.Need-same-length
+same-length c = search needs
+
+returns : tie.Need-returns
+returns c = let a = c .before .before .before .before .before .args in let q = c .before .before .before .before .before .pre in offer-no (a .k) (a .d) (a .places .now) (a .ring .now) (a .taken) (q .0 .short) (q .1 .1 .1) (sym (c .before .is-clear .ensures) ∙ not-true _ (c .if1 .taken))
+
+mul-at : tie.Need-mul-at
+mul-at c = search needs
+
+add-end : tie.Need-add-end
+add-end c = search needs
+
+sub-copy : tie.Need-sub-copy
+sub-copy c = search needs
+
+part-copy-start : tie.Need-part-copy-start
+part-copy-start c = search needs
+
+part-copy-end : tie.Need-part-copy-end
+part-copy-end c = let a = c .before .before .before .before .before .args in let q = c .before .before .before .before .before .pre in let z = stock-length (length (a .ring .now)) (a .k) (a .places .now) (a .taken) (q .1 .1 .0) in omega (arith, z, q .0 .short, q .1 .1 .1)
+
+copy-requires : tie.Need-copy-requires
+copy-requires c κs = search needs
+
+add-result : tie.Need-add-result
+add-result c = search needs
+
+same-length-2 : tie.Need-same-length-2
+same-length-2 c = search needs
+
+returns-2 : tie.Need-returns-2
+returns-2 c = let a = c .before .before .before .before .before .before .before .before .before .args in let q = c .before .before .before .before .before .before .before .before .before .pre in let z = stock-length (length (a .ring .now)) (a .k) (a .places .now) (a .taken) (q .1 .1 .0) in offer-yes (a .k) (a .d) (a .places .now) (a .ring .now) (a .taken) (q .0 .short) (q .1 .1 .1) _ (q .1 .0) (sym (c .before .before .before .before .before .is-clear .ensures) ∙ not-false _ (c .before .before .before .before .if1 .left)) (copied-over (a .places .now) (a .ring .now) _ (24 * a .taken) (24 * a .taken + length (a .ring .now)) refl (omega (arith, z, q .0 .short, q .1 .1 .1)) (c .before .before .copy .ensures .1))
+
+pub offer-spec : {M : Type 1} → statement M
+offer-spec =
+    tie.close
+    (tie.spec
+    is-clear-requires
+    same-length
+    returns
+    mul-at
+    add-end
+    sub-copy
+    part-copy-start
+    part-copy-end
+    copy-requires
+    add-result
+    same-length-2
+    returns-2)

@@ -1,1 +1,0 @@
--- No laws: `pick` cites those of `set_answers` and `choose_inner`.

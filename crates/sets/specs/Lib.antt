@@ -1,1 +1,0 @@
--- No definitions: the contract is of `set_answers`.

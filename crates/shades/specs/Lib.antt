@@ -1,1 +1,0 @@
--- The calls promise what `shades_answers` says; nothing is defined here.

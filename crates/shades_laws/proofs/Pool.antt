@@ -1,0 +1,233 @@
+-- The pool of words that decides whether a beginning al can be completed by given letters to a necklace. It starts as the letters, each a word, in
+-- increasing order. While its least word s stands before al, the last word is taken out and joined to the last copy of s. Where only copies of s are
+-- left, there is no completion.
+--     Sorted w            the letters of w do not fall
+--     Arranged al v xs    a rearrangement of the pool that stands clear of al ++ v
+--     Pool al w xs        what holds of the pool at each step: its order, and that each completion of al by the letters of w leaves an arrangement
+--     glued q xs          the pool with its last word joined to word q - 1
+-- The laws that a loop needs: `pool-start`, `pool-glue`, `pool-stuck`. The whole run as one statement: `no-completion`.
+use Prim.Native.Nat.{ℕ, zero, suc, _+_, _-_, _<_, _≤_}
+use mathlib.Core.Path.{_≡_, refl, sym, ap, _∙_, subst}
+use mathlib.Core.Bool.{true, false}
+use mathlib.Core.List.{List, [], _∷_, _++_, append-assoc}
+use native.Mathlib.Omega.{arith}
+use lib.ListN.{length, getD, set, take, replicate, length-append, length-replicate, getD-replicate, List·getD-append}
+use lib.Seq.{getD-at, take-append-seam, getD-append-seam, set-append-seam}
+use Rattle.words.specs.Order.{before}
+use Rattle.words.proofs.Split.{lt, eq, gt, tri}
+use Rattle.words.proofs.Sequence.{sec}
+use Rattle.rings.specs.Necklace.{necklace}
+use Rattle.rings.specs.Counts.{occurs}
+use Rattle.ring_laws.proofs.Run.{Lyn}
+use Rattle.shades_laws.proofs.Under.{_≪_, _≼_, here, is, under, upto-trans, Short, before-short}
+use Rattle.words.proofs.Lex.{same-refl}
+use Rattle.words.proofs.Readings.{All, nothing, also, all-weaken, all-append}
+use Rattle.shades_laws.proofs.Copies.{each-replicate, each-rearranged, copies, copies-none, copies-cons, copies-append, copies-first, Rearranged, singles, singles-rearranged}
+use Rattle.shades_laws.proofs.Clear.{read, Clear, over, onto, short-last, letters-clear}
+use Rattle.shades_laws.proofs.Exchange.{over-not, Exchanged, exchange}
+use Rattle.shades_laws.proofs.Shape.{Rising, flat, step, Shape, settle, Ladder, ladder-top, ladder-stands, shape-first, shape-later, Topped, topped}
+use Rattle.shades_laws.proofs.Made.{Made, over-short, made-start, made-join, Completed, made-whole}
+
+-- the letters of w do not fall
+abbrev pub Sorted : List ℕ → Type 0
+Sorted w = (i : ℕ) → suc i < length w → sec w i ≤ sec w (suc i)
+
+-- a rearrangement of the pool that stands clear of al ++ v
+pub record Arranged (al v : List ℕ) (xs : List (List ℕ)) : Type 0 where
+  pub list : List (List ℕ)
+  pub moved : Rearranged list xs
+  pub clear : Clear al (al ++ v) list
+
+-- what holds of the pool at each step
+pub record Pool (al w : List ℕ) (xs : List (List ℕ)) : Type 0 where
+  pub lyn : Lyn (sec al) (length al)
+  pub shape : Shape (getD xs 0 []) xs
+  pub made : Made w xs
+  pub arranged : (v : List ℕ) → ((b : ℕ) → occurs b v ≡ occurs b w) → necklace (al ++ v) ≡ true → Arranged al v xs
+
+-- ---- the start
+
+-- a letter is at most a greater one
+letter-upto : (a b : ℕ) → a ≤ b → (a ∷ []) ≼ (b ∷ [])
+letter-upto a b h = elim (tri a b) [ lt e ↦ under (here e) | eq e ↦ is (ap (λ x. x ∷ []) e) | gt e ↦ absurd (omega arith) ]
+
+-- sorted letters rise
+letters-rise : (a : ℕ) (w : List ℕ) → Sorted (a ∷ w) → All (λ y. (a ∷ []) ≼ y) (singles w) × Rising (singles w)
+unfolding singles
+letters-rise a [] h = (nothing, flat)
+letters-rise a (b ∷ w) h = go (letter-upto a b (h 0 (omega arith))) (letters-rise b w (λ i l. h (suc i) (omega arith)))
+  where
+    go : (a ∷ []) ≼ (b ∷ []) → All (λ y. (b ∷ []) ≼ y) (singles w) × Rising (singles w) → All (λ y. (a ∷ []) ≼ y) (singles (b ∷ w)) × Rising (singles (b ∷ w))
+    go p (e, r) = (also p (all-weaken (λ y q. upto-trans p q) e), step e r)
+
+-- sorted letters are a pool
+pub pool-start : (al w : List ℕ) → Lyn (sec al) (length al) → 0 < length w → Sorted w → Pool al w (singles w)
+unfolding singles
+pool-start al [] lyn z h = absurd (omega arith)
+pool-start al (a ∷ w) lyn z h = record {
+  lyn = lyn;
+  shape = go (letters-rise a w h);
+  made = made-start (a ∷ w);
+  arranged = λ v e n. record { list = singles v; moved = singles-rearranged v (a ∷ w) e; clear = letters-clear al v n };
+}
+  where
+    go : All (λ y. (a ∷ []) ≼ y) (singles w) × Rising (singles w) → Shape (a ∷ []) ((a ∷ []) ∷ singles w)
+    go (e, r) = settle (a ∷ []) (omega arith) (singles w) e r
+
+-- ---- a step
+
+-- the pool with its last word joined to word q - 1
+unfoldable pub glued : ℕ → List (List ℕ) → List (List ℕ)
+glued q xs = set (take (length xs - 1) xs) (q - 1) (getD xs (q - 1) [] ++ getD xs (length xs - 1) [])
+
+-- the last of the copies, put to what follows
+replicate-shift : (n : ℕ) (s : List ℕ) (r : List (List ℕ)) → replicate (suc n) s ++ r ≡ replicate n s ++ s ∷ r
+replicate-shift zero s r = refl
+replicate-shift (suc n) s r = ap (λ x. s ∷ x) (replicate-shift n s r)
+
+-- joining s with g leaves each completion an arrangement
+join-arranged : (al v s g : List ℕ) (n : ℕ) (xs : List (List ℕ)) → Lyn (sec al) (length al) → Short s al → Ladder s g xs →
+    Arranged al v (replicate (suc n) s ++ (xs ++ g ∷ [])) → Arranged al v (replicate n s ++ (s ++ g) ∷ xs)
+join-arranged al v s g n xs lyn short l r = record { list = e .new; clear = e .clear; moved = λ y. omega (arith, e .counts y, r .moved y, both-counts y) }
+  where
+    old : List (List ℕ)
+    old = replicate (suc n) s ++ (xs ++ g ∷ [])
+
+    some : (y : List ℕ) → 0 < copies y old → 0 < copies y (r .list)
+    some y h = omega (arith, r .moved y)
+
+    g-in : 0 < copies g old
+    g-in = simp (copies-append, copies-cons, same-refl g) (omega arith)
+
+    e : Exchanged al (al ++ v) s g (r .list)
+    e = exchange al (al ++ v) s g (short-last al s lyn (l .long) short v) (ladder-top l) (r .list) (each-rearranged (r .list) old (r .moved) (ladder-stands l (suc n))) (some s (copies-first s (replicate n s ++ (xs ++ g ∷ [])))) (some g g-in) (r .clear)
+
+    both-counts : (y : List ℕ) → copies y (replicate n s ++ (s ++ g) ∷ xs) + copies y (s ∷ g ∷ []) ≡ copies y old + copies y ((s ++ g) ∷ [])
+    both-counts y = simp (copies-append, copies-cons, copies-none) (omega arith)
+
+-- joining s with g leaves a pool
+join-pool : (al w s g : List ℕ) (n : ℕ) (xs : List (List ℕ)) → Short s al → Ladder s g xs → Pool al w (replicate (suc n) s ++ (xs ++ g ∷ [])) → Pool al w (replicate n s ++ (s ++ g) ∷ xs)
+join-pool al w s g n xs short l p = record { lyn = p .lyn; shape = go n; made = made-join w s g (replicate n s) xs (over-short (ladder-top l)) (subst (Made w) parted (p .made)); arranged = λ v c h. join-arranged al v s g n xs (p .lyn) short l (p .arranged v c h) }
+  where
+    go : (n : ℕ) → Shape (getD (replicate n s ++ (s ++ g) ∷ xs) 0 []) (replicate n s ++ (s ++ g) ∷ xs)
+    go zero = shape-first l
+    go (suc n) = shape-later l n
+
+    parted : replicate (suc n) s ++ (xs ++ g ∷ []) ≡ (replicate n s ++ s ∷ xs) ++ g ∷ []
+    parted = replicate-shift n s (xs ++ g ∷ []) ∙ sym (append-assoc (replicate n s) (s ∷ xs) (g ∷ []))
+
+-- ---- words by their places
+
+-- how many copies of the least word lead, told by places
+leading : (s : List ℕ) (n : ℕ) (r : List (List ℕ)) (q : ℕ) → All (λ y. y ≡ s → ⊥) r → q ≤ suc n + length r →
+    ((i : ℕ) → i < q → getD (replicate (suc n) s ++ r) i [] ≡ s) → (q < suc n + length r → getD (replicate (suc n) s ++ r) q [] ≡ s → ⊥) → q ≡ suc n
+leading s n r q e h lead stops = elim (tri q (suc n)) [ lt k ↦ absurd (stops (omega arith) (List·getD-append (replicate (suc n) s) r [] q (rw (length-replicate (suc n) s) k) ∙ getD-replicate (suc n) q s [] k)) | eq k ↦ k | gt k ↦ past k r e h lead ]
+  where
+    past : suc n < q → (r : List (List ℕ)) → All (λ y. y ≡ s → ⊥) r → q ≤ suc n + length r → ((i : ℕ) → i < q → getD (replicate (suc n) s ++ r) i [] ≡ s) → q ≡ suc n
+    past k [] e h lead = absurd (omega arith)
+    past k (x ∷ r) (also f e) h lead = absurd (f (sym (getD-at (replicate (suc n) s) x r [] (suc n) (length-replicate (suc n) s)) ∙ lead (suc n) k))
+
+-- the same in a pool
+leading-shape : (s : List ℕ) (xs : List (List ℕ)) (p : Shape s xs) (q : ℕ) → q ≤ length xs → ((i : ℕ) → i < q → getD xs i [] ≡ s) → (q < length xs → getD xs q [] ≡ s → ⊥) →
+    (q ≡ suc (p .extra)) × (length xs ≡ suc (p .extra) + length (p .rest))
+leading-shape s xs p q h lead stops = (leading s (p .extra) (p .rest) q (all-weaken (λ y. over-not) (p .above)) (omega (arith, long)) (λ i l. ap (λ x. getD x i []) (sym (p .whole)) ∙ lead i l) (λ l e. stops (omega (arith, long)) (ap (λ x. getD x q []) (p .whole) ∙ e)), long)
+  where
+    long : length xs ≡ suc (p .extra) + length (p .rest)
+    long = ap length (p .whole) ∙ length-append (replicate (suc (p .extra)) s) (p .rest) ∙ ap (λ x. x + length (p .rest)) (length-replicate (suc (p .extra)) s)
+
+-- what joining does, seen at the words themselves
+pub glued-at : (a xs : List (List ℕ)) (s g : List ℕ) → glued (suc (length a)) ((a ++ s ∷ xs) ++ g ∷ []) ≡ a ++ (s ++ g) ∷ xs
+unfolding glued
+glued-at a xs s g = rw (e₁, e₂, take-append-seam, List·getD-append (a ++ s ∷ xs) (g ∷ []) [] (length a) inside, getD-append-seam a s xs [], getD-append-seam (a ++ s ∷ xs) g [] [], set-append-seam)
+  where
+    e₁ : length ((a ++ s ∷ xs) ++ g ∷ []) - 1 ≡ length (a ++ s ∷ xs)
+    e₁ = rw (length-append (a ++ s ∷ xs) (g ∷ [])) (omega arith)
+
+    e₂ : suc (length a) - 1 ≡ length a
+    e₂ = omega arith
+
+    inside : length a < length (a ++ s ∷ xs)
+    inside = rw (length-append a (s ∷ xs)) (omega arith)
+
+-- the last word taken out and joined to the last copy of the least
+pub pool-glue : (al w : List ℕ) (xs : List (List ℕ)) → Pool al w xs → (q : ℕ) → q < length xs → ((i : ℕ) → i < q → getD xs i [] ≡ getD xs 0 []) →
+    (getD xs q [] ≡ getD xs 0 [] → ⊥) → before (getD xs 0 []) al ≡ true → Pool al w (glued q xs)
+pool-glue al w xs p q h lead stops b = go (leading-shape s xs (p .shape) q (omega arith) lead (λ l. stops))
+  where
+    s : List ℕ
+    s = getD xs 0 []
+
+    n : ℕ
+    n = p .shape .extra
+
+    go : (q ≡ suc n) × (length xs ≡ suc n + length (p .shape .rest)) → Pool al w (glued q xs)
+    go (e, l) = at (topped (p .shape) (omega arith))
+      where
+        at : Topped s n xs → Pool al w (glued q xs)
+        at t = subst (Pool al w) (sym becomes) (join-pool al w s (t .last) n (t .between) (before-short s al b) (t .ladder) (subst (Pool al w) (t .whole) p))
+          where
+            becomes : glued q xs ≡ replicate n s ++ (s ++ t .last) ∷ t .between
+            becomes =
+                ap (λ x. glued x xs) (e ∙ ap suc (sym (length-replicate n s)))
+                ∙ ap (glued (suc (length (replicate n s)))) (t .whole ∙ replicate-shift n s (t .between ++ t .last ∷ []) ∙ sym (append-assoc (replicate n s) (s ∷ t .between) (t .last ∷ [])))
+                ∙ glued-at (replicate n s) (t .between) s (t .last)
+
+-- copies of a word that is too small do not stand clear
+copies-not-clear : {al t s : List ℕ} (x : List ℕ) (xs : List (List ℕ)) → All (λ y. y ≡ s) (x ∷ xs) → Clear al t (x ∷ xs) → (s ++ al) ≪ t → ⊥
+unfolding read
+copies-not-clear x [] (also e nothing) (onto f over) low = f (rw e low)
+copies-not-clear x (y ∷ xs) (also e k) (onto f c) low = copies-not-clear y xs k c low
+
+-- where only copies of the least word are left, there is no completion
+pub pool-stuck : (al w : List ℕ) (xs : List (List ℕ)) → Pool al w xs → ((i : ℕ) → i < length xs → getD xs i [] ≡ getD xs 0 []) → before (getD xs 0 []) al ≡ true →
+    (v : List ℕ) → ((b : ℕ) → occurs b v ≡ occurs b w) → necklace (al ++ v) ≡ true → ⊥
+pool-stuck al w xs p lead b v c h = none-clear (p .arranged v c h)
+  where
+    s : List ℕ
+    s = getD xs 0 []
+
+    n : ℕ
+    n = p .shape .extra
+
+    all-copies : (r : List (List ℕ)) → xs ≡ replicate (suc n) s ++ r → length r ≡ 0 → All (λ y. y ≡ s) xs
+    all-copies [] e l = subst (All (λ y. y ≡ s)) (sym e) (all-append (each-replicate (suc n) s refl) nothing)
+    all-copies (x ∷ r) e l = absurd (omega arith)
+
+    only-copies : All (λ y. y ≡ s) xs
+    only-copies = all-copies (p .shape .rest) (p .shape .whole) (let (q, l) = leading-shape s xs (p .shape) (length xs) (omega arith) lead (λ k. absurd (omega arith)) in omega arith)
+
+    none-clear : Arranged al v xs → ⊥
+    none-clear a = ends (a .list) (each-rearranged (a .list) xs (a .moved) only-copies) (a .clear) (omega (arith, a .moved s, subst (λ x. 0 < copies s x) (sym (p .shape .whole)) (copies-first s (replicate n s ++ p .shape .rest))))
+      where
+        ends : (ys : List (List ℕ)) → All (λ y. y ≡ s) ys → Clear al (al ++ v) ys → 0 < copies s ys → ⊥
+        ends [] e k l = let g = rw copies-none at l in omega arith
+        ends (y ∷ ys) e k l = copies-not-clear y ys e k (short-last al s (p .lyn) (p .shape .long) (before-short s al b) v)
+
+-- where the least word does not stand before al, there is one
+pub pool-yes : (al w : List ℕ) (xs : List (List ℕ)) → 0 < length al → Pool al w xs → before (getD xs 0 []) al ≡ false → Completed al w
+pool-yes al w xs z p h = made-whole al w (getD xs 0 []) xs z (p .lyn) (p .shape) (p .made) h
+
+-- ---- the whole run
+
+-- a pool that comes from another by such steps
+pub data Reached (al : List ℕ) (xs : List (List ℕ)) : List (List ℕ) → Type 0 where
+  begun : Reached al xs xs
+  then-glued : {ys : List (List ℕ)} → Reached al xs ys → (q : ℕ) → q < length ys → ((i : ℕ) → i < q → getD ys i [] ≡ getD ys 0 []) →
+      (getD ys q [] ≡ getD ys 0 [] → ⊥) → before (getD ys 0 []) al ≡ true → Reached al xs (glued q ys)
+
+-- what comes from a pool by such steps is a pool
+pub pool-reached : {al w : List ℕ} {xs ys : List (List ℕ)} → Pool al w xs → Reached al xs ys → Pool al w ys
+pool-reached p begun = p
+pool-reached {al} {w} p (then-glued {ys} r q h lead stops b) = pool-glue al w ys (pool-reached p r) q h lead stops b
+
+-- Theorem N: al a Lyndon word and w sorted letters; where the pool of the letters comes to copies of one word that stands before al, no word with the
+-- letters of w completes al to a necklace
+pub no-completion : (al w : List ℕ) → Lyn (sec al) (length al) → 0 < length w → Sorted w → (xs : List (List ℕ)) → Reached al (singles w) xs →
+    ((i : ℕ) → i < length xs → getD xs i [] ≡ getD xs 0 []) → before (getD xs 0 []) al ≡ true →
+    (v : List ℕ) → ((b : ℕ) → occurs b v ≡ occurs b w) → necklace (al ++ v) ≡ true → ⊥
+no-completion al w lyn z sorted xs r = pool-stuck al w xs (pool-reached (pool-start al w lyn z sorted) r)
+
+-- EXACT: where it comes to a least word that does not stand before al, some word with the letters of w completes al to a necklace
+pub completion : (al w : List ℕ) → 0 < length al → Lyn (sec al) (length al) → 0 < length w → Sorted w → (xs : List (List ℕ)) → Reached al (singles w) xs →
+    before (getD xs 0 []) al ≡ false → Completed al w
+completion al w y lyn z sorted xs r = pool-yes al w xs y (pool-reached (pool-start al w lyn z sorted) r)

@@ -1,0 +1,213 @@
+-- Places that no ring of the counts raises.
+--     ring-occurs          each shade stands in a ring as often as the counts say
+--     blocked-exceeds      what stands before the place is already more than the counts allow
+--     blocked-barred       the shade is barred
+--     begun-fitting        the shade fits: some ring goes on with it
+--     raise-asks, raise-none, raise-some    one place
+--     Past, find-start, find-asks, find-found, find-more, find-end    one place after the other, from the last on
+use Prim.Native.Nat.{ℕ, suc, _+_, _-_, _<_, _≤_}
+use mathlib.Core.Path.{_≡_, sym, ap, _∙_, subst}
+use mathlib.Core.Bool.{true}
+use mathlib.Core.List.{List, _∷_, _++_}
+use native.Mathlib.Omega.{arith}
+use lib.ListN.{length, getD, take, drop, List·getD-append, List·getD-eq-default}
+use lib.Seq.{split-at, length-take-le, getD-take, getD-at, ext-getD}
+use Rattle.words.proofs.Split.{lt, eq, gt, tri, both, both-left, both-right}
+use Rattle.words.proofs.Sequence.{sec}
+use Rattle.rings.specs.Necklace.{necklace}
+use Rattle.rings.specs.Counts.{occurs, hasCounts, countedNecklace}
+use Rattle.rings.specs.Prenecklace.{prenecklace}
+use Rattle.words.specs.Sum.{sumOf}
+use Rattle.ring_laws.proofs.Run.{pre-shorter, pre-through}
+use Rattle.ring_laws.proofs.Words.{pre-of, of-pre}
+use Rattle.shades_laws.proofs.Copies.{occurs-append}
+use Rattle.shades_raise_inner.specs.Places.{CountedRing, Blocked, Begun, Barred, Fitting, Liftable, LiftedTo, Raisable, Raises, PlaceFound}
+use Rattle.shades_tally_inner.specs.Remaining.{Remains, Exceeds}
+use Rattle.shades_raise_inner.specs.Ready.{Opening}
+use Rattle.shades_tally_inner.proofs.Tallying.{counts-at, counts-end, occurs-at, occurs-past}
+use Rattle.shades_raise_inner.proofs.Barring.{counts-long}
+use Rattle.shades_tally_inner.proofs.Leaving.{remains-sum}
+
+-- a beginning of a prenecklace is a prenecklace
+pub beginning-pre : (w : List ℕ) (n m : ℕ) → m ≤ n → n ≤ length w → prenecklace (take n w) ≡ true → prenecklace (take m w) ≡ true
+beginning-pre w n m h room pre =
+    of-pre (take m w)
+    (rw (length-take-le m w (omega arith))
+    (pre-through (sec (take n w)) (sec (take m w)) m (λ i k. getD-take n w i 0 (omega arith) ∙ sym (getD-take m w i 0 k)) (pre-shorter (sec (take n w)) n m h (rw (length-take-le n w room) at (pre-of (take n w) pre)))))
+
+module _ (cs : List ℕ) (n k : ℕ) (v : List ℕ) (ring : CountedRing cs n k v) where
+  -- a ring of counts is a necklace
+  pub ring-necklace : necklace v ≡ true
+  unfolding countedNecklace
+  ring-necklace = both-left (necklace v) (hasCounts cs v) (ring .counted)
+
+  -- a shade that is counted stands in it as often as its count says
+  pub ring-known : (b : ℕ) → b < length cs → occurs b v ≡ getD cs b 0
+  unfolding countedNecklace
+  ring-known = counts-at cs v (both-right (necklace v) (hasCounts cs v) (ring .counted))
+
+  -- and each other does not stand in it
+  pub ring-past : length cs ≡ k → (b : ℕ) → length cs ≤ b → occurs b v ≡ 0
+  ring-past e b h = occurs-past b k v (λ i l. ring .reading .shades i (omega (arith, ring .reading .long))) (omega arith)
+
+  -- the sectors before a place and those from it on
+  module _ (w : List ℕ) (l : ℕ) (inside : l < n) (room : l ≤ length w) (agree : (m : ℕ) → m < l → sec v m ≡ sec w m) where
+    same-beginning : take l v ≡ take l w
+    same-beginning =
+        ext-getD 0 (take l v) (take l w) (short ∙ sym (length-take-le l w room))
+        (λ m h. let k : m < l = omega (arith, short) in getD-take l v m 0 k ∙ agree m k ∙ sym (getD-take l w m 0 k))
+      where
+        short : length (take l v) ≡ l
+        short = length-take-le l v (omega (arith, ring .reading .long))
+
+    pub split-ring : v ≡ take l w ++ sec v l ∷ drop (suc l) v
+    split-ring = split-at v l 0 (omega (arith, ring .reading .long)) ∙ ap (λ u. u ++ sec v l ∷ drop (suc l) v) same-beginning
+
+    -- a shade stands in the ring as often as before the place and from it on
+    pub split-occurs : (b : ℕ) → occurs b v ≡ occurs b (take l w) + occurs b (sec v l ∷ drop (suc l) v)
+    split-occurs b = ap (occurs b) split-ring ∙ occurs-append b (take l w) (sec v l ∷ drop (suc l) v)
+
+module _ (cs : List ℕ) (n k : ℕ) (w : List ℕ) (l b : ℕ) (inside : l < n) (room : l ≤ length w) where
+  -- what stands before the place is already more than the counts allow
+  pub blocked-exceeds : Exceeds cs (take l w) → Blocked cs n k w l b
+  blocked-exceeds x v ring agree e = omega (arith, x .often, ring-known cs n k v ring (x .shade) (x .known), split-occurs cs n k v ring w l inside room agree (x .shade))
+
+  -- the shade is barred
+  pub blocked-barred : (rem : List ℕ) → length cs ≡ k → Remains cs (take l w) rem → Barred (take l w) b rem → Blocked cs n k w l b
+  blocked-barred rem many r barred v ring agree e =
+      barred (drop (suc l) v) (λ x. sym (ap (λ a. occurs x (a ∷ drop (suc l) v)) e) ∙ counts x)
+      (subst (λ u. necklace u ≡ true) (split-ring cs n k v ring w l inside room agree ∙ ap (λ a. take l w ++ a ∷ drop (suc l) v) e) (ring-necklace cs n k v ring))
+    where
+      past : (x : ℕ) → length cs ≤ x → occurs x (sec v l ∷ drop (suc l) v) ≡ getD rem x 0
+      past x h = omega (arith, r .past x h, ring-past cs n k v ring many x h, split-occurs cs n k v ring w l inside room agree x)
+
+      counts : (x : ℕ) → occurs x (sec v l ∷ drop (suc l) v) ≡ getD rem x 0
+      counts x =
+          elim (tri x (length cs)) [
+            | lt h ↦ omega (arith, r .left x h, ring-known cs n k v ring x h, split-occurs cs n k v ring w l inside room agree x)
+            | eq h ↦ past x (omega arith)
+            | gt h ↦ past x (omega arith)
+          ]
+
+-- ---- where a ring goes on
+
+-- the shade fits
+pub begun-fitting : (cs : List ℕ) (k : ℕ) (w : List ℕ) (l b : ℕ) (rem : List ℕ) → l ≤ length w → length cs ≡ k → ((m : ℕ) → m < l → sec w m < k) → Remains cs (take l w) rem → Fitting (take l w) b rem →
+    Begun cs (sumOf cs) k w l b
+unfolding countedNecklace
+begun-fitting cs k w l b rem room many known r f = record {
+  ring = v;
+  known = record {
+    reading = record { long = counts-long v cs counts; shades = λ i h. below (sec v i) (occurs-at v i (omega (arith, counts-long v cs counts))) };
+    counted = both (necklace v) (hasCounts cs v) (f .whole) (sym (counts-end cs v (length cs) (omega arith) (λ x h. counts x)));
+  };
+  agree = λ m h. List·getD-append (take l w) (b ∷ f .rest) 0 m (omega (arith, short)) ∙ getD-take l w m 0 h;
+  here = getD-at (take l w) b (f .rest) 0 l short;
+}
+  where
+    v : List ℕ
+    v = take l w ++ b ∷ f .rest
+
+    short : length (take l w) ≡ l
+    short = length-take-le l w room
+
+    past : (x : ℕ) → length cs ≤ x → occurs x v ≡ getD cs x 0
+    past x h =
+        omega (arith, occurs-append x (take l w) (b ∷ f .rest), f .letters x, r .past x h, List·getD-eq-default cs 0 {n = x} h, occurs-past x k (take l w) (λ i q. let i< : i < l = omega (arith, short) in rw (getD-take l w i 0 i<) (known i i<)) (omega arith))
+
+    counts : (x : ℕ) → occurs x v ≡ getD cs x 0
+    counts x =
+        elim (tri x (length cs)) [
+          | lt h ↦ omega (arith, occurs-append x (take l w) (b ∷ f .rest), f .letters x, r .left x h)
+          | eq h ↦ past x (omega arith)
+          | gt h ↦ past x (omega arith)
+        ]
+
+    below : (x : ℕ) → 0 < occurs x v → x < k
+    below x h =
+        elim (tri x k) [
+          | lt e ↦ e
+          | eq e ↦ absurd (omega (arith, counts x, List·getD-eq-default cs 0 {n = x} (omega arith)))
+          | gt e ↦ absurd (omega (arith, counts x, List·getD-eq-default cs 0 {n = x} (omega arith)))
+        ]
+
+-- ---- one place
+
+-- what is asked of the shades at the place
+pub raise-asks : (w : List ℕ) (l k : ℕ) (cs rem : List ℕ) → Raisable w l k cs → Remains cs (take l w) rem → Liftable w l k rem
+raise-asks w l k cs rem p r = record { inside = p .inside; shades = p .shades; room = omega (arith, p .room, remains-sum cs (take l w) rem r); pre = p .pre; low = p .low }
+
+-- no ring of the counts goes on there
+pub raise-none : (w : List ℕ) (l k : ℕ) (cs : List ℕ) → length w ≡ 64 → Raisable w l k cs → Exceeds cs (take l w) → Raises w l k cs k
+raise-none w l k cs size p x = record { above = p .low; most = omega arith; begun = λ h. absurd (omega arith); blocked = λ n b h m q. blocked-exceeds cs n k w l b h (omega (arith, p .inside)) x }
+
+-- each shade between is barred
+pub raise-some : (w : List ℕ) (l k : ℕ) (cs rem : List ℕ) (r : ℕ) → length w ≡ 64 → Raisable w l k cs → Remains cs (take l w) rem → LiftedTo w l k rem r → Raises w l k cs r
+raise-some w l k cs rem r size p left up = record {
+  above = up .lifted .above;
+  most = up .lifted .most;
+  blocked = λ n b h m q. blocked-barred cs n k w l b h (omega (arith, p .inside)) rem (p .many) left (up .lifted .barred b m q);
+  begun = λ h. begun-fitting cs k w l r rem (omega (arith, p .inside)) (p .many) (p .known) left (up .fitting h);
+}
+
+-- ---- one place after the other, from the last on
+
+-- each place from i on is blocked to each greater shade
+pub record Past (w : List ℕ) (n k : ℕ) (cs : List ℕ) (i : ℕ) : Type 0 where
+  pub within : i ≤ n
+  pub blocked : (l b : ℕ) → i ≤ l → l < n → sec w l < b → b < k → Blocked cs n k w l b
+
+-- there is no place behind the last
+pub find-start : (w : List ℕ) (n k : ℕ) (cs : List ℕ) → Past w n k cs n
+find-start w n k cs = record { within = omega arith; blocked = λ l b h m. absurd (omega arith) }
+
+-- what is asked of a place
+pub find-asks : (w : List ℕ) (n k : ℕ) (cs : List ℕ) (i : ℕ) → length w ≡ 64 → Opening w n k cs → Past w n k cs i → 0 < i → Raisable w (i - 1) k cs
+find-asks w n k cs i size p at z = record {
+  inside = omega (arith, at .within, p .ready .size);
+  shades = p .ready .shades;
+  many = p .ready .many;
+  room = omega (arith, p .ready .whole, p .ready .size);
+  pre = beginning-pre w n (suc (i - 1)) (omega (arith, at .within)) (omega (arith, p .ready .size)) (p .pre);
+  low = known (i - 1) inside;
+  known = λ m h. known m (omega (arith, inside));
+}
+  where
+    inside : i - 1 < n
+    inside = omega (arith, at .within)
+
+    known : (m : ℕ) → m < n → sec w m < k
+    known m h = rw (getD-take n w m 0 h) at (p .ready .reading .shades m h)
+
+module _ (w : List ℕ) (n k : ℕ) (cs : List ℕ) (i r : ℕ) (at : Past w n k cs i) (z : 0 < i) (up : Raises w (i - 1) k cs r) where
+  -- the place can be raised
+  pub find-found : sumOf cs ≡ n → r < k → PlaceFound w n k cs (record { end = i; shade = r })
+  find-found whole h = record {
+    within = at .within;
+    blocked = at .blocked;
+    above = λ q. up .above;
+    known = λ q. h;
+    between = λ b q m. up .blocked n b (omega (arith, at .within)) m;
+    begun = λ q. rw whole at (up .begun h);
+  }
+
+  -- it cannot
+  pub find-more : k ≤ r → Past w n k cs (i - 1)
+  find-more h = record {
+    within = omega (arith, at .within);
+    blocked = λ l b m q. elim (tri l (i - 1)) [ lt e ↦ absurd (omega arith) | eq e ↦ here l b e q | gt e ↦ at .blocked l b (omega arith) q ];
+  }
+    where
+      here : (l b : ℕ) → l ≡ i - 1 → l < n → sec w l < b → b < k → Blocked cs n k w l b
+      here l b e q = rw e (λ m y. up .blocked n b (omega (arith, at .within)) m (omega arith))
+
+-- no place can be raised
+pub find-end : (w : List ℕ) (n k : ℕ) (cs : List ℕ) (i : ℕ) → Past w n k cs i → i ≡ 0 → PlaceFound w n k cs (record { end = 0; shade = 0 })
+find-end w n k cs i at e = record {
+  within = omega arith;
+  blocked = λ l b h. at .blocked l b (omega arith);
+  above = λ q. absurd (omega arith);
+  known = λ q. absurd (omega arith);
+  between = λ b q. absurd (omega arith);
+  begun = λ q. absurd (omega arith);
+}

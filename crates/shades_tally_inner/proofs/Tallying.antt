@@ -1,0 +1,101 @@
+-- Counting shades.
+--     tally-hit, tally-miss, tally-end    how often a shade stands in the first i sectors
+--     counts-at, counts-end, counts-not   what `hasCounts` says of each shade
+--     occurs-at                           each shade of a word occurs in it
+--     occurs-past                         a shade past the greatest does not occur
+--     counted-not, counted-is             a prenecklace with a known lyn is a necklace with given counts, or is not
+use Prim.Native.Nat.{ℕ, zero, suc, _+_, _%_, _<_, _≤_}
+use mathlib.Core.Path.{_≡_, refl, sym, ap, _∙_}
+use mathlib.Core.Bool.{Bool, true, false}
+use mathlib.Core.List.{List, [], _∷_}
+use native.Mathlib.Omega.{arith}
+use native.Mathlib.Numerals.{add-one}
+use lib.ListN.{length, getD, take}
+use lib.Seq.{take-suc, take-all, ext-getD}
+use borrow.Author.Tests.{eq-eqb, ne-eqb}
+use Rattle.words.specs.Search.{tab}
+use Rattle.words.proofs.Split.{lt, eq, gt, tri, refuted}
+use Rattle.words.proofs.Search.{length-tab, getD-tab}
+use Rattle.words.proofs.Sequence.{sec}
+use Rattle.words.proofs.Lex.{same-true, true-same}
+use Rattle.rings.specs.Necklace.{necklace}
+use Rattle.rings.specs.Counts.{occurs, countsOf, hasCounts, countedNecklace}
+use Rattle.ring_laws.proofs.Run.{Run}
+use Rattle.ring_laws.proofs.Lyndon.{run-necklace, necklace-run}
+use Rattle.shades_laws.proofs.Copies.{occurs-append}
+
+-- ---- one shade
+
+-- none stands in no sectors
+pub occurs-none : (b : ℕ) → occurs b [] ≡ 0
+unfolding occurs
+occurs-none b = refl
+
+-- one more where it stands at the front
+pub occurs-here : (a b : ℕ) (w : List ℕ) → a ≡ b → occurs b (a ∷ w) ≡ suc (occurs b w)
+unfolding occurs
+occurs-here a b w e = rw (eq-eqb a b e) (omega arith)
+
+-- and none where another stands there
+pub occurs-other : (a b : ℕ) (w : List ℕ) → (a ≡ b → ⊥) → occurs b (a ∷ w) ≡ occurs b w
+unfolding occurs
+occurs-other a b w h = rw (ne-eqb a b h) (omega arith)
+
+-- the shade stands at place i
+pub tally-hit : (b : ℕ) (s : List ℕ) (i x : ℕ) → i < length s → x ≡ occurs b (take i s) → sec s i ≡ b → x + 1 ≡ occurs b (take (i + 1) s)
+tally-hit b s i x h e q = rw (add-one i, take-suc s i 0 h, occurs-append) (omega (arith, occurs-here (sec s i) b [] q, occurs-none b))
+
+-- it does not
+pub tally-miss : (b : ℕ) (s : List ℕ) (i x : ℕ) → i < length s → x ≡ occurs b (take i s) → (sec s i ≡ b → ⊥) → x ≡ occurs b (take (i + 1) s)
+tally-miss b s i x h e q = rw (add-one i, take-suc s i 0 h, occurs-append) (omega (arith, occurs-other (sec s i) b [] q, occurs-none b))
+
+-- all sectors are counted
+pub tally-end : (b : ℕ) (s : List ℕ) (i x : ℕ) → length s ≤ i → x ≡ occurs b (take i s) → x ≡ occurs b s
+tally-end b s i x h e = e ∙ ap (occurs b) (take-all i s h)
+
+-- a shade that no sector has does not occur
+pub occurs-past : (b k : ℕ) (w : List ℕ) → ((i : ℕ) → i < length w → sec w i < k) → k ≤ b → occurs b w ≡ 0
+occurs-past b k [] h l = occurs-none b
+occurs-past b k (a ∷ w) h l = occurs-other a b w (λ e. omega (arith, h 0 (omega arith))) ∙ occurs-past b k w (λ i m. h (suc i) (omega arith)) l
+
+-- each letter of a word occurs in it
+pub occurs-at : (w : List ℕ) (i : ℕ) → i < length w → 0 < occurs (sec w i) w
+occurs-at [] i h = absurd (omega arith)
+occurs-at (a ∷ w) zero h = omega (arith, occurs-here a a w refl)
+occurs-at (a ∷ w) (suc i) h =
+    elim (tri a (sec w i)) [
+      | lt e ↦ omega (arith, occurs-other a (sec w i) w (λ q. omega arith), occurs-at w i (omega arith))
+      | eq e ↦ omega (arith, occurs-here a (sec w i) w e)
+      | gt e ↦ omega (arith, occurs-other a (sec w i) w (λ q. omega arith), occurs-at w i (omega arith))
+    ]
+
+-- ---- all shades
+
+module _ (cs s : List ℕ) where
+  -- the shade b stands in s as often as the counts say
+  pub counts-at : hasCounts cs s ≡ true → (b : ℕ) → b < length cs → occurs b s ≡ getD cs b 0
+  unfolding hasCounts countsOf
+  counts-at h b l = sym (getD-tab (length cs) (λ x. occurs x s) b 0 l) ∙ ap (λ u. getD u b 0) (same-true (tab (length cs) (λ x. occurs x s)) cs h)
+
+  -- each does
+  pub counts-end : (i : ℕ) → length cs ≤ i → ((b : ℕ) → b < i → occurs b s ≡ getD cs b 0) → true ≡ hasCounts cs s
+  unfolding hasCounts countsOf
+  counts-end i l h =
+      sym
+      (true-same (tab (length cs) (λ x. occurs x s)) cs
+      (ext-getD 0 (tab (length cs) (λ x. occurs x s)) cs (length-tab (length cs) (λ x. occurs x s))
+      (λ b k. let m : b < length cs = omega (arith, length-tab (length cs) (λ x. occurs x s)) in getD-tab (length cs) (λ x. occurs x s) b 0 m ∙ h b (omega arith))))
+
+  -- some does not
+  pub counts-not : (b : ℕ) → b < length cs → (occurs b s ≡ getD cs b 0 → ⊥) → false ≡ hasCounts cs s
+  counts-not b l h = sym (refuted (hasCounts cs s) (λ e. h (counts-at e b l)))
+
+  -- a prenecklace whose lyn does not divide its length is no necklace
+  pub counted-not : (p : ℕ) → Run (sec s) (length s) p → (length s % p ≡ 0 → ⊥) → false ≡ countedNecklace cs s
+  unfolding countedNecklace
+  counted-not p r h = rw (refuted (necklace s) (λ e. h (necklace-run s p r e)))
+
+  -- one whose lyn divides its length is
+  pub counted-is : (p : ℕ) → Run (sec s) (length s) p → length s % p ≡ 0 → (r : Bool) → r ≡ hasCounts cs s → r ≡ countedNecklace cs s
+  unfolding countedNecklace
+  counted-is p r h b e = rw (run-necklace s p r h) e

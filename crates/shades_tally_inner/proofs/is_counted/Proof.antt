@@ -1,0 +1,20 @@
+-- `shades_tally_inner::is_counted` meets its contract. A prenecklace is a necklace exactly where its lyn divides its length.
+use borrow.Author.Needs.{needs}
+use Rattle.shades_tally_inner.proofs.Tallying.{counted-not, counted-is}
+use Rattle.shades_tally_inner.proofs.is_counted.Statement.{statement}
+use Rattle.shades_tally_inner.proofs.is_counted.Tie as tie
+
+rem-if1 : tie.Need-rem-if1
+rem-if1 c = search needs
+
+returns : tie.Need-returns
+returns c = let a = c .before .before .before .args in counted-not (a .counts .now) (a .s .now) (a .p) (c .before .before .before .pre) (c .if1 .taken)
+
+has-counts-requires : tie.Need-has-counts-requires
+has-counts-requires c κs = search needs
+
+returns-2 : tie.Need-returns-2
+returns-2 c = let a = c .before .before .before .before .args in counted-is (a .counts .now) (a .s .now) (a .p) (c .before .before .before .before .pre) (c .before .if1 .left) _ (c .has-counts .ensures)
+
+pub is-counted-spec : {M : Type 1} → statement M
+is-counted-spec = tie.close (tie.spec rem-if1 returns has-counts-requires returns-2)

@@ -1,1 +1,0 @@
--- No laws: each function has its proof beside this file, where it needs one.

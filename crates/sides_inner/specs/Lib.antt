@@ -1,1 +1,0 @@
--- No definitions of its own: the functions promise `mirrored` and `home` of `rings`, `turn` of `words` and a reversed list.

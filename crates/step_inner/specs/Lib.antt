@@ -1,1 +1,0 @@
--- A step promises what `walk_record` says; nothing is defined here.

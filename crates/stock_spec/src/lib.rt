@@ -1,0 +1,1 @@
+// What the stock table promises: a byte's sectors, and the byte of its home reading. No functions.

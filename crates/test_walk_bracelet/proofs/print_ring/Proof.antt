@@ -1,0 +1,27 @@
+-- `test_walk_bracelet::print_ring` meets its contract.
+use mathlib.Core.Path.{_≡_}
+use native.Mathlib.Omega.{arith}
+use lib.ListN.{length, length-take}
+use borrow.Author.Needs.{needs}
+use Rattle.test_walk_bracelet.proofs.print_ring.Statement.{statement}
+use Rattle.test_walk_bracelet.proofs.print_ring.Tie as tie
+
+array-share-prefix-ring : tie.Need-array-share-prefix-ring
+array-share-prefix-ring c = let l : length (c .before .before .args .w .ring) ≡ 64 = search needs in omega arith
+
+slice-aggregate-sectors : tie.Need-slice-aggregate-sectors
+slice-aggregate-sectors c = let l : length (c .before .before .before .args .w .ring) ≡ 64 = search needs in simp length-take (omega arith)
+
+sectors-requires : tie.Need-sectors-requires
+sectors-requires c κs = search needs
+
+returns : tie.Need-returns
+returns c = search needs
+
+returns-2 : tie.Need-returns-2
+returns-2 c = search needs
+
+pub print-ring-spec : {M : Type 1} → statement M
+print-ring-spec =
+    tie.close
+    (tie.spec array-share-prefix-ring slice-aggregate-sectors sectors-requires returns returns-2)

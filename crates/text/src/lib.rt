@@ -1,1 +1,0 @@
-// The listing program's texts as definitions, and their laws (01, 'The listing program'). No code: crate `line` reads such texts, crate `text_inner` places them.

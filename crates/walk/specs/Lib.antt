@@ -1,1 +1,0 @@
--- The calls promise what `walk_record` says; nothing is defined here.

@@ -1,1 +1,0 @@
--- The checks promise what `refusal` and `walk_record` say; nothing is defined here.

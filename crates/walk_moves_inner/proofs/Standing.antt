@@ -1,0 +1,191 @@
+-- What the loop of `advance` knows, over plain lists: `Stands` is `Walked` of the theory, with lyn as the number that rises.
+--     kind-at, class-at     the kind and the class of a prenecklace by its lyn
+--     stands-start          at the start
+--     stands-low            what raising asks for
+--     full-necklace         a ring of which no place can be raised is a necklace
+--     stands-none           no place can be raised: there is none of the kind
+--     stands-found          the next prenecklace is of the kind
+--     stands-on             it is not
+--     stands-rises          each move raises lyn
+use Prim.Native.Nat.{ℕ, _+_, _-_, _%_, _<_, _≤_}
+use mathlib.Core.Path.{_≡_, refl, sym, ap, _∙_}
+use mathlib.Core.Logic.{⊎-elim, _⊎_, inl, inr}
+use mathlib.Core.Bool.{true, false}
+use mathlib.Core.List.{List}
+use native.Mathlib.Omega.{arith}
+use native.Mathlib.Numerals.{add-one}
+use native.Mathlib.Nat.{mod-self}
+use lib.ListN.{length, getD}
+use lib.Dec.{eqb}
+use borrow.Author.Tests.{eq-eqb, ne-eqb, eqb-true, eqb-false}
+use Rattle.words.specs.Order.{before, upTo}
+use Rattle.words.specs.Readings.{Reading}
+use Rattle.words.proofs.Split.{Test, passes, fails, test, agree, clash, lt, eq, gt, tri}
+use Rattle.words.proofs.Lex.{ahead, equal, behind, lex, before-irrefl, before-not-upTo}
+use Rattle.words.proofs.Sequence.{sec}
+use Rattle.rings.specs.declared.Class.the-variants.{Single, Repeating, Opening}
+use Rattle.rings.specs.Necklace.{necklace, lyndon}
+use Rattle.rings.specs.Prenecklace.{prenecklace, lyn}
+use Rattle.rings.specs.Class.{classOf}
+use Rattle.rings.specs.Next.{lastLow, raised, repeated, nextPrenecklace}
+use Rattle.ring_laws.proofs.Run.{Run}
+use Rattle.ring_laws.proofs.Words.{necklace-prenecklace}
+use Rattle.ring_laws.proofs.Lyndon.{run-necklace, necklace-run, run-prenecklace}
+use Rattle.ring_laws.proofs.Classes.{run-lyndon, lyndon-run, lyndon-necklace, class-single, class-repeating, class-opening}
+use Rattle.ring_laws.proofs.Next.{low-le, low-at, low-none, length-next, next-is-run, next-lyn-low}
+use Rattle.ring_laws.proofs.Walk.{Kind, Walked, walk-start, walk-found, walk-on, walk-done}
+use Rattle.ring_laws.proofs.Bound.{lyn-rises}
+use Rattle.walk_moves_inner.specs.declared.Kind as K
+use Rattle.walk_moves_inner.specs.declared.Kind.the-variants.{Prenecklace, Necklace, Lyndon}
+use Rattle.walk_moves_inner.specs.Kinds.{kindOf, kindAt, classAt}
+use Rattle.walk_moves_inner.specs.Going.{ReadyToStep, Found}
+
+-- only prenecklaces are of a kind
+pub kind-only : (kind : K.Kind) → Kind (kindOf kind)
+unfolding kindOf
+kind-only Prenecklace u h = h
+kind-only Necklace u h = necklace-prenecklace u h
+kind-only Lyndon u h = necklace-prenecklace u (lyndon-necklace u h)
+
+-- the kind of a prenecklace by its lyn
+pub kind-at : (kind : K.Kind) (v : List ℕ) (p : ℕ) → Run (sec v) (length v) p → kindOf kind v ≡ kindAt kind (length v) p
+unfolding kindOf
+kind-at Prenecklace v p r = run-prenecklace v p r
+kind-at Necklace v p r =
+    agree (necklace v) (eqb (length v % p) 0) (λ h. eq-eqb (length v % p) 0 (necklace-run v p r h)) (λ h. run-necklace v p r (eqb-true (length v % p) 0 h))
+kind-at Lyndon v p r = agree (lyndon v) (eqb p (length v)) (λ h. eq-eqb p (length v) (lyndon-run v p r h)) (λ h. run-lyndon v p r (eqb-true p (length v) h))
+
+-- its class
+pub class-at : (v : List ℕ) (p : ℕ) → Run (sec v) (length v) p → classOf v ≡ classAt (length v) p
+unfolding classAt
+class-at v p r = go (test (eqb p (length v))) (test (eqb (length v % p) 0))
+  where
+    go : Test (eqb p (length v)) → Test (eqb (length v % p) 0) → classOf v ≡ classAt (length v) p
+    go (passes e) d = rw (e, classAt) (class-single v p r (eqb-true p (length v) e))
+    go (fails e) (passes d) =
+        rw (e, d, classAt)
+        (class-repeating v p r (eqb-true (length v % p) 0 d)
+        (elim (tri p (length v)) [ lt l ↦ l | eq l ↦ absurd (eqb-false p (length v) e l) | gt l ↦ absurd (omega (arith, r .fits)) ]))
+    go (fails e) (fails d) =
+        rw (e, d, classAt)
+        (class-opening v p r
+        (elim (tri 0 (length v % p)) [ lt l ↦ l | eq l ↦ absurd (eqb-false (length v % p) 0 d (sym l)) | gt l ↦ absurd (omega arith) ]))
+
+-- the same, as `class_at` tests it
+pub at-single : (n p : ℕ) → p ≡ n → Single ≡ classAt n p
+unfolding classAt
+at-single n p e = rw (eq-eqb p n e, classAt)
+
+pub at-repeating : (n p : ℕ) → (p ≡ n → ⊥) → n % p ≡ 0 → Repeating p ≡ classAt n p
+unfolding classAt
+at-repeating n p e d = rw (ne-eqb p n e, eq-eqb (n % p) 0 d, classAt)
+
+pub at-opening : (n p : ℕ) → (p ≡ n → ⊥) → (n % p ≡ 0 → ⊥) → Opening p ≡ classAt n p
+unfolding classAt
+at-opening n p e d = rw (ne-eqb p n e, ne-eqb (n % p) 0 d, classAt)
+
+-- a prenecklace whose lyn is its length is of every kind
+pub kind-full : (kind : K.Kind) (n : ℕ) → kindAt kind n n ≡ true
+kind-full Prenecklace n = refl
+kind-full Necklace n = eq-eqb (n % n) 0 (mod-self n)
+kind-full Lyndon n = eq-eqb n n refl
+
+-- where every sector is k - 1 the ring is a necklace
+full-necklace : (k : ℕ) (v : List ℕ) → Reading (length v) k v → 0 < length v → lastLow k v ≡ 0 → necklace v ≡ true
+full-necklace k v r z e =
+    run-necklace v 1 (record { pos = omega arith; fits = z; again = λ i j q b. top i b ∙ sym (top j (omega arith)); lyn = λ i a b. absurd (omega arith) }) (omega arith)
+  where
+    top : (i : ℕ) → i < length v → getD v i 0 ≡ k - 1
+    top i b = omega (arith, low-none k v i (omega arith) b, r .shades i b)
+
+-- lyn is 0 where the step stands at its start, and the ring's own once it has moved; the moves are at most as many
+pub record Stands (kind : K.Kind) (k : ℕ) (start ring : List ℕ) (p m : ℕ) : Type 0 where
+  pub walked : Walked (kindOf kind) k start ring m
+  pub few : m ≤ p
+  pub short : p < length start
+  pub lyn-is : (p ≡ 0) ⊎ (p ≡ lyn ring)
+
+module _ (kind : K.Kind) (k : ℕ) (start : List ℕ) (ready : ReadyToStep k start) where
+  pub stands-start : Stands kind k start start 0 0
+  stands-start =
+      record { walked = walk-start (kindOf kind) k start (ready .reading) (ready .pre); few = omega arith; short = ready .pos; lyn-is = inl refl }
+
+  module _ (ring : List ℕ) (p m i : ℕ) (at : Stands kind k start ring p m) (low : i ≡ lastLow k ring) where
+    own : Reading (length ring) k ring
+    own = rw (at .walked .long) (at .walked .reading)
+
+    -- the place to raise is in the ring, and the sector there is no byte's greatest
+    pub stands-low : 0 < i → (i ≤ length ring) × (getD ring (i - 1) 0 < 255)
+    stands-low z = rw low (low-le k ring, omega (arith, low-at k ring (rw (← low) z), ready .few))
+
+    -- no place can be raised: there is none of the kind, and a step by necklaces has not moved, since the last ring is a necklace
+    pub stands-none : i ≡ 0 → Found kind k start ring (record { lyn = 0; moves = m })
+    unfolding kindOf
+    stands-none e =
+        record {
+          done = λ q. walk-done (kindOf kind) k start ring m (at .walked) (sym low ∙ e);
+          kept = λ q n. still (ap (λ (x : K.Kind). kindOf x ring) n ∙ full-necklace k ring own (omega (arith, at .walked .long, ready .pos)) (sym low ∙ e));
+          next = λ q. absurd (omega arith);
+          moved = λ q. absurd (omega arith);
+          lyn-of = λ q. absurd (omega arith);
+        }
+      where
+        still : kindOf kind ring ≡ true → ring ≡ start
+        still q =
+            elim (lex start ring) [
+              | ahead l ↦ clash (before ring ring) (at .walked .met ring (at .walked .reading) q l) (before-irrefl ring)
+              | equal d ↦ sym d
+              | behind l ↦ clash (upTo start ring) (at .walked .past) (before-not-upTo start ring l)
+            ]
+
+    -- each move raises lyn
+    pub stands-rises : 0 < i → p < i
+    stands-rises z =
+        ⊎-elim (λ e. omega arith)
+        (λ e. let r = lyn-rises k ring own (omega (arith, at .walked .long, ready .pos)) (at .walked .pre) (omega arith) (omega (arith, at .short, at .walked .long)) in omega arith)
+        (at .lyn-is)
+
+    module _ (z : 0 < i) (next : List ℕ) (moved : next ≡ repeated (length ring) (raised i ring)) where
+      lifted : 0 < lastLow k ring
+      lifted = rw (← low) z
+
+      moved-next : next ≡ nextPrenecklace k ring
+      unfolding nextPrenecklace
+      moved-next = rw low at moved
+
+      pub moved-long : length next ≡ length ring
+      moved-long = ap length moved-next ∙ length-next k ring
+
+      next-run : Run (sec (nextPrenecklace k ring)) (length (nextPrenecklace k ring)) i
+      next-run = rw low (next-is-run k ring lifted (at .walked .pre))
+
+      -- whether the next prenecklace is of the kind
+      next-kind : kindOf kind (nextPrenecklace k ring) ≡ kindAt kind (length next) i
+      next-kind = rw moved-next (kind-at kind (nextPrenecklace k ring) i next-run)
+
+      -- it is of the kind
+      pub stands-found : kindAt kind (length next) i ≡ true → Found kind k start next (record { lyn = i; moves = m + 1 })
+      stands-found q =
+          let f = walk-found (kindOf kind) k start ring m (at .walked) (kind-only kind) lifted (next-kind ∙ q) in
+          record {
+            done = λ e. absurd (omega arith);
+            kept = λ e. absurd (omega arith);
+            next = λ e. rw moved-next (f .0);
+            moved = λ e. rw (moved-next, add-one m) (f .1);
+            lyn-of = λ e. rw moved-next (next-lyn-low k ring lifted (at .walked .pre) ∙ sym low);
+          }
+
+      -- it is not
+      pub stands-on : kindAt kind (length next) i ≡ false → Stands kind k start next i (m + 1)
+      stands-on q =
+          record {
+            walked = rw (moved-next, add-one m) (walk-on (kindOf kind) k start ring m (at .walked) (kind-only kind) lifted (next-kind ∙ q));
+            few = omega (arith, at .few, stands-rises z);
+            short =
+                elim (tri i (length start)) [
+                  | lt l ↦ l
+                  | eq l ↦ clash (kindAt kind (length next) i) (rw (moved-long, at .walked .long, l) (kind-full kind (length start))) q
+                  | gt l ↦ absurd (omega (arith, low-le k ring, at .walked .long))
+                ];
+            lyn-is = inr (rw moved-next (low ∙ sym (next-lyn-low k ring lifted (at .walked .pre))));
+          }

@@ -1,0 +1,36 @@
+-- `walk_step_inner::go_on` meets its contract.
+use Prim.Native.Nat.{_<_}
+use mathlib.Core.Path.{refl}
+use native.Mathlib.Omega.{arith}
+use borrow.Author.Needs.{needs}
+use Rattle.walk_moves_inner.specs.Kinds.{kindOf}
+use Rattle.walk_record_laws.proofs.Good.{went-period}
+use Rattle.walk_step_inner.proofs.go_on.Statement.{statement}
+use Rattle.walk_step_inner.proofs.go_on.Tie as tie
+
+advance-requires : tie.Need-advance-requires
+advance-requires c κs = search needs
+
+same-length : tie.Need-same-length
+same-length c = search needs
+
+returns : tie.Need-returns
+unfolding kindOf
+returns c =
+    let f = c .before .before .before .before .advance .ensures in
+    let d = f .done (c .if1 .taken) in
+    (d .0, d .1, f .kept (c .if1 .taken) refl)
+
+same-length-2 : tie.Need-same-length-2
+same-length-2 c = search needs
+
+returns-2 : tie.Need-returns-2
+unfolding kindOf
+returns-2 c =
+    let a = c .before .before .before .before .before .before .before .args in
+    let f = c .before .before .before .before .advance .ensures in
+    let z : 0 < c .before .before .before .before .advance .result .lyn = omega (arith, c .if1 .left) in
+    (f .next z, f .moved z, went-period (a .k) (a .ring .now) _ _ (c .before .before .before .before .before .before .before .pre .pos) (f .next z) (f .lyn-of z))
+
+pub go-on-spec : {M : Type 1} → statement M
+go-on-spec = tie.close (tie.spec advance-requires same-length returns same-length-2 returns-2)
