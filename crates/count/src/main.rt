@@ -1,5 +1,7 @@
 // The report program (02, request f).
 
+use stream_asking_inner::Kind;
+
 fn main() {
-    report_program_inner::run();
+    stream_program_inner::run(Kind::Count);
 }

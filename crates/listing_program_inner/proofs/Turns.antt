@@ -1,12 +1,16 @@
 -- Page after page. Each page that is not the last has a ring's line at least, and the rings listed so far stay within the limit, so that the pages end.
 --     paged-length                              a page keeps the buffer's length
---     turning-first, turning-input, turning-next    behind the first page, and behind the next, the listing stands or nothing follows
+--     turning-first, input-turning, turning-next    behind the first page, and behind the next, the listing stands or nothing follows
 --     pagesLeft, pages-fall                     a bound on the pages that follow, which falls
+--     goes-unwritten, goes-written, goes-bytes  whether another page follows
 use Prim.Native.Nat.{ℕ, zero, suc, _+_, _-_, _<_, _≤_}
 use mathlib.Core.Path.{_≡_, refl, sym, ap, _∙_}
 use mathlib.Core.Logic.{_⊎_, inl, inr}
+use mathlib.Core.Bool.{Bool, true, false, false≢true}
 use mathlib.Core.List.{List, [], _++_}
 use native.Mathlib.Omega.{arith}
+use lib.Dec.{ltb}
+use borrow.Author.Tests.{ltb-true}
 use lib.ListN.{length, take, drop, length-append, length-take, length-drop}
 use lib.Seq.{take-all}
 use Rattle.limits_spec.specs.Limits.{Listable}
@@ -16,7 +20,9 @@ use Rattle.listing_spec.specs.Prints.{most}
 use Rattle.listing_spec.specs.State.{emptyState, startState, Rest, over, on, stateBehind}
 use Rattle.listing_spec.specs.Paging.{lineRoom, FirstPage, small, refused, listed, Next, bad, good, Paged}
 use Rattle.listing_laws.proofs.Leaving.{counted-start, goes-true, goes-some, AtLeast, Stands, stands-good, stands-behind, empty-bad}
-use Rattle.listing_program_inner.specs.Says.{InputSays, Turning}
+use Rattle.program_reading_inner.specs.declared.Most.{Most}
+use Rattle.program_reading_inner.specs.declared.Most.the-variants as M
+use Rattle.listing_program_inner.specs.Says.{InputSays, Turning, goesOn}
 
 -- a page keeps the buffer's length
 pub paged-length : (P : List ℕ → State → Type 0) (b : List ℕ) (r : Page) (b′ : List ℕ) → Paged P b r b′ → length b′ ≡ length b
@@ -36,16 +42,16 @@ first-stands s room t state (listed h k n u rest p g e f) =
 pub turning-first : (s b : List ℕ) (r : Page) (b′ : List ℕ) → Paged (FirstPage s (length b)) b r b′ → Turning r (length b)
 turning-first s b r b′ p = record { inside = inside (FirstPage s (length b)) b r b′ p; stands = first-stands s (length b) (p .text) (r .state) (p .says) }
 
--- what was read is itself an input of which it was read
-module _ (line : List ℕ) (got : ℕ) (b : List ℕ) (r : Page) (b′ : List ℕ) (h : got ≤ length line) (p : InputSays line got b r b′) where
-  itself : Paged (FirstPage (take got line) (length b)) b r b′
-  itself = p (take got line) (sym (take-all (length line) (take got line) (simp length-take (omega arith))))
+-- behind the first page for what was read, or behind none
+none-turning : (r : Page) (m : ℕ) → r .length ≡ 0 → r .state ≡ emptyState → Turning r m
+none-turning r m e f = record { inside = omega arith; stands = inr f }
 
-  pub input-length : length b′ ≡ length b
-  input-length = paged-length (FirstPage (take got line) (length b)) b r b′ itself
-
-  pub turning-input : Turning r (length b)
-  turning-input = turning-first (take got line) b r b′ itself
+pub input-turning : (most : Most) (line b : List ℕ) (r : Page) (b′ : List ℕ) → InputSays most line b r b′ → (length b′ ≡ length b) × Turning r (length b)
+input-turning M.Full line b r b′ p =
+    let q = p line (take-all (length line) line (omega arith)) in
+    (paged-length (FirstPage line (length b)) b r b′ q, turning-first line b r b′ q)
+input-turning (M.Ended got) line b r b′ p = (paged-length (FirstPage (take got line) (length b)) b r b′ p, turning-first (take got line) b r b′ p)
+input-turning M.Failed line b r b′ p = (ap length (p .2), none-turning r (length b) (p .0) (p .1))
 
 -- behind any other page
 next-stands : (s : State) (room : ℕ) (t : List ℕ) (state : State) → Stands s ⊎ (s ≡ emptyState) → Next s room t state → Stands state ⊎ (state ≡ emptyState)
@@ -111,3 +117,16 @@ pages-fall q b r b′ st room h p = rw (behind-some (q .length) (left (q .state 
         let k = fewer (q .state) rest s (stands-behind (q .state) rest (s .numbers) (goes-true n (s .counted))) (some .1) in
         let k′ : left (r .state .n) (r .state .rings) < left (q .state .n) (q .state .rings) = rw f k in
         rw (behind-some (r .length) (left (r .state .n) (r .state .rings)) (omega (arith, some .0, p .long))) (omega arith)
+
+-- ---- whether another page follows
+
+pub goes-unwritten : (wrote : Bool) (m : ℕ) → wrote ≡ false → false ≡ goesOn wrote m
+goes-unwritten wrote m e = rw e refl
+
+pub goes-written : (wrote : Bool) (m : ℕ) → wrote ≡ true → ltb 0 m ≡ goesOn wrote m
+goes-written wrote m e = rw e refl
+
+-- where it goes on, the page has bytes
+pub goes-bytes : (wrote : Bool) (m : ℕ) → goesOn wrote m ≡ true → 0 < m
+goes-bytes true m e = ltb-true 0 m e
+goes-bytes false m e = absurd (false≢true e)

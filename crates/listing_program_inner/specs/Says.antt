@@ -1,12 +1,17 @@
 -- What the parts of the program promise.
---     ReadOf line got s     of the input s the first `got` bytes of `line` were read: all of s, or as many as there was room for
---     InputSays             the first page of the output for any input of which that was read
+--     InputSays             the first page of the output for any input of which that was read to `line`; none, and the buffer as it was, where a read failed
+--     goesOn wrote m        does another page follow one of m bytes? wrote: could they be written?
 --     Turning r m           the page r stands in a buffer of m bytes, and behind it the listing stands or nothing follows
 use Prim.Native.Nat.{ℕ, _≤_}
 use mathlib.Core.Path.{_≡_}
 use mathlib.Core.Logic.{_⊎_}
+use mathlib.Core.Bool.{Bool, _&&_}
 use mathlib.Core.List.{List}
+use lib.Dec.{ltb}
 use lib.ListN.{length, take}
+use Rattle.program_reading_inner.specs.declared.Most.{Most}
+use Rattle.program_reading_inner.specs.declared.Most.the-variants as M
+use Rattle.program_reading_inner.specs.Says.{Begins}
 use Rattle.listing_spec.specs.declared.Page.{Page}
 use Rattle.listing_spec.specs.State.{emptyState}
 use Rattle.listing_spec.specs.Paging.{FirstPage, Paged}
@@ -16,11 +21,13 @@ use Rattle.listing_laws.specs.Standing.{Stands}
 abbrev pub lineBytes : ℕ
 lineBytes = 9
 
-abbrev pub ReadOf : List ℕ → ℕ → List ℕ → Type 0
-ReadOf line got s = take got line ≡ take (length line) s
+abbrev pub InputSays : Most → List ℕ → List ℕ → Page → List ℕ → Type 0
+InputSays M.Full line b r b′ = (s : List ℕ) → Begins s line → Paged (FirstPage s (length b)) b r b′
+InputSays (M.Ended got) line b r b′ = Paged (FirstPage (take got line) (length b)) b r b′
+InputSays M.Failed line b r b′ = (r .length ≡ 0) × (r .state ≡ emptyState) × (b′ ≡ b)
 
-abbrev pub InputSays : List ℕ → ℕ → List ℕ → Page → List ℕ → Type 0
-InputSays line got b r b′ = (s : List ℕ) → ReadOf line got s → Paged (FirstPage s (length b)) b r b′
+abbrev pub goesOn : Bool → ℕ → Bool
+goesOn wrote m = wrote && ltb 0 m
 
 pub record Turning (r : Page) (m : ℕ) : Type 0 where
   pub inside : r .length ≤ m

@@ -1,33 +1,68 @@
-// The listing program (01, 'The listing program'): it reads, fills a page, writes it, and again. No public calls: no contract can say what is written.
+// The listing program (01, 'The listing program'): it reads, fills a page, writes it, and again. No public calls: no contract can say what is read or written.
 
-use libc::STDIN_FILENO;
+use libc::STDERR_FILENO;
 use libc::STDOUT_FILENO;
 use listing_spec::Page;
+use program_reading_inner::Most;
 ghost use Prim.Native.Nat.{_≤_};
+ghost use mathlib.Core.Path.{_≡_};
+ghost use mathlib.Core.Bool.{false};
 ghost use lib.ListN.{length};
+ghost use Rattle.listing_spec.specs.State.{emptyState};
 ghost use Rattle.listing_spec.specs.Paging.{lineRoom};
-ghost use Rattle.listing_program_inner.specs.Says.{lineBytes, InputSays, Turning};
+ghost use Rattle.program_reading_inner.specs.Says.{MostSays};
+ghost use Rattle.listing_program_inner.specs.Says.{lineBytes, InputSays, Turning, goesOn};
 
-// The first page of the output for an input of which the first `got` bytes of `line` were read: all of it, or as many as there was room for. There has to be room for
-// 9 bytes, of which a line has at most 8.
-fn first_of_input(line: &[u8], got: usize, buf: &mut [u8]) -> Page
-    requires { ⌜ lineBytes ≤ length (now line) ⌝ }
-    requires { ⌜ got ≤ length (now line) ⌝ }
-    ensures { λ r. ⌜ InputSays (now (line .entry)) got (now (buf .entry)) r (now (buf .exit)) ⌝ }
+// Where the program stopped: whether the last page could be written, and how many bytes it had.
+pub struct Printed {
+    pub wrote: bool,
+    pub length: usize,
+}
+
+// A page of no bytes, behind which nothing follows.
+fn no_page() -> Page
+    ensures { λ r. ⌜ (r .length ≡ 0) × (r .state ≡ emptyState) ⌝ }
 {
-    listing::first_page(&line[..got], buf)
+    let state = listing_pages_inner::empty_state();
+    Page { length: 0, state }
+}
+
+// The first page of the output for an input of which that was read: all of it, or as many bytes as there was room for. There has to be room for 9 bytes, of which a
+// line has at most 8. Where a read failed there is no page.
+fn first_of_input(most: Most, line: &[u8], buf: &mut [u8]) -> Page
+    requires { ⌜ lineBytes ≤ length (now line) ⌝ }
+    requires { ⌜ MostSays most (now line) ⌝ }
+    ensures { λ r. ⌜ InputSays most (now (line .entry)) (now (buf .entry)) r (now (buf .exit)) ⌝ }
+{
+    match most {
+        Most::Full => listing::first_page(line, buf),
+        Most::Ended(got) => listing::first_page(&line[..got], buf),
+        Most::Failed => no_page(),
+    }
+}
+
+// Whether another page follows: where this one has bytes, and they were written.
+fn goes_on(wrote: bool, length: usize) -> bool
+    ensures { λ r. ⌜ r ≡ goesOn wrote length ⌝ }
+{
+    if !wrote {
+        return false;
+    }
+    0 < length
 }
 
 // Writes a page, and all that follow. Where a write fails, nothing more is written.
-fn print_pages(first: Page, buf: &mut [u8])
+fn print_pages(first: Page, buf: &mut [u8]) -> Printed
     requires { ⌜ lineRoom ≤ length (now buf) ⌝ }
     requires { ⌜ Turning first (length (now buf)) ⌝ }
+    ensures { λ r. ⌜ goesOn (r .wrote) (r .length) ≡ false ⌝ }
 {
     let mut page = first;
-    while 0 < page.length {
+    loop {
         let m = page.length;
-        if !io::write_all(STDOUT_FILENO, &buf[..m]) {
-            return;
+        let wrote = io::write_all(STDOUT_FILENO, &buf[..m]);
+        if !goes_on(wrote, m) {
+            return Printed { wrote, length: m };
         }
         page = listing::next_page(page.state, buf);
     }
@@ -41,11 +76,14 @@ pub fn print_through(line: &[u8], buf: &mut [u8])
     print_pages(first, buf);
 }
 
-// The program: the output for standard input on standard output.
+// The program: the output for standard input on standard output; on standard error why not all of it, if so.
 pub fn run() {
     let mut line = [0u8; 16];
-    let got = io::read_full(STDIN_FILENO, &mut line);
+    let most = program_reading_inner::read_most(&mut line);
     let mut buf = io::large_buffer();
-    let first = first_of_input(&line, got, &mut buf);
-    print_pages(first, &mut buf);
+    let first = first_of_input(most, &line, &mut buf);
+    let left = print_pages(first, &mut buf);
+    let ended = program_reading_inner::line_ending(most, left.wrote);
+    let m = program_ending_inner::say(ended, &mut buf);
+    io::write_all(STDERR_FILENO, &buf[..m]);
 }

@@ -1,29 +1,29 @@
 -- From what is placed to what the calls promise.
 --     taken-is, taken-within, taken-room    how many bytes of a block are taken
+--     line-take                      the bytes of any state's line that count
+--     tidied-none, tidied-on, tidied-is    those bytes copied one after another, with 0 behind them
 --     feed-says                      a block
---     end-small, end-none, end-some  the end of the input
-use Prim.Native.Nat.{ℕ, zero, suc, _+_, _*_, _/_, _<_, _≤_}
+--     end-says                       the end of the input
+use Prim.Native.Nat.{ℕ, zero, suc, _+_, _-_, _*_, _/_, _<_, _≤_}
 use mathlib.Core.Path.{_≡_, refl, sym, ap, subst, _∙_}
 use mathlib.Core.Bool.{true, false}
-use mathlib.Core.List.{List, [], _∷_, _++_}
+use mathlib.Core.List.{List, [], _∷_, _++_, append-assoc}
 use native.Mathlib.Omega.{arith}
+use native.Mathlib.Decide.{decLt}
 use native.Mathlib.Nat.{div-mul-le-self}
+use native.Mathlib.Numerals.{add-one}
 use lib.Dec.{ltb}
-use lib.ListN.{length, take, drop, length-take}
-use lib.Seq.{take-all, sets-eq}
-use borrow.Author.Tests.{ltb-true, ltb-false}
-use Rattle.words.proofs.Split.{passes, fails, test}
-use Rattle.text_spec.specs.Put.{Placed}
+use lib.ListN.{length, getD, take, drop, set, replicate, length-take}
+use lib.Seq.{take-all, take-suc, take-take, set-at}
+use Rattle.stream_spec.specs.Lines.{under}
+use Rattle.stream_spec.specs.Blocks.{BlockSays}
+use Rattle.stream_spec.specs.Blocks as stream
 use Rattle.report_spec.specs.declared.Pending.{Pending}
 use Rattle.report_spec.specs.declared.Fed.{Fed}
-use Rattle.report_spec.specs.Lines.{Answers, ended, under, lastOf, Texts, done}
+use Rattle.report_spec.specs.Lines.{Answers}
 use Rattle.report_spec.specs.Blocks.{lineRoom, keep, lineOf, stateOf, bytesFor, FeedSays, EndSays, small, last}
-use Rattle.report_laws.proofs.Bytes.{texts-one}
-use Rattle.report_laws.proofs.Room.{answer-short}
-use Rattle.report_answers_inner.specs.Says.{AnswerSays}
-use Rattle.stream_blocks_inner.specs.declared.Behind.{Behind}
-use Rattle.stream_blocks_inner.specs.Says.{smaller, BlockSays}
-use Rattle.stream_blocks_inner.proofs.Holding.{smaller-left, smaller-right, line-take}
+use Rattle.stream_blocks_inner.specs.Says.{smaller}
+use Rattle.stream_blocks_inner.proofs.Smaller.{smaller-first, smaller-second, smaller-left, smaller-right}
 
 -- ---- how much is taken
 
@@ -37,51 +37,78 @@ module _ (s b : List ℕ) (m : ℕ) (e : m ≡ smaller (length b / lineRoom) (le
   taken-within = omega (arith, e, smaller-right (length b / lineRoom) (length s))
 
   -- and there is room for a line each
-  pub taken-room : m * lineRoom ≤ length b
-  taken-room = omega (arith, e, smaller-left (length b / lineRoom) (length s))
+  pub taken-room : length (take m s) * lineRoom ≤ length b
+  taken-room = simp length-take (omega (arith, e, smaller-left (length b / lineRoom) (length s)))
+
+-- ---- a state
+
+-- the bytes of any state's line that count
+pub line-take : (p : Pending) → length (p .line) ≡ 9 → (m : ℕ) → m ≡ smaller (p .len) 9 → take m (p .line) ≡ lineOf p
+line-take p l m e =
+    elim (decLt (p .len) 9) [
+      | yes f ↦ ap (λ (x : ℕ). take x (p .line)) (e ∙ sym (smaller-first (p .len) 9 f))
+      | no f ↦
+          ap (λ (x : ℕ). take x (p .line)) (e ∙ sym (smaller-second (p .len) 9 (omega arith)))
+          ∙ take-all 9 (p .line) (omega arith)
+          ∙ sym (take-all (p .len) (p .line) (omega arith))
+    ]
+
+-- i bytes are copied, and those behind them are 0
+abbrev pub Copied : List ℕ → ℕ → List ℕ → Type 0
+Copied bytes i line = line ≡ take i bytes ++ replicate (9 - i) 0
+
+pub tidied-none : (bytes : List ℕ) → Copied bytes 0 (replicate 9 0)
+tidied-none bytes = refl
+
+pub tidied-on : (bytes : List ℕ) (i : ℕ) (line : List ℕ) → i < 9 → i < length bytes → Copied bytes i line → Copied bytes (i + 1) (set line i (getD bytes i 0))
+tidied-on bytes i line h l e =
+    let n : length (take i bytes) ≡ i = simp length-take (omega arith) in
+    let z : 9 - i ≡ suc (9 - (i + 1)) = omega arith in
+    let r : line ≡ take i bytes ++ (0 ∷ replicate (9 - (i + 1)) 0) = e ∙ ap (λ (x : ℕ). take i bytes ++ replicate x 0) z in
+    let g : take (i + 1) bytes ≡ take i bytes ++ (getD bytes i 0 ∷ []) = rw (add-one i) (take-suc bytes i 0 l) in
+    ap (λ (x : List ℕ). set x i (getD bytes i 0)) r
+    ∙ set-at (take i bytes) 0 (replicate (9 - (i + 1)) 0) (getD bytes i 0) i n
+    ∙ sym (append-assoc (take i bytes) (getD bytes i 0 ∷ []) (replicate (9 - (i + 1)) 0))
+    ∙ ap (λ (x : List ℕ). x ++ replicate (9 - (i + 1)) 0) (sym g)
+
+-- the state of bytes that are copied
+pub tidied-is : (bytes : List ℕ) (len : ℕ) (line : List ℕ) → len ≤ 9 → len ≤ length bytes → Copied bytes len line → record { line = line; len = len } ≡ stateOf (take len bytes)
+tidied-is bytes len line h l e = λ i. record { line = same i; len = long i }
+  where
+    whole : keep (take len bytes) ≡ take len bytes
+    whole = take-all 9 (take len bytes) (simp length-take (omega arith))
+
+    long : len ≡ length (keep (take len bytes))
+    long = sym (ap length whole ∙ simp length-take (omega arith))
+
+    same : line ≡ keep (take len bytes) ++ replicate (9 - length (keep (take len bytes))) 0
+    same = e ∙ ap (λ (x : List ℕ). x ++ replicate (9 - len) 0) (sym whole) ∙ ap (λ (x : ℕ). keep (take len bytes) ++ replicate (9 - x) 0) long
+
+-- only what is kept counts
+state-kept : (u : List ℕ) → stateOf (keep u) ≡ stateOf u
+state-kept u = ap (λ (x : List ℕ). record { line = x ++ replicate (9 - length x) 0; len = length x }) (take-take 9 9 u (omega arith))
 
 -- ---- a block
 
-pub feed-says : (p : Pending) (s b : List ℕ) (m : ℕ) → m ≡ smaller (length b / lineRoom) (length s) → (q : Behind) (b′ : List ℕ) → BlockSays p s m b q b′ →
-    FeedSays p s b (record { state = record { line = q .line; len = q .len }; taken = m; length = q .at }) b′
-feed-says p s b m e q b′ t =
-    let f = taken-is s b m e in
-    let v : BlockSays p s (bytesFor s b) b q b′ = rw f at t in
+pub feed-says : (p : Pending) (s b : List ℕ) → length (p .line) ≡ 9 → (m : ℕ) → m ≡ smaller (length b / lineRoom) (length s) → (len : ℕ) → len ≡ smaller (p .len) 9 →
+    (v : List ℕ) (r : ℕ) (b′ : List ℕ) → BlockSays Answers 9 (take len (p .line)) (take m s) b v r b′ → (state : Pending) → state ≡ stateOf v →
+    FeedSays p s b (record { state = state; taken = m; length = r }) b′
+feed-says p s b l m e len f v r b′ t state g =
+    let i = taken-is s b m e in
+    let y : BlockSays Answers 9 (lineOf p) (take (bytesFor s b) s) b v r b′ = rw (line-take p l len f, i) at t in
     record {
-      text = v .text;
-      taken = f;
-      says = v .says;
-      state = λ i. record { line = v .line i; len = v .len i };
-      long = v .at;
-      bytes = v .bytes;
+      text = y .text;
+      taken = i;
+      says = y .says;
+      state = g ∙ ap stateOf (y .line) ∙ state-kept (under (lineOf p) (take (bytesFor s b) s));
+      long = y .long;
+      bytes = y .bytes;
     }
 
 -- ---- the end of the input
 
--- a line of some bytes is a last line
-last-some : (u : List ℕ) → 0 < length u → lastOf u ≡ u ∷ []
-unfolding lastOf
-last-some [] h = absurd (omega arith)
-last-some (b ∷ u) h = refl
-
-last-none : (u : List ℕ) → length u ≡ 0 → lastOf u ≡ []
-unfolding lastOf
-last-none [] h = refl
-last-none (b ∷ u) h = absurd (omega arith)
-
-module _ (p : Pending) (b : List ℕ) (l : length (p .line) ≡ 9) (m : ℕ) (e : m ≡ smaller (p .len) 9) where
-  -- how long it is
-  line-long : length (lineOf p) ≡ m
-  line-long = ap length (sym (line-take p l m e)) ∙ simp length-take (omega (arith, e, smaller-right (p .len) 9))
-
-  -- no line is under way
-  pub end-none : lineRoom ≤ length b → m ≡ 0 → EndSays p b 0 b
-  end-none h z = last h [] (rw (last-none (lineOf p) (line-long ∙ z)) done) refl refl
-
-  -- a last line
-  pub end-some : lineRoom ≤ length b → (m ≡ 0 → ⊥) → (r : ℕ) (b′ : List ℕ) → AnswerSays (take m (p .line)) b 0 r b′ → EndSays p b r b′
-  end-some h z r b′ a =
-      let s : Answers (lineOf p) (a .text) = rw (line-take p l m e) at (a .says) in
-      let o : 0 + length (a .text) ≡ length (a .text) = omega arith in
-      last h (a .text) (rw (last-some (lineOf p) (omega (arith, line-long, z))) (texts-one (lineOf p) (a .text) s)) (a .placed .next ∙ o)
-      (a .placed .bytes ∙ rw o at (sets-eq (a .text) b 0 (omega (arith, answer-short (lineOf p) (a .text) s))))
+pub end-says : (p : Pending) (b : List ℕ) → length (p .line) ≡ 9 → lineRoom ≤ length b → (len : ℕ) → len ≡ smaller (p .len) 9 → (r : ℕ) (b′ : List ℕ) →
+    stream.EndSays Answers (take len (p .line)) b r b′ → EndSays p b r b′
+end-says p b l h len f r b′ t =
+    let y : stream.EndSays Answers (lineOf p) b r b′ = rw (line-take p l len f) at t in
+    last h (y .text) (y .says) (y .long) (y .bytes)

@@ -21,10 +21,10 @@ use Rattle.limits_spec.proofs.Given.{listable-within}
 use Rattle.plan_spec.specs.Plan.{PlanSays}
 use Rattle.plan.proofs.Plans.{plan-number}
 use Rattle.how_many_spec.specs.Says.{most}
+use Rattle.stream_spec.specs.Blocks.{Puts}
 use Rattle.report_spec.specs.Lines.{countsLine, Answers, counted, refused}
 use Rattle.report_spec.specs.Blocks.{lineRoom}
-use Rattle.report_laws.proofs.Room.{refused-short}
-use Rattle.report_answers_inner.specs.Says.{AnswerSays}
+use Rattle.report_laws.proofs.Room.{refused-short, counts-short, answer-short}
 
 -- two numbers, a space and a newline
 pub length-counts : (x y : ℕ) → length (countsLine x y) ≡ length (decimal x) + length (decimal y) + 2
@@ -44,9 +44,9 @@ module _ (limit : ℕ) (s : List ℕ) (p : Planned) (says : PlanSays limit s p) 
 -- by the report's
 module _ (s : List ℕ) (p : Planned) (says : PlanSays most s p) where
   -- a refusal's line is what the line prints
-  pub answer-refused : (r : Refusal) → p ≡ Refused r → (b : List ℕ) (at x : ℕ) (b′ : List ℕ) → Placed b at (refusedLine (numberOf r)) x b′ → AnswerSays s b at x b′
-  answer-refused r e b at x b′ q = record { text = refusedLine (numberOf r); says = refused r (rw e at says) refl; placed = q }
+  pub answer-refused : (r : Refusal) → p ≡ Refused r → (b : List ℕ) (at x : ℕ) (b′ : List ℕ) → Placed b at (refusedLine (numberOf r)) x b′ → Puts (Answers s) lineRoom b at x b′
+  answer-refused r e b at x b′ q = record { text = refusedLine (numberOf r); says = refused r (rw e at says) refl; short = answer-short s (refusedLine (numberOf r)) (refused r (rw e at says) refl); placed = q }
 
   -- and so is that of two numbers
-  pub answer-counted : (k n : ℕ) → p ≡ Accepted k n → (b : List ℕ) (at x : ℕ) (b′ : List ℕ) → Placed b at (countsLine (howMany necklace n k) (howMany lyndon n k)) x b′ → AnswerSays s b at x b′
-  answer-counted k n e b at x b′ q = record { text = countsLine (howMany necklace n k) (howMany lyndon n k); says = counted k n (rw e at says) refl; placed = q }
+  pub answer-counted : (k n : ℕ) → p ≡ Accepted k n → (b : List ℕ) (at x : ℕ) (b′ : List ℕ) → Placed b at (countsLine (howMany necklace n k) (howMany lyndon n k)) x b′ → Puts (Answers s) lineRoom b at x b′
+  answer-counted k n e b at x b′ q = record { text = countsLine (howMany necklace n k) (howMany lyndon n k); says = counted k n (rw e at says) refl; short = counts-short k n (accepted-few most s p says k n e (omega arith)); placed = q }

@@ -12,9 +12,9 @@ ghost use Rattle.limits_spec.specs.Limits.{Listable};
 ghost use Rattle.text_spec.specs.Text.{refusedLine};
 ghost use Rattle.text_spec.specs.Put.{Placed};
 ghost use Rattle.how_many_spec.specs.Says.{most};
-ghost use Rattle.report_spec.specs.Lines.{countsLine};
+ghost use Rattle.stream_spec.specs.Blocks.{Puts};
+ghost use Rattle.report_spec.specs.Lines.{countsLine, Answers};
 ghost use Rattle.report_spec.specs.Blocks.{lineRoom};
-ghost use Rattle.report_answers_inner.specs.Says.{AnswerSays};
 
 // Two numbers, a space between them, and a newline.
 fn place_counts(buf: &mut [u8], at: usize, x: usize, y: usize) -> usize
@@ -50,7 +50,7 @@ fn place_refusal(buf: &mut [u8], at: usize, r: Refusal) -> usize
 // What a line prints, its newline left out or not.
 pub fn place_answer(line: &[u8], buf: &mut [u8], at: usize) -> usize
     requires { ⌜ at + lineRoom ≤ length (now buf) ⌝ }
-    ensures { λ r. ⌜ AnswerSays (now (line .entry)) (now (buf .entry)) at r (now (buf .exit)) ⌝ }
+    ensures { λ r. ⌜ Puts (Answers (now (line .entry))) lineRoom (now (buf .entry)) at r (now (buf .exit)) ⌝ }
 {
     match plan::plan_line(line, MOST) {
         Planned::Refused(r) => place_refusal(buf, at, r),

@@ -1,8 +1,7 @@
 -- Only the first 9 bytes of a line tell what it prints.
---     kept-on         what is kept of a line and a byte more
 --     plan-kept       the plan of a line is that of its first 9 bytes (the other way: `plan`, First.plan-first)
 --     answer-keep     so what a line prints is what its first 9 bytes print
---     answer-kept     and two lines with the same first 9 bytes print the same
+--     report-tells    and no other byte of it tells
 use Prim.Native.Nat.{ℕ, zero, suc, _<_, _≤_}
 use mathlib.Core.Path.{_≡_, refl, sym, ap, _∙_}
 use mathlib.Core.List.{List, [], _∷_, _++_}
@@ -17,18 +16,10 @@ use Rattle.line_spec.proofs.Lines.{line-short}
 use Rattle.plan_spec.specs.Plan.{malformed, spelt, PlanSays}
 use Rattle.plan_spec.proofs.First.{plan-first}
 use Rattle.how_many_spec.specs.Says.{most}
+use Rattle.stream_spec.specs.Texts.{Tells}
 use Rattle.report_spec.specs.Lines.{Answers, counted, refused}
 use Rattle.report_spec.specs.Blocks.{keep}
-
--- what is kept of what is kept and a byte more
-kept-more : (m : ℕ) (u : List ℕ) (b : ℕ) → take m (take m u ++ (b ∷ [])) ≡ take m (u ++ (b ∷ []))
-kept-more zero u b = refl
-kept-more (suc m) [] b = refl
-kept-more (suc m) (a ∷ u) b = ap (λ (x : List ℕ). a ∷ x) (kept-more m u b)
-
--- lines with the same first bytes keep them when a byte is added
-pub kept-on : (u v : List ℕ) (b : ℕ) → keep u ≡ keep v → keep (u ++ (b ∷ [])) ≡ keep (v ++ (b ∷ []))
-kept-on u v b e = sym (kept-more 9 u b) ∙ ap (λ (x : List ℕ). keep (x ++ (b ∷ []))) e ∙ kept-more 9 v b
+use Rattle.report_spec.proofs.Unique.{one-text}
 
 module _ (s : List ℕ) where
   -- a line that spells two numbers is kept whole
@@ -59,6 +50,6 @@ module _ (s : List ℕ) where
   keep-answer t (counted k n p e) = counted k n (plan-kept most (Accepted k n) p) e
   keep-answer t (refused r p e) = refused r (plan-kept most (Refused r) p) e
 
--- two lines with the same first 9 bytes print the same
-pub answer-kept : (u v t : List ℕ) → keep u ≡ keep v → Answers u t → Answers v t
-answer-kept u v t e p = answer-keep v t (rw e at (keep-answer u t p))
+-- a line prints one text, and its first 9 bytes tell which
+pub report-tells : Tells Answers 9
+report-tells = record { some = omega arith; one = one-text; first = answer-keep; kept = keep-answer }

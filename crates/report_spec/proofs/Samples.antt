@@ -1,37 +1,11 @@
--- Lines and texts worked out by hand.
---     cut-samples       the lines of small inputs
+-- A text worked out by hand.
 --     counts-sample     the line of 2 4
 use mathlib.Core.Path.{_≡_, refl}
 use mathlib.Core.List.{List, [], _∷_, _++_}
 use Prim.Native.Nat.{ℕ}
 use Rattle.text_spec.specs.Ascii.{ascii}
 use Rattle.text_spec.specs.Decimal.{decimal, decimalIn}
-use Rattle.report_spec.specs.Lines.{countsLine, ended, under, lastOf, linesFrom, lines}
-
--- no input, a newline alone, a last line with and without newline, a blank line between two, and a carriage return, which is no newline
-pub no-lines : lines [] ≡ []
-unfolding lines linesFrom ended under lastOf
-no-lines = refl
-
-pub blank : lines (ascii "\n") ≡ [] ∷ []
-unfolding lines linesFrom ended under lastOf
-blank = refl
-
-pub closed : lines (ascii "2 4\n") ≡ ascii "2 4" ∷ []
-unfolding lines linesFrom ended under lastOf
-closed = refl
-
-pub unended : lines (ascii "2 4") ≡ ascii "2 4" ∷ []
-unfolding lines linesFrom ended under lastOf
-unended = refl
-
-pub three : lines (ascii "2 4\n\nx") ≡ ascii "2 4" ∷ [] ∷ ascii "x" ∷ []
-unfolding lines linesFrom ended under lastOf
-three = refl
-
-pub returned : lines (ascii "2 4\r\n") ≡ ascii "2 4\r" ∷ []
-unfolding lines linesFrom ended under lastOf
-returned = refl
+use Rattle.report_spec.specs.Lines.{countsLine}
 
 -- 6 necklaces, 3 Lyndon words
 pub counts-sample : countsLine 6 3 ≡ ascii "6 3\n"

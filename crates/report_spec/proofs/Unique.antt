@@ -1,6 +1,5 @@
 -- An input prints one text, and a state, a block and a buffer determine the answer and every byte of the buffer.
 --     one-text       a line prints one text
---     one-texts      and so do lines, one after another
 --     one-report     and so does an input
 --     one-feed, one-end    a block that is taken, and the end of the input: the answer and the buffer afterwards
 use Prim.Native.Nat.{ℕ}
@@ -17,9 +16,12 @@ use Rattle.limits_spec.specs.declared.Planned.{Planned}
 use Rattle.limits_spec.specs.declared.Planned.the-variants.{Accepted, Refused}
 use Rattle.plan_spec.proofs.Unique.{one-plan}
 use Rattle.how_many_spec.specs.Says.{most}
+use Rattle.stream_spec.specs.Lines.{ended, under, lastOf, lines}
+use Rattle.stream_spec.specs.Texts.{Texts}
+use Rattle.stream_spec.proofs.Unique as stream
 use Rattle.report_spec.specs.declared.Pending.{Pending}
 use Rattle.report_spec.specs.declared.Fed.{Fed}
-use Rattle.report_spec.specs.Lines.{countsLine, Answers, counted, refused, ended, under, lastOf, lines, Texts, done, more, Reports}
+use Rattle.report_spec.specs.Lines.{countsLine, Answers, counted, refused, Reports}
 use Rattle.report_spec.specs.Blocks.{lineRoom, lineOf, stateOf, bytesFor, FeedSays, EndSays, small, last}
 
 -- the text of a plan
@@ -35,10 +37,8 @@ one-text s t u (refused r p e) (counted j m q f) = e ∙ ap textOf (one-plan mos
 one-text s t u (refused r p e) (refused x q f) = e ∙ ap textOf (one-plan most s (Refused r) (Refused x) p q) ∙ sym f
 
 -- lines print one text
-pub one-texts : (ls : List (List ℕ)) (t u : List ℕ) → Texts ls t → Texts ls u → t ≡ u
-one-texts [] t u done done = refl
-one-texts (s ∷ ls) t u (more {t = a} {u = x} p q) (more {t = b} {u = y} f g) =
-    ap (λ (z : List ℕ). z ++ x) (one-text s a b p f) ∙ ap (λ (z : List ℕ). b ++ z) (one-texts ls x y q g)
+one-texts : (ls : List (List ℕ)) (t u : List ℕ) → Texts Answers ls t → Texts Answers ls u → t ≡ u
+one-texts ls t u p q = stream.one-texts Answers one-text ls t u p q
 
 -- an input prints one text
 pub one-report : (s t u : List ℕ) → Reports s t → Reports s u → t ≡ u

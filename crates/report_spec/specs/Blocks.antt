@@ -18,7 +18,9 @@ use lib.Dec.{ltb}
 use lib.ListN.{length, take, drop, replicate}
 use Rattle.report_spec.specs.declared.Pending.{Pending}
 use Rattle.report_spec.specs.declared.Fed.{Fed}
-use Rattle.report_spec.specs.Lines.{ended, under, lastOf, Texts}
+use Rattle.stream_spec.specs.Lines.{ended, under, lastOf}
+use Rattle.stream_spec.specs.Texts.{Texts}
+use Rattle.report_spec.specs.Lines.{Answers}
 
 abbrev pub lineRoom : ℕ
 lineRoom = 22
@@ -39,7 +41,7 @@ bytesFor s b = elim (ltb (length b / lineRoom) (length s)) [ true ↦ length b /
 pub record FeedSays (p : Pending) (s b : List ℕ) (r : Fed) (b′ : List ℕ) : Type 0 where
   pub text : List ℕ
   pub taken : r .taken ≡ bytesFor s b
-  pub says : Texts (ended (lineOf p) (take (bytesFor s b) s)) text
+  pub says : Texts Answers (ended (lineOf p) (take (bytesFor s b) s)) text
   pub state : r .state ≡ stateOf (under (lineOf p) (take (bytesFor s b) s))
   pub long : r .length ≡ length text
   pub bytes : b′ ≡ text ++ drop (length text) b
@@ -47,7 +49,7 @@ pub record FeedSays (p : Pending) (s b : List ℕ) (r : Fed) (b′ : List ℕ) :
 -- the end of the input
 pub data EndSays (p : Pending) (b : List ℕ) (r : ℕ) (b′ : List ℕ) : Type 0 where
   small : length b < lineRoom → r ≡ 0 → b′ ≡ b → EndSays p b r b′
-  last : lineRoom ≤ length b → (text : List ℕ) → Texts (lastOf (lineOf p)) text → r ≡ length text → b′ ≡ text ++ drop (length text) b → EndSays p b r b′
+  last : lineRoom ≤ length b → (text : List ℕ) → Texts Answers (lastOf (lineOf p)) text → r ≡ length text → b′ ≡ text ++ drop (length text) b → EndSays p b r b′
 
 -- ---- a run
 

@@ -1,11 +1,29 @@
 -- What the program reads: the output for what was read is that for the whole input, and it lies within the buffer.
+--     input-full, input-ended, input-by    where the buffer is full, where the input ended, by what was read
+--     input-inside                         the output lies within the buffer
 use Prim.Native.Nat.{ℕ, _≤_}
+use mathlib.Core.Path.{_≡_, ap}
 use mathlib.Core.List.{List}
+use native.Mathlib.Omega.{arith}
 use lib.ListN.{length, take}
 use Rattle.set_text_spec.specs.Prints.{Printed}
 use Rattle.set_text_spec.proofs.First.{printed-first}
 use Rattle.set_text_spec.proofs.Unique.{printed-inside, printed-length}
+use Rattle.program_reading_inner.specs.declared.Most.{Most}
+use Rattle.program_reading_inner.specs.declared.Most.the-variants as M
 use Rattle.set_program_inner.specs.Says.{lineBytes, InputSays}
 
-pub input-output : (line : List ℕ) (got : ℕ) (b : List ℕ) (r : ℕ) (b′ : List ℕ) → lineBytes ≤ length line → Printed (take got line) b r b′ → InputSays line got b r b′
-input-output line got b r b′ h p = record { inside = printed-inside (take got line) b r b′ p; long = printed-length (take got line) b r b′ p; output = λ s e. printed-first (length line) s h b r b′ (rw e at p) }
+module _ (line b : List ℕ) (r : ℕ) (b′ : List ℕ) where
+  pub input-full : lineBytes ≤ length line → Printed line b r b′ → InputSays M.Full line b r b′
+  input-full h p = record { inside = printed-inside line b r b′ p; long = printed-length line b r b′ p; output = λ s e. printed-first (length line) s h b r b′ (rw e p) }
+
+  pub input-ended : (got : ℕ) → Printed (take got line) b r b′ → InputSays (M.Ended got) line b r b′
+  input-ended got p = record { inside = printed-inside (take got line) b r b′ p; long = printed-length (take got line) b r b′ p; output = p }
+
+  pub input-by : (most m : Most) → most ≡ m → InputSays m line b r b′ → InputSays most line b r b′
+  input-by most m e p = rw e p
+
+  pub input-inside : (most : Most) → InputSays most line b r b′ → (r ≤ length b) × (length b′ ≡ length b)
+  input-inside M.Full p = (p .inside, p .long)
+  input-inside (M.Ended got) p = (p .inside, p .long)
+  input-inside M.Failed p = (omega (arith, p .0), ap length (p .1))

@@ -1,20 +1,25 @@
 -- What the part of the program that makes the bytes promises.
---     ReadOf line got s     of the input s the first `got` bytes of `line` were read: all of s, or as many as there was room for
---     InputSays             the output for any input of which that was read; it lies within the buffer
+--     OutputOf P b r b′     an output of which P holds, of a buffer b that holds b′ afterwards, and that it lies within it
+--     InputSays             the output for any input of which that was read to `line`; none, and the buffer as it was, where a read failed
 use Prim.Native.Nat.{ℕ, _≤_}
 use mathlib.Core.Path.{_≡_}
 use mathlib.Core.List.{List}
 use lib.ListN.{length, take}
 use Rattle.set_text_spec.specs.Prints.{Printed}
+use Rattle.program_reading_inner.specs.declared.Most.{Most}
+use Rattle.program_reading_inner.specs.declared.Most.the-variants as M
+use Rattle.program_reading_inner.specs.Says.{Begins}
 
 -- a line has at most 16 bytes, so 17 tell
 abbrev pub lineBytes : ℕ
 lineBytes = 17
 
-abbrev pub ReadOf : List ℕ → ℕ → List ℕ → Type 0
-ReadOf line got s = take got line ≡ take (length line) s
-
-pub record InputSays (line : List ℕ) (got : ℕ) (b : List ℕ) (r : ℕ) (b′ : List ℕ) : Type 0 where
+pub record OutputOf (P : Type 0) (b : List ℕ) (r : ℕ) (b′ : List ℕ) : Type 0 where
   pub inside : r ≤ length b
   pub long : length b′ ≡ length b
-  pub output : (s : List ℕ) → ReadOf line got s → Printed s b r b′
+  pub output : P
+
+abbrev pub InputSays : Most → List ℕ → List ℕ → ℕ → List ℕ → Type 0
+InputSays M.Full line b r b′ = OutputOf ((s : List ℕ) → Begins s line → Printed s b r b′) b r b′
+InputSays (M.Ended got) line b r b′ = OutputOf (Printed (take got line) b r b′) b r b′
+InputSays M.Failed line b r b′ = (r ≡ 0) × (b′ ≡ b)

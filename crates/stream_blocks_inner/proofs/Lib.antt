@@ -1,3 +1,2 @@
--- The bytes of a line under way (Holding), and a block byte after byte (Taking).
-pub mod Holding
-pub mod Taking
+-- The smaller of two numbers (Smaller).
+pub mod Smaller

@@ -1,2 +1,2 @@
--- What taking bytes promises (Says).
+-- The smaller of two numbers (Says). What taking bytes promises stands in `stream_spec`, specs/Blocks.
 pub mod Says

@@ -1,15 +1,15 @@
-// The bytes of a block, one after another: the line under way, and the texts of the lines that end (02, request f). No public calls: crate `report` sees to the room.
+// The bytes of a block, one after another: the line under way, and the texts of the lines that end. No public calls.
 
-use report_spec::Pending;
+use stream_asking_inner::Kind;
 ghost use Prim.Native.Nat.{_+_, _*_, _≤_};
 ghost use mathlib.Core.Path.{_≡_};
-ghost use lib.ListN.{length};
-ghost use Rattle.report_spec.specs.Blocks.{lineRoom};
-ghost use Rattle.stream_blocks_inner.specs.Says.{Tidy, smaller, TidiedSays, ByteSays, BlockSays};
+ghost use lib.ListN.{length, take};
+ghost use Rattle.stream_spec.specs.Blocks.{ByteSays, BlockSays, EndSays};
+ghost use Rattle.stream_asking_inner.specs.Says.{Said, mostOf, roomOf};
+ghost use Rattle.stream_blocks_inner.specs.Says.{smaller};
 
-// Behind some bytes of a block: the line under way, as in `Pending`, and the place behind the texts.
+// Behind some bytes: how many bytes of the line under way are held, and the place behind the texts.
 pub struct Behind {
-    pub line: [u8; 9],
     pub len: usize,
     pub at: usize,
 }
@@ -24,60 +24,52 @@ pub fn smaller_of(a: usize, b: usize) -> usize
     b
 }
 
-// The line under way of any state, with 0 behind it, and no texts.
-fn tidied(p: Pending) -> Behind
-    ensures { λ r. ⌜ TidiedSays p r ⌝ }
+// One byte more of a line whose first `len` bytes are held. A newline ends it; of a line that is too long the rest is passed over.
+fn take_byte(kind: Kind, line: &mut [u8], len: usize, b: u8, buf: &mut [u8], at: usize) -> Behind
+    requires { ⌜ length (now line) ≡ mostOf kind ⌝ }
+    requires { ⌜ len ≤ length (now line) ⌝ }
+    requires { ⌜ at + roomOf kind ≤ length (now buf) ⌝ }
+    ensures { λ r. ⌜ r .len ≤ length (now (line .exit)) ⌝ }
+    ensures { λ r. ⌜ ByteSays (Said kind) (length (now (line .entry))) (roomOf kind) (take len (now (line .entry))) at b (now (buf .entry)) (take (r .len) (now (line .exit))) (r .at) (now (buf .exit)) ⌝ }
 {
-    let old = p.line;
-    let len = smaller_of(p.len, 9);
-    let mut line = [0u8; 9];
-    let mut i = 0;
-    while i < len {
-        line[i] = old[i];
-        i += 1;
-    }
-    Behind { line, len, at: 0 }
-}
-
-// One byte more. A newline ends the line; of a line that is too long the rest is passed over.
-fn take_byte(q: Behind, b: u8, buf: &mut [u8]) -> Behind
-    requires { ⌜ Tidy (q .line) (q .len) ⌝ }
-    requires { ⌜ q .at + lineRoom ≤ length (now buf) ⌝ }
-    ensures { λ r. ⌜ ByteSays q b (now (buf .entry)) r (now (buf .exit)) ⌝ }
-{
-    let mut line = q.line;
-    let len = q.len;
-    let at = q.at;
     if b == b'\n' {
-        let next = report_answers_inner::place_answer(&line[..len], buf, at);
-        return Behind {
-            line: [0u8; 9],
-            len: 0,
-            at: next,
-        };
+        let next = stream_asking_inner::place_text(kind, &line[..len], buf, at);
+        return Behind { len: 0, at: next };
     }
-    if len < 9 {
+    if len < line.len() {
         line[len] = b;
-        return Behind {
-            line,
-            len: len + 1,
-            at,
-        };
+        return Behind { len: len + 1, at };
     }
-    q
+    Behind { len, at }
 }
 
-// The first bytes of a block, up to `end`.
-pub fn take_bytes(p: Pending, block: &[u8], end: usize, buf: &mut [u8]) -> Behind
-    requires { ⌜ end ≤ length (now block) ⌝ }
-    requires { ⌜ end * lineRoom ≤ length (now buf) ⌝ }
-    ensures { λ r. ⌜ BlockSays p (now (block .entry)) end (now (buf .entry)) r (now (buf .exit)) ⌝ }
+// A block, for which there is room: the texts of the lines that end in it stand at the beginning of the buffer.
+pub fn take_bytes(kind: Kind, line: &mut [u8], len: usize, block: &[u8], buf: &mut [u8]) -> Behind
+    requires { ⌜ length (now line) ≡ mostOf kind ⌝ }
+    requires { ⌜ len ≤ length (now line) ⌝ }
+    requires { ⌜ length (now block) * roomOf kind ≤ length (now buf) ⌝ }
+    ensures { λ r. ⌜ r .len ≤ length (now (line .exit)) ⌝ }
+    ensures { λ r. ⌜ BlockSays (Said kind) (mostOf kind) (take len (now (line .entry))) (now (block .entry)) (now (buf .entry)) (take (r .len) (now (line .exit))) (r .at) (now (buf .exit)) ⌝ }
 {
-    let mut q = tidied(p);
+    let mut m = len;
+    let mut at = 0;
     let mut i = 0;
-    while i < end {
-        q = take_byte(q, block[i], buf);
+    while i < block.len() {
+        let q = take_byte(kind, line, m, block[i], buf, at);
+        m = q.len;
+        at = q.at;
         i += 1;
     }
-    q
+    Behind { len: m, at }
+}
+
+// The end of the input: the text of a last line that has no newline, at the beginning of the buffer, and how long it is.
+pub fn place_last(kind: Kind, line: &[u8], buf: &mut [u8]) -> usize
+    requires { ⌜ roomOf kind ≤ length (now buf) ⌝ }
+    ensures { λ r. ⌜ EndSays (Said kind) (now (line .entry)) (now (buf .entry)) r (now (buf .exit)) ⌝ }
+{
+    if line.len() == 0 {
+        return 0;
+    }
+    stream_asking_inner::place_text(kind, line, buf, 0)
 }

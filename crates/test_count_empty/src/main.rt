@@ -1,5 +1,7 @@
 // The report program run with no input: it prints nothing.
 
+use stream_asking_inner::Kind;
+
 fn main() {
-    report_program_inner::run();
+    stream_program_inner::run(Kind::Count);
 }

@@ -5,7 +5,7 @@ ghost use Rattle.text_spec.specs.Text.{twoNumbers, firstLine, ringLine, lastLin
 ghost use Rattle.text_spec.specs.Put.{Placed};
 
 // A word, x, a second word, y and a newline.
-fn place_two(buf: &mut [u8], at: usize, head: &[u8], x: usize, middle: &[u8], y: usize) -> usize
+pub fn place_two(buf: &mut [u8], at: usize, head: &[u8], x: usize, middle: &[u8], y: usize) -> usize
     requires { ⌜ at + length (twoNumbers (now head) x (now middle) y) ≤ length (now buf) ⌝ }
     ensures { λ r. ⌜ Placed (now (buf .entry)) at (twoNumbers (now (head .entry)) x (now (middle .entry)) y) r (now (buf .exit)) ⌝ }
 {

@@ -1,28 +1,80 @@
 -- `listing_program_inner::first_of_input` meets its contract. The bytes that were read decide.
+use mathlib.Core.Path.{_≡_, refl}
 use native.Mathlib.Omega.{arith}
-use lib.ListN.{length-take}
+use lib.ListN.{length, length-take}
+use Rattle.program_reading_inner.specs.declared.Most.the-variants.{Full, Ended, Failed}
+use Rattle.program_reading_inner.specs.Says.{MostSays}
+use Rattle.listing_program_inner.proofs.Input.{input-full, input-by}
 use borrow.Author.Needs.{needs}
-use Rattle.listing_program_inner.proofs.Input.{input-first}
 use Rattle.listing_program_inner.proofs.first_of_input.Statement.{statement}
 use Rattle.listing_program_inner.proofs.first_of_input.Tie as tie
 
-slice-aggregate-first-page : tie.Need-slice-aggregate-first-page
-slice-aggregate-first-page c = simp length-take (omega arith)
+enum-told : tie.Need-enum-told
+enum-told c = search needs
 
 first-page-requires : tie.Need-first-page-requires
 first-page-requires c κs = search needs
+
+enum-known-most : tie.Need-enum-known-most
+enum-known-most c = search needs
+
+slice-aggregate-first-page : tie.Need-slice-aggregate-first-page
+slice-aggregate-first-page c =
+    let most = c .before .before .most in
+    let args = c .before .before .before .before .before .before .args in
+    let pre = c .before .before .before .before .before .before .pre in
+    let m : MostSays (Ended (most .given .0 .0)) (args .line .now) = rw (most .given .1) at (pre .1) in
+    simp length-take (omega (arith, m))
+
+first-page-requires-2 : tie.Need-first-page-requires-2
+first-page-requires-2 c κs = search needs
+
+enum-told-2 : tie.Need-enum-told-2
+enum-told-2 c = search needs
+
+no-page-requires : tie.Need-no-page-requires
+no-page-requires c κs = search needs
 
 same-length : tie.Need-same-length
 same-length c = search needs
 
 returns : tie.Need-returns
-returns c = let g = c .before .before .before .before .before .before .before in let a = g .args in input-first (a .line .now) (a .got) (a .buf .now) _ _ (omega (arith, g .pre .0)) (c .before .before .first-page .ensures)
+returns c =
+    let args = c .before .before .before .before .before .before .before .before .args in
+    let enum-told = c .before .before .before .before .enum-told in
+    let pre = c .before .before .before .before .before .before .before .before .pre in
+    let first-page = c .before .before .first-page in
+    input-by (args .most) Full _ _ _ _ (enum-told .given .1) (input-full (args .line .now) (args .buf .now) _ _ (pre .0) (first-page .ensures))
+
+same-length-2 : tie.Need-same-length-2
+same-length-2 c = search needs
+
+returns-2 : tie.Need-returns-2
+returns-2 c =
+    let args = c .before .before .before .before .before .before .before .before .before .before .args in
+    let most = c .before .before .before .before .before .before .most in
+    let first-page2 = c .before .before .first-page2 in
+    input-by (args .most) (Ended (most .given .0 .0)) _ _ _ _ (most .given .1) (first-page2 .ensures)
+
+returns-3 : tie.Need-returns-3
+returns-3 c =
+    let args = c .before .before .before .before .before .args in
+    let enum-told2 = c .before .enum-told2 in
+    input-by (args .most) Failed _ _ _ _ (enum-told2 .given .1) (c .no-page .ensures .0, c .no-page .ensures .1, refl)
 
 pub first-of-input-spec : {M : Type 1} → statement M
 first-of-input-spec =
     tie.close
     (tie.spec
-    slice-aggregate-first-page
+    enum-told
     first-page-requires
+    enum-known-most
+    slice-aggregate-first-page
+    first-page-requires-2
+    enum-told-2
+    no-page-requires
     same-length
-    returns)
+    returns
+    same-length-2
+    returns-2
+    returns-3)

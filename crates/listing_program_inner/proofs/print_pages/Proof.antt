@@ -1,12 +1,13 @@
 -- `listing_program_inner::print_pages` meets its contract: the page stands in the buffer, and fewer pages follow each time.
 use Prim.Native.Nat.{_≤_}
-use mathlib.Core.Path.{_≡_, refl, _∙_}
+use mathlib.Core.Path.{_≡_, refl, sym, _∙_}
 use native.Mathlib.Omega.{arith}
 use lib.ListN.{length, length-take}
-use borrow.Author.Needs.{needs}
 use Rattle.listing_spec.specs.Paging.{lineRoom}
 use Rattle.listing_program_inner.specs.Says.{Turning}
-use Rattle.listing_program_inner.proofs.Turns.{paged-length, turning-next, pagesLeft, pages-fall}
+use Rattle.listing_program_inner.proofs.Turns.{paged-length, turning-next, pagesLeft, pages-fall, goes-bytes}
+use borrow.Author.Tests.{not-true, not-false}
+use borrow.Author.Needs.{needs}
 use Rattle.listing_program_inner.proofs.print_pages.Statement.{statement}
 use Rattle.listing_program_inner.proofs.print_pages.Tie as tie
 
@@ -20,34 +21,43 @@ loop-holds : tie.Need-loop-holds Inv-loop μ-loop
 loop-holds c = (omega arith, refl, c .before .pre .1)
 
 slice-reshare-prefix-write-all : tie.Need-slice-reshare-prefix-write-all Inv-loop μ-loop
-slice-reshare-prefix-write-all c = omega (arith, c .before .before .loop .inv .2 .inside)
+slice-reshare-prefix-write-all c = omega (arith, c .loop .inv .2 .inside)
 
 slice-aggregate-write-all : tie.Need-slice-aggregate-write-all Inv-loop μ-loop
-slice-aggregate-write-all c = simp length-take (omega (arith, c .before .before .before .loop .inv .2 .inside))
+slice-aggregate-write-all c = simp length-take (omega (arith, c .before .loop .inv .2 .inside))
 
 write-all-requires : tie.Need-write-all-requires Inv-loop μ-loop
 write-all-requires c κs = search needs
+
+goes-on-requires : tie.Need-goes-on-requires Inv-loop μ-loop
+goes-on-requires c κs = search needs
 
 same-length : tie.Need-same-length Inv-loop μ-loop
 same-length c = search needs
 
 returns : tie.Need-returns Inv-loop μ-loop
-returns c = search needs
+returns c = sym (c .before .goes-on .ensures) ∙ not-true _ (c .if1 .taken)
 
 next-page-requires : tie.Need-next-page-requires Inv-loop μ-loop
 next-page-requires c κs = search needs
 
 loop-less : tie.Need-loop-less Inv-loop μ-loop
-loop-less c = let l = c .before .before .before .before .before .before .before .before .before .loop in pages-fall (l .page) (l .buf) _ _ (l .inv .2 .stands) (l .inv .0) (c .before .before .before .before .before .before .before .if1 .taken) (c .before .before .next-page .ensures)
+loop-less c =
+    let loop = c .before .before .before .before .before .before .before .before .loop in
+    let write-all = c .before .before .before .before .before .before .write-all in
+    let goes-on = c .before .before .before .before .before .goes-on in
+    let if1 = c .before .before .before .before .if1 in
+    let next-page = c .before .before .next-page in
+    let l = loop in
+    pages-fall (l .page) (l .buf) _ _ (l .inv .2 .stands) (l .inv .0)
+    (goes-bytes (write-all .result) (l .page .length) (sym (goes-on .ensures) ∙ not-false _ (if1 .left))) (next-page .ensures)
 
 loop-again : tie.Need-loop-again Inv-loop μ-loop
-loop-again c = let l = c .before .before .before .before .before .before .before .before .before .loop in let p = c .before .before .next-page .ensures in let e = paged-length _ _ _ _ p in (omega (arith, l .inv .0), e ∙ l .inv .1, rw e (turning-next (l .page .state) (l .buf) _ _ (l .inv .2 .stands) p))
-
-same-length-2 : tie.Need-same-length-2 Inv-loop μ-loop
-same-length-2 c = search needs
-
-returns-2 : tie.Need-returns-2 Inv-loop μ-loop
-returns-2 c = search needs
+loop-again c =
+    let l = c .before .before .before .before .before .before .before .before .loop in
+    let p = c .before .before .next-page .ensures in
+    let e = paged-length _ _ _ _ p in
+    (omega (arith, l .inv .0), e ∙ l .inv .1, rw e (turning-next (l .page .state) (l .buf) _ _ (l .inv .2 .stands) p))
 
 pub print-pages-spec : {M : Type 1} → statement M
 print-pages-spec =
@@ -59,10 +69,9 @@ print-pages-spec =
     slice-reshare-prefix-write-all
     slice-aggregate-write-all
     write-all-requires
+    goes-on-requires
     same-length
     returns
     next-page-requires
     loop-less
-    loop-again
-    same-length-2
-    returns-2)
+    loop-again)

@@ -2,10 +2,9 @@
 use mathlib.Core.Path.{_≡_, refl}
 use native.Mathlib.Omega.{arith}
 use lib.ListN.{length, length-take}
-use Rattle.text_spec.proofs.Put.{placed-length}
 use Rattle.report_spec.specs.Blocks.{small}
-use Rattle.stream_blocks_inner.proofs.Holding.{smaller-right}
-use Rattle.report.proofs.Making.{end-none, end-some}
+use Rattle.stream_blocks_inner.proofs.Smaller.{smaller-right}
+use Rattle.report.proofs.Making.{end-says}
 use borrow.Author.Needs.{needs}
 use Rattle.report.proofs.finish.Statement.{statement}
 use Rattle.report.proofs.finish.Tie as tie
@@ -16,39 +15,31 @@ returns c = small (c .if1 .taken) refl refl
 smaller-of-requires : tie.Need-smaller-of-requires
 smaller-of-requires c κs = search needs
 
-returns-2 : tie.Need-returns-2
-returns-2 c =
-    let a = c .before .before .before .before .before .args in
-    let m = c .before .smaller-of in
-    let l : length (c .before .before .before .before .before .args .p .line) ≡ 9 = search needs in
-    end-none (a .p) (a .buf .now) l (m .result) (m .ensures) (c .before .before .before .if1 .left) (c .if2 .taken)
-
 array-share-prefix-line : tie.Need-array-share-prefix-line
 array-share-prefix-line c =
-    let m = c .before .smaller-of in
+    let l : length (c .before .before .before .before .args .p .line) ≡ 9 = search needs in
+    omega (arith, c .smaller-of .ensures, smaller-right (c .before .before .before .before .args .p .len) 9)
+
+slice-aggregate-place-last : tie.Need-slice-aggregate-place-last
+slice-aggregate-place-last c =
     let l : length (c .before .before .before .before .before .args .p .line) ≡ 9 = search needs in
-    omega (arith, m .ensures, smaller-right (c .before .before .before .before .before .args .p .len) 9)
+    simp length-take (omega (arith, c .before .smaller-of .ensures, smaller-right (c .before .before .before .before .before .args .p .len) 9))
 
-slice-aggregate-place-answer : tie.Need-slice-aggregate-place-answer
-slice-aggregate-place-answer c =
-    let m = c .before .before .smaller-of in
-    let l : length (c .before .before .before .before .before .before .args .p .line) ≡ 9 = search needs in
-    simp length-take (omega (arith, m .ensures, smaller-right (c .before .before .before .before .before .before .args .p .len) 9))
-
-place-answer-requires : tie.Need-place-answer-requires
-place-answer-requires c κs = omega (arith, c .before .before .before .before .before .if1 .left)
+place-last-requires : tie.Need-place-last-requires
+place-last-requires c κs = c .before .before .before .before .if1 .left
 
 same-length : tie.Need-same-length
-same-length c = placed-length _ _ _ _ _ (c .before .before .place-answer .ensures .placed)
+same-length c = search needs
 
-returns-3 : tie.Need-returns-3
-returns-3 c =
-    let a = c .before .before .before .before .before .before .before .before .before .before .args in
-    let m = c .before .before .before .before .before .before .smaller-of in
-    let l : length (c .before .before .before .before .before .before .before .before .before .before .args .p .line) ≡ 9 = search needs in
-    end-some (a .p) (a .buf .now) l (m .result) (m .ensures) (c .before .before .before .before .before .before .before .before .if1 .left) (c .before .before .before .before .before .if2 .left) _ _ (c .before .before .place-answer .ensures)
+returns-2 : tie.Need-returns-2
+returns-2 c =
+    let args = c .before .before .before .before .before .before .before .before .before .args in
+    let if1 = c .before .before .before .before .before .before .before .if1 in
+    let smaller-of = c .before .before .before .before .before .smaller-of in
+    let place-last = c .before .before .place-last in
+    let a = args in
+    let l : length (args .p .line) ≡ 9 = search needs in
+    end-says (a .p) (a .buf .now) l (if1 .left) _ (smaller-of .ensures) _ _ (place-last .ensures)
 
 pub finish-spec : {M : Type 1} → statement M
-finish-spec =
-    tie.close
-    (tie.spec returns smaller-of-requires returns-2 array-share-prefix-line slice-aggregate-place-answer place-answer-requires same-length returns-3)
+finish-spec = tie.close (tie.spec returns smaller-of-requires array-share-prefix-line slice-aggregate-place-last place-last-requires same-length returns-2)

@@ -1,28 +1,76 @@
 -- `set_program_inner::output_of_input` meets its contract. The bytes that were read decide.
+use mathlib.Core.Path.{_≡_, refl}
 use native.Mathlib.Omega.{arith}
-use lib.ListN.{length-take}
+use lib.ListN.{length, length-take}
+use Rattle.program_reading_inner.specs.declared.Most.the-variants.{Full, Ended, Failed}
+use Rattle.program_reading_inner.specs.Says.{MostSays}
+use Rattle.set_program_inner.proofs.Input.{input-full, input-ended, input-by}
 use borrow.Author.Needs.{needs}
-use Rattle.set_program_inner.proofs.Input.{input-output}
 use Rattle.set_program_inner.proofs.output_of_input.Statement.{statement}
 use Rattle.set_program_inner.proofs.output_of_input.Tie as tie
 
-slice-aggregate-print-set : tie.Need-slice-aggregate-print-set
-slice-aggregate-print-set c = simp length-take (omega arith)
+enum-told : tie.Need-enum-told
+enum-told c = search needs
 
 print-set-requires : tie.Need-print-set-requires
 print-set-requires c κs = search needs
+
+enum-known-most : tie.Need-enum-known-most
+enum-known-most c = search needs
+
+slice-aggregate-print-set : tie.Need-slice-aggregate-print-set
+slice-aggregate-print-set c =
+    let most = c .before .before .most in
+    let args = c .before .before .before .before .before .before .args in
+    let pre = c .before .before .before .before .before .before .pre in
+    let m : MostSays (Ended (most .given .0 .0)) (args .line .now) = rw (most .given .1) at (pre .1) in
+    simp length-take (omega (arith, m))
+
+print-set-requires-2 : tie.Need-print-set-requires-2
+print-set-requires-2 c κs = search needs
+
+enum-told-2 : tie.Need-enum-told-2
+enum-told-2 c = search needs
 
 same-length : tie.Need-same-length
 same-length c = search needs
 
 returns : tie.Need-returns
-returns c = let g = c .before .before .before .before .before .before .before in let a = g .args in input-output (a .line .now) (a .got) (a .buf .now) _ _ (omega (arith, g .pre .0)) (c .before .before .print-set .ensures)
+returns c =
+    let args = c .before .before .before .before .before .before .before .before .args in
+    let enum-told = c .before .before .before .before .enum-told in
+    let pre = c .before .before .before .before .before .before .before .before .pre in
+    let print-set = c .before .before .print-set in
+    input-by _ _ _ _ (args .most) Full (enum-told .given .1) (input-full (args .line .now) (args .buf .now) _ _ (pre .0) (print-set .ensures))
+
+same-length-2 : tie.Need-same-length-2
+same-length-2 c = search needs
+
+returns-2 : tie.Need-returns-2
+returns-2 c =
+    let most = c .before .before .before .before .before .before .most in
+    let args = c .before .before .before .before .before .before .before .before .before .before .args in
+    let print-set2 = c .before .before .print-set2 in
+    let n = most .given .0 .0 in
+    input-by _ _ _ _ (args .most) (Ended n) (most .given .1) (input-ended (args .line .now) (args .buf .now) _ _ n (print-set2 .ensures))
+
+returns-3 : tie.Need-returns-3
+returns-3 c =
+    let args = c .before .before .before .before .args in
+    input-by (args .line .now) _ _ _ (args .most) Failed (c .enum-told2 .given .1) (refl, refl)
 
 pub output-of-input-spec : {M : Type 1} → statement M
 output-of-input-spec =
     tie.close
     (tie.spec
-    slice-aggregate-print-set
+    enum-told
     print-set-requires
+    enum-known-most
+    slice-aggregate-print-set
+    print-set-requires-2
+    enum-told-2
     same-length
-    returns)
+    returns
+    same-length-2
+    returns-2
+    returns-3)

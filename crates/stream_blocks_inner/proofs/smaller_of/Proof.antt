@@ -1,5 +1,5 @@
 -- `stream_blocks_inner::smaller_of` meets its contract.
-use Rattle.stream_blocks_inner.proofs.Holding.{smaller-first, smaller-second}
+use Rattle.stream_blocks_inner.proofs.Smaller.{smaller-first, smaller-second}
 use borrow.Author.Needs.{needs}
 use Rattle.stream_blocks_inner.proofs.smaller_of.Statement.{statement}
 use Rattle.stream_blocks_inner.proofs.smaller_of.Tie as tie

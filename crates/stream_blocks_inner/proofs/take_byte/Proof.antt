@@ -1,49 +1,68 @@
 -- `stream_blocks_inner::take_byte` meets its contract.
-use mathlib.Core.Path.{_≡_}
+use mathlib.Core.Path.{_≡_, refl}
 use native.Mathlib.Omega.{arith}
-use lib.ListN.{length, length-take}
+use lib.ListN.{length, length-take, length-set}
 use Rattle.text_spec.proofs.Put.{placed-length}
-use Rattle.stream_blocks_inner.proofs.Taking.{byte-ends, byte-kept, byte-passed}
+use Rattle.stream_spec.specs.Blocks.{ends}
+use Rattle.stream_spec.proofs.Taking.{byte-kept, byte-passed}
 use borrow.Author.Needs.{needs}
 use Rattle.stream_blocks_inner.proofs.take_byte.Statement.{statement}
 use Rattle.stream_blocks_inner.proofs.take_byte.Tie as tie
 
-array-share-prefix-line : tie.Need-array-share-prefix-line
-array-share-prefix-line c = let l : length (c .before .before .before .args .q .line) ≡ 9 = search needs in omega (arith, c .before .before .before .pre .0 .fits)
+slice-reshare-prefix-place-text : tie.Need-slice-reshare-prefix-place-text
+slice-reshare-prefix-place-text c = omega (arith, c .before .before .before .pre .1 .0)
 
-slice-aggregate-place-answer : tie.Need-slice-aggregate-place-answer
-slice-aggregate-place-answer c = let l : length (c .before .before .before .before .args .q .line) ≡ 9 = search needs in simp length-take (omega (arith, c .before .before .before .before .pre .0 .fits))
+slice-aggregate-place-text : tie.Need-slice-aggregate-place-text
+slice-aggregate-place-text c = simp length-take (omega (arith, c .before .before .before .before .pre .1 .0))
 
-place-answer-requires : tie.Need-place-answer-requires
-place-answer-requires c κs = search needs
+place-text-requires : tie.Need-place-text-requires
+place-text-requires c κs = omega (arith, c .before .before .before .before .before .pre .1 .1)
 
 same-length : tie.Need-same-length
-same-length c = placed-length _ _ _ _ _ (c .before .before .place-answer .ensures .placed)
+same-length c = search needs
+
+same-length-2 : tie.Need-same-length-2
+same-length-2 c = placed-length _ _ _ _ _ (c .before .before .place-text .ensures .placed)
 
 returns : tie.Need-returns
-returns c =
-    let a = c .before .before .before .before .before .before .before .before .args in
-    byte-ends (a .q) (a .b) (a .buf .now) (c .before .before .before .before .before .if1 .taken) _ _ (c .before .before .place-answer .ensures)
+returns c = (omega arith, ends (c .before .before .before .before .before .if1 .taken) refl (c .before .before .place-text .ensures))
 
-array-write-line : tie.Need-array-write-line
-array-write-line c = let l : length (c .before .before .before .before .args .q .line) ≡ 9 = search needs in omega arith
+slice-write-line : tie.Need-slice-write-line
+slice-write-line c = search needs
 
-add-t17 : tie.Need-add-t17
-add-t17 c = search needs
+add-t15 : tie.Need-add-t15
+add-t15 c = search needs
+
+same-length-3 : tie.Need-same-length-3
+same-length-3 c = search needs
 
 returns-2 : tie.Need-returns-2
 returns-2 c =
-    let a = c .before .before .before .before .args in
-    let l : length (c .before .before .before .before .args .q .line) ≡ 9 = search needs in
-    byte-kept (a .q) (a .b) (a .buf .now) (c .before .if1 .left) (c .before .before .before .before .pre .0) l (c .if2 .taken)
+    let args = c .before .before .before .before .args in
+    let a = args in (
+      simp length-set (omega (arith, c .if2 .taken)),
+      byte-kept _ _ (a .line .now) (a .len) (a .at) (a .b) (a .buf .now) (c .before .if1 .left) (c .if2 .taken),
+    )
 
 returns-3 : tie.Need-returns-3
 returns-3 c =
-    let a = c .before .before .before .before .args in
-    let l : length (c .before .before .before .before .args .q .line) ≡ 9 = search needs in
-    byte-passed (a .q) (a .b) (a .buf .now) (c .before .if1 .left) (c .before .before .before .before .pre .0) l (c .if2 .left)
+    let args = c .before .before .before .before .args in
+    let pre = c .before .before .before .before .pre in
+    let a = args in
+    (pre .1 .0, byte-passed _ _ (a .line .now) (a .len) (a .at) (a .b) (a .buf .now) (c .before .if1 .left) (pre .1 .0) (c .if2 .left))
 
 pub take-byte-spec : {M : Type 1} → statement M
 take-byte-spec =
     tie.close
-    (tie.spec array-share-prefix-line slice-aggregate-place-answer place-answer-requires same-length returns array-write-line add-t17 returns-2 returns-3)
+    (tie.spec
+    slice-reshare-prefix-place-text
+    slice-aggregate-place-text
+    place-text-requires
+    same-length
+    same-length-2
+    returns
+    slice-write-line
+    add-t15
+    same-length-3
+    returns-2
+    returns-3)

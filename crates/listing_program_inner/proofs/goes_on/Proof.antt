@@ -1,0 +1,15 @@
+-- `listing_program_inner::goes_on` meets its contract.
+use Rattle.listing_program_inner.proofs.Turns.{goes-unwritten, goes-written}
+use borrow.Author.Tests.{not-true, not-false}
+use borrow.Author.Needs.{needs}
+use Rattle.listing_program_inner.proofs.goes_on.Statement.{statement}
+use Rattle.listing_program_inner.proofs.goes_on.Tie as tie
+
+returns : tie.Need-returns
+returns c = goes-unwritten (c .before .args .wrote) (c .before .args .length) (not-true _ (c .if1 .taken))
+
+returns-2 : tie.Need-returns-2
+returns-2 c = goes-written (c .before .args .wrote) (c .before .args .length) (not-false _ (c .if1 .left))
+
+pub goes-on-spec : {M : Type 1} → statement M
+goes-on-spec = tie.close (tie.spec returns returns-2)

@@ -1,0 +1,2 @@
+-- What a program says on standard error (Text).
+pub mod Text

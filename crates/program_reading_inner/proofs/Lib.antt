@@ -1,0 +1,2 @@
+-- What the system's answer says (Telling).
+pub mod Telling

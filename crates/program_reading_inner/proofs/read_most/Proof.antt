@@ -1,0 +1,104 @@
+-- `program_reading_inner::read_most` meets its contract. The measure is the room that is left.
+use Prim.Native.Nat.{ℕ, _-_, _≤_}
+use mathlib.Core.Path.{_≡_, refl, sym, _∙_}
+use native.Mathlib.Omega.{arith}
+use lib.ListN.{length}
+use Rattle.program_reading_inner.proofs.Telling.{got-some, says-ended}
+use borrow.Rule.Slice.PartMut.{same-len-mid, mid-len}
+use borrow.Author.Needs.{needs}
+use Rattle.program_reading_inner.proofs.read_most.Statement.{statement}
+use Rattle.program_reading_inner.proofs.read_most.Tie as tie
+
+abbrev Inv-loop : tie.InvT-loop
+Inv-loop buf₀ at₀ buf at = (at ≤ length buf) × (length buf ≡ length buf₀)
+
+abbrev μ-loop : tie.MeasureT-loop
+μ-loop buf₀ at₀ buf at = length buf₀ - at
+
+loop-holds : tie.Need-loop-holds Inv-loop μ-loop
+loop-holds c = search needs
+
+sub-read-some : tie.Need-sub-read-some Inv-loop μ-loop
+sub-read-some c = search needs
+
+part-read-some-start : tie.Need-part-read-some-start Inv-loop μ-loop
+part-read-some-start c = search needs
+
+part-read-some-end : tie.Need-part-read-some-end Inv-loop μ-loop
+part-read-some-end c = search needs
+
+read-some-requires : tie.Need-read-some-requires Inv-loop μ-loop
+read-some-requires c κs = search needs
+
+enum-known-got : tie.Need-enum-known-got Inv-loop μ-loop
+enum-known-got c = search needs
+
+ended-requires : tie.Need-ended-requires Inv-loop μ-loop
+ended-requires c κs = search needs
+
+same-length : tie.Need-same-length Inv-loop μ-loop
+same-length c =
+    let loop = c .before .before .before .before .before .before .before .loop in
+    let read-some = c .before .before .before .before .read-some in
+    same-len-mid {X = ℕ} (loop .at) (length (loop .buf) - loop .at) (loop .buf) (read-some .last .0) (read-some .kept .0) ∙ loop .inv .1
+
+returns : tie.Need-returns Inv-loop μ-loop
+returns c =
+    let loop = c .before .before .before .before .before .before .before .loop in
+    let read-some = c .before .before .before .before .read-some in
+    let loop-test = c .before .before .before .before .before .before .loop-test in
+    let l = loop in
+    says-ended (read-some .result) (l .at) _ _ (c .ended .ensures)
+    (omega (arith, loop-test .taken, same-len-mid (l .at) (length (l .buf) - l .at) (l .buf) (read-some .last .0) (read-some .kept .0), l .inv .0))
+
+add-at : tie.Need-add-at Inv-loop μ-loop
+add-at c =
+    let l = c .before .before .before .before .before .before .before .before .loop in
+    let r = c .before .before .before .before .before .read-some in
+    let g = got-some (r .result) (c .before .got .given .0 .0) (r .last .0) (c .before .got .given .1) (r .ensures) in
+    let m = r .kept .0 ∙ mid-len {X = ℕ} (l .at) (length (l .buf)) (l .buf) (omega arith) in
+    omega (arith, g, m, l .inv)
+
+loop-less : tie.Need-loop-less Inv-loop μ-loop
+loop-less c =
+    let l = c .before .before .before .before .before .before .before .before .loop in
+    let r = c .before .before .before .before .before .read-some in
+    let g = got-some (r .result) (c .before .got .given .0 .0) (r .last .0) (c .before .got .given .1) (r .ensures) in
+    let m = r .kept .0 ∙ mid-len {X = ℕ} (l .at) (length (l .buf)) (l .buf) (omega arith) in
+    omega (arith, g, m, l .inv)
+
+loop-again : tie.Need-loop-again Inv-loop μ-loop
+loop-again c =
+    let l = c .before .before .before .before .before .before .before .before .loop in
+    let r = c .before .before .before .before .before .read-some in
+    let g = got-some (r .result) (c .before .got .given .0 .0) (r .last .0) (c .before .got .given .1) (r .ensures) in
+    let m = r .kept .0 ∙ mid-len {X = ℕ} (l .at) (length (l .buf)) (l .buf) (omega arith) in
+    let s = same-len-mid (l .at) (length (l .buf) - l .at) (l .buf) (r .last .0) (r .kept .0) in
+    (omega (arith, g, m, s, l .inv), s ∙ l .inv .1)
+
+same-length-2 : tie.Need-same-length-2 Inv-loop μ-loop
+same-length-2 c = c .before .loop .inv .1
+
+returns-2 : tie.Need-returns-2 Inv-loop μ-loop
+returns-2 c = search needs
+
+pub read-most-spec : {M : Type 1} → statement M
+read-most-spec =
+    tie.close
+    (tie.spec
+    Inv-loop
+    μ-loop
+    loop-holds
+    sub-read-some
+    part-read-some-start
+    part-read-some-end
+    read-some-requires
+    enum-known-got
+    ended-requires
+    same-length
+    returns
+    add-at
+    loop-less
+    loop-again
+    same-length-2
+    returns-2)

@@ -1,0 +1,39 @@
+-- `program_reading_inner::stream_ending` meets its contract.
+use Rattle.program_reading_inner.proofs.Telling.{stream-unwritten, stream-read}
+use borrow.Author.Tests.{not-true, not-false}
+use borrow.Author.Needs.{needs}
+use Rattle.program_reading_inner.proofs.stream_ending.Statement.{statement}
+use Rattle.program_reading_inner.proofs.stream_ending.Tie as tie
+
+returns : tie.Need-returns
+returns c = stream-unwritten (c .before .args .wrote) (c .before .args .got) (not-true _ (c .if1 .taken))
+
+enum-told : tie.Need-enum-told
+enum-told c = search needs
+
+enum-told-2 : tie.Need-enum-told-2
+enum-told-2 c = search needs
+
+enum-told-3 : tie.Need-enum-told-3
+enum-told-3 c = search needs
+
+returns-2 : tie.Need-returns-2
+returns-2 c =
+    let args = c .before .before .before .args in
+    let if1 = c .before .before .if1 in
+    stream-read (args .wrote) (args .got) _ (not-false _ (if1 .left)) (c .enum-told .given .1)
+
+returns-3 : tie.Need-returns-3
+returns-3 c =
+    let args = c .before .before .before .args in
+    let if1 = c .before .before .if1 in
+    stream-read (args .wrote) (args .got) _ (not-false _ (if1 .left)) (c .enum-told2 .given .1)
+
+returns-4 : tie.Need-returns-4
+returns-4 c =
+    let args = c .before .before .before .args in
+    let if1 = c .before .before .if1 in
+    stream-read (args .wrote) (args .got) _ (not-false _ (if1 .left)) (c .enum-told3 .given .1)
+
+pub stream-ending-spec : {M : Type 1} → statement M
+stream-ending-spec = tie.close (tie.spec returns enum-told enum-told-2 enum-told-3 returns-2 returns-3 returns-4)

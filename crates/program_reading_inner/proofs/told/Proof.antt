@@ -1,0 +1,27 @@
+-- `program_reading_inner::told` meets its contract.
+use mathlib.Core.Path.{_≡_}
+use native.Mathlib.Omega.{arith}
+use mir.Facts.{toZ-ofZ}
+use Rattle.program_reading_inner.proofs.Telling.{told-failed, told-over, told-bytes}
+use borrow.Author.Needs.{needs}
+use Rattle.program_reading_inner.proofs.told.Statement.{statement}
+use Rattle.program_reading_inner.proofs.told.Tie as tie
+
+returns : tie.Need-returns
+returns c = let g = c .before .before in told-failed (g .args .got) _ (toZ-ofZ (g .fits .got)) (c .if1 .taken)
+
+count-requires : tie.Need-count-requires
+count-requires c κs = search needs
+
+returns-2 : tie.Need-returns-2
+returns-2 c =
+    let g = c .before .before .before .before in
+    told-over (g .args .got) _ (toZ-ofZ (g .fits .got)) (c .before .before .if1 .left) _ (g .pre) _ (c .before .count .ensures .1) (c .if2 .taken)
+
+returns-3 : tie.Need-returns-3
+returns-3 c =
+    let g = c .before .before .before .before in
+    told-bytes (g .args .got) _ (toZ-ofZ (g .fits .got)) (c .before .before .if1 .left) _ (g .pre) _ (c .before .count .ensures .1) (c .if2 .left)
+
+pub told-spec : {M : Type 1} → statement M
+told-spec = tie.close (tie.spec returns count-requires returns-2 returns-3)

@@ -1,0 +1,2 @@
+-- What reading promises (Says).
+pub mod Says

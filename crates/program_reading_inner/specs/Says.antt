@@ -1,0 +1,55 @@
+-- What reading promises, and how a run ended by it.
+--     toldOf got             what the system's answer says: -1 that the read failed, 0 that the input is over
+--     GotSays r s            some bytes, and no more than the block s has
+--     endedOf got at         behind `at` bytes a read that gave none: the input is over, or the read failed
+--     MostSays r s           the buffer s is full, or the input ended before it was
+--     Begins s line          the buffer `line` holds the beginning of the input s, as much as there is room for
+--     lineEnding wrote most  the run of a program that reads its input and writes one text for it; wrote: could all of it be written?
+--     streamEnding wrote got the run of one that answers its lines as they come: it ends behind bytes only where it can count no more reads
+use Prim.Native.Nat.{ℕ, zero, suc, _<_, _≤_}
+use mathlib.Core.Path.{_≡_}
+use mathlib.Core.Bool.{Bool, true, false}
+use mathlib.Core.List.{List}
+use lib.ListN.{length, take}
+use lib.IntN.{ℤ, pos, negsuc}
+use Rattle.program_ending_inner.specs.declared.Ending.{Ending}
+use Rattle.program_ending_inner.specs.declared.Ending.the-variants as E
+use Rattle.program_reading_inner.specs.declared.Got.{Got}
+use Rattle.program_reading_inner.specs.declared.Got.the-variants.{Bytes, Over, Failed}
+use Rattle.program_reading_inner.specs.declared.Most.{Most}
+use Rattle.program_reading_inner.specs.declared.Most.the-variants as M
+
+abbrev pub toldOf : ℤ → Got
+toldOf (negsuc k) = Failed
+toldOf (pos zero) = Over
+toldOf (pos (suc k)) = Bytes (suc k)
+
+abbrev pub GotSays : Got → List ℕ → Type 0
+GotSays (Bytes n) s = (0 < n) × (n ≤ length s) × (n ≡ length (take n s))
+GotSays Over s = Unit
+GotSays Failed s = Unit
+
+abbrev pub endedOf : Got → ℕ → Most
+endedOf (Bytes n) at = M.Failed
+endedOf Over at = M.Ended at
+endedOf Failed at = M.Failed
+
+abbrev pub MostSays : Most → List ℕ → Type 0
+MostSays M.Full s = Unit
+MostSays (M.Ended n) s = n < length s
+MostSays M.Failed s = Unit
+
+abbrev pub Begins : List ℕ → List ℕ → Type 0
+Begins s line = take (length line) s ≡ line
+
+abbrev pub lineEnding : Bool → Most → Ending
+lineEnding false most = E.Unwritten
+lineEnding true M.Full = E.Whole
+lineEnding true (M.Ended n) = E.Whole
+lineEnding true M.Failed = E.Unread
+
+abbrev pub streamEnding : Bool → Got → Ending
+streamEnding false got = E.Unwritten
+streamEnding true (Bytes n) = E.TooLong
+streamEnding true Over = E.Whole
+streamEnding true Failed = E.Unread

@@ -1,2 +1,0 @@
--- What placing a line's text promises (Says).
-pub mod Says

@@ -1,2 +1,0 @@
--- That a block for which there is room is taken whole (Whole).
-pub mod Whole

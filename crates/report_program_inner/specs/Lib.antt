@@ -1,2 +1,0 @@
--- What taking a block whole promises (Says).
-pub mod Says

@@ -1,0 +1,2 @@
+-- That the first bytes of a line tell (Telling).
+pub mod Telling

@@ -1,0 +1,30 @@
+-- Only the first bytes of a line tell what it prints.
+--     only                                  there is one program as yet; where there are more, each arm of a match tells which it is
+--     said-tells                            by the program
+--     one-said, said-prints, said-anyhow    what an input prints, however it was cut
+use Prim.Native.Nat.{ℕ}
+use mathlib.Core.Path.{_≡_, refl}
+use mathlib.Core.List.{List, []}
+use Rattle.stream_spec.specs.Texts.{Prints, Tells, Run}
+use Rattle.stream_spec.proofs.Unique.{one-prints}
+use Rattle.stream_spec.proofs.Cut.{run-prints, cut-anyhow}
+use Rattle.report_laws.proofs.Kept.{report-tells}
+use Rattle.stream_asking_inner.specs.declared.Kind.{Kind}
+use Rattle.stream_asking_inner.specs.declared.Kind.the-variants.{Count}
+use Rattle.stream_asking_inner.specs.Says.{Said, mostOf}
+
+pub only : (kind : Kind) → kind ≡ Count
+only Count = refl
+
+pub said-tells : (kind : Kind) → Tells (Said kind) (mostOf kind)
+said-tells Count = report-tells
+
+-- an input prints one text, and a run prints it, however the input was cut
+pub one-said : (kind : Kind) (s t u : List ℕ) → Prints (Said kind) s t → Prints (Said kind) s u → t ≡ u
+one-said kind s t u p q = one-prints (Said kind) (said-tells kind .one) s t u p q
+
+pub said-prints : (kind : Kind) (s text : List ℕ) → Run (Said kind) (mostOf kind) [] s text → Prints (Said kind) s text
+said-prints kind s text r = run-prints (Said kind) (mostOf kind) (said-tells kind) s text r
+
+pub said-anyhow : (kind : Kind) (s t u : List ℕ) → Run (Said kind) (mostOf kind) [] s t → Run (Said kind) (mostOf kind) [] s u → t ≡ u
+said-anyhow kind s t u p q = cut-anyhow (Said kind) (mostOf kind) (said-tells kind) s t u p q

@@ -1,0 +1,2 @@
+-- What a line prints, by the program (Says).
+pub mod Says

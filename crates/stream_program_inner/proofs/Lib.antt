@@ -1,0 +1,2 @@
+-- Why a program stops (Stopping).
+pub mod Stopping

@@ -1,0 +1,86 @@
+-- What is written behind a read, and why a program stops.
+--     turn-bytes, turn-over, turn-failed, turn-inside       what stands in the buffer behind a read
+--     goes-unwritten, goes-over, goes-failed, goes-bytes    by what a read gave, and whether its texts were written
+--     goes-less                                             where it goes on, another read can be counted
+--     take-room, line-room                                  there is room for the texts of what was read
+--     first-room, first-long                                the first bytes of a buffer, as a block and as a line
+--     got-inside                                            what was read is inside the block
+use Prim.Native.Nat.{ℕ, suc, _+_, _*_, _<_, _≤_}
+use mathlib.Core.Path.{_≡_, refl, sym, ap, _∙_}
+use mathlib.Core.Bool.{Bool, true, false, not, false≢true}
+use mathlib.Core.List.{List}
+use native.Mathlib.Omega.{arith}
+use native.Mathlib.Nat.{mul-le-mul-right}
+use lib.Dec.{ltb}
+use lib.ListN.{length, take, length-take}
+use borrow.Author.Tests.{ltb-true, ltb-false}
+use Rattle.words.proofs.Split.{passes, fails, test}
+use Rattle.program_reading_inner.specs.declared.Got.{Got}
+use Rattle.program_reading_inner.specs.declared.Got.the-variants.{Bytes, Over, Failed}
+use Rattle.program_reading_inner.specs.Says.{GotSays}
+use Rattle.stream_spec.specs.Blocks.{BlockSays, EndSays}
+use Rattle.stream_asking_inner.specs.declared.Kind.{Kind}
+use Rattle.stream_asking_inner.specs.Says.{Said, mostOf}
+use Rattle.stream_program_inner.specs.Says.{TurnSays, GoesOn}
+
+pub goes-unwritten : (wrote : Bool) (got : Got) (reads : ℕ) → wrote ≡ false → GoesOn wrote got reads false
+goes-unwritten wrote got reads e = rw e refl
+
+pub goes-over : (wrote : Bool) (got : Got) (reads : ℕ) → wrote ≡ true → got ≡ Over → GoesOn wrote got reads false
+goes-over wrote got reads e f = rw (e, f) refl
+
+pub goes-failed : (wrote : Bool) (got : Got) (reads : ℕ) → wrote ≡ true → got ≡ Failed → GoesOn wrote got reads false
+goes-failed wrote got reads e f = rw (e, f) refl
+
+pub goes-bytes : (wrote : Bool) (got : Got) (reads n : ℕ) → reads < 18446744073709551616 → wrote ≡ true → got ≡ Bytes n → GoesOn wrote got reads (ltb reads 18446744073709551615)
+goes-bytes wrote got reads n h e f =
+    rw (e, f) (elim (test (ltb reads 18446744073709551615)) [
+      | passes x ↦ rw x (ltb-true reads 18446744073709551615 x)
+      | fails x ↦ rw x (omega (arith, ltb-false reads 18446744073709551615 x))
+    ])
+
+-- where it goes on
+pub goes-less : (wrote : Bool) (got : Got) (reads : ℕ) → GoesOn wrote got reads true → reads < 18446744073709551615
+goes-less true (Bytes n) reads h = h
+goes-less true Over reads h = absurd (false≢true (sym h))
+goes-less true Failed reads h = absurd (false≢true (sym h))
+goes-less false got reads h = absurd (false≢true (sym h))
+
+-- there is room for the texts of what was read
+block-room : (m n room most : ℕ) → m ≤ n → n * room ≤ most → m * room ≤ most
+block-room m n room most l h = omega (arith, mul-le-mul-right {m = m} {n = n} room l)
+
+pub take-room : (n : ℕ) (s s₀ : List ℕ) (room most : ℕ) → n ≤ length s → length s ≡ length s₀ → length s₀ * room ≤ most → length (take n s) * room ≤ most
+take-room n s s₀ room most l e h = block-room (length (take n s)) (length s₀) room most (simp length-take (omega (arith, l, e))) h
+
+pub line-room : (n room most : ℕ) → 0 < n → n * room ≤ most → room ≤ most
+line-room n room most l h = let m = mul-le-mul-right {m = 1} {n = n} room l in omega (arith, m, h)
+
+-- what was read is inside the block
+pub got-inside : (got : Got) (n : ℕ) (s : List ℕ) → got ≡ Bytes n → GotSays got s → (n ≤ length s) × (n ≡ length (take n s))
+got-inside got n s e g = let h : GotSays (Bytes n) s = rw e at g in (h .1, h .2)
+
+-- the first n bytes of a block, as a block
+pub first-room : (n : ℕ) (s : List ℕ) (room most : ℕ) → n ≤ length s → 1 ≤ n → n * room ≤ most → (0 < length (take n s)) × (length (take n s) * room ≤ most)
+first-room n s room most l o h = let e : length (take n s) ≡ n = simp length-take (omega arith) in rw e (o, h)
+
+pub first-long : (n : ℕ) (s : List ℕ) (m : ℕ) → n ≤ length s → n ≡ m → length (take n s) ≡ m
+first-long n s m l e = simp length-take (omega (arith, l, e))
+
+-- ---- a turn
+
+module _ (kind : Kind) (u s b v : List ℕ) (r : ℕ) (b′ : List ℕ) where
+  pub turn-bytes : (got : Got) (n : ℕ) → got ≡ Bytes n → BlockSays (Said kind) (mostOf kind) u (take n s) b v r b′ → TurnSays kind got u s b v r b′
+  turn-bytes got n e t = rw e t
+
+  pub turn-over : (got : Got) → got ≡ Over → EndSays (Said kind) u b r b′ → TurnSays kind got u s b v r b′
+  turn-over got e t = rw e t
+
+  -- the texts are inside the buffer
+  pub turn-inside : (got : Got) → TurnSays kind got u s b v r b′ → r ≤ length b
+  turn-inside (Bytes n) t = t .inside
+  turn-inside Over t = t .inside
+  turn-inside Failed t = omega (arith, t .0)
+
+pub turn-failed : (kind : Kind) (got : Got) (u s b v : List ℕ) → got ≡ Failed → TurnSays kind got u s b v 0 b
+turn-failed kind got u s b v e = rw e (refl, refl)

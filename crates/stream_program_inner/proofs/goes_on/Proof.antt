@@ -1,0 +1,39 @@
+-- `stream_program_inner::goes_on` meets its contract.
+use native.Mathlib.Omega.{arith}
+use Rattle.stream_program_inner.proofs.Stopping.{goes-unwritten, goes-over, goes-failed, goes-bytes}
+use borrow.Author.Needs.{needs}
+use borrow.Author.Tests.{not-true, not-false}
+use Rattle.stream_program_inner.proofs.goes_on.Statement.{statement}
+use Rattle.stream_program_inner.proofs.goes_on.Tie as tie
+
+returns : tie.Need-returns
+returns c = let a = c .before .args in goes-unwritten (a .wrote) (a .got) (a .reads) (not-true _ (c .if1 .taken))
+
+enum-told : tie.Need-enum-told
+enum-told c = search needs
+
+enum-told-2 : tie.Need-enum-told-2
+enum-told-2 c = search needs
+
+enum-told-3 : tie.Need-enum-told-3
+enum-told-3 c = search needs
+
+returns-2 : tie.Need-returns-2
+returns-2 c =
+    let args = c .before .before .before .args in
+    let if1 = c .before .before .if1 in
+    let a = args in
+    goes-bytes (a .wrote) (a .got) (a .reads) (c .enum-told .given .0 .0) (search needs) (not-false _ (if1 .left)) (c .enum-told .given .1)
+
+returns-3 : tie.Need-returns-3
+returns-3 c =
+    let a = c .before .before .before .args in
+    goes-over (a .wrote) (a .got) (a .reads) (not-false _ (c .before .before .if1 .left)) (c .enum-told2 .given .1)
+
+returns-4 : tie.Need-returns-4
+returns-4 c =
+    let a = c .before .before .before .args in
+    goes-failed (a .wrote) (a .got) (a .reads) (not-false _ (c .before .before .if1 .left)) (c .enum-told3 .given .1)
+
+pub goes-on-spec : {M : Type 1} → statement M
+goes-on-spec = tie.close (tie.spec returns enum-told enum-told-2 enum-told-3 returns-2 returns-3 returns-4)
