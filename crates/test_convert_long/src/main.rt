@@ -1,4 +1,5 @@
-// The converting program run with a catalogue that has one byte more than it takes, 65,537, and is good throughout: it writes nothing to standard output.
+// The converting program run with a catalogue of 131,073 bytes, which takes three blocks: the first ends with a record, the second cuts one, which then begins the
+// third. All records are converted.
 
 fn main() {
     converter_program_inner::run();

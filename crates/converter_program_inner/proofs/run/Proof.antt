@@ -1,6 +1,7 @@
--- `converter_program_inner::run` is safe: the new catalogue has as much room as the old one.
+-- `converter_program_inner::run` is safe and ends.
 use native.Mathlib.Omega.{arith}
 use lib.ListN.{length-take}
+use Rattle.program_ending_inner.proofs.Unique.{say-within}
 use borrow.Author.Needs.{needs}
 use Rattle.converter_program_inner.proofs.run.Statement.{statement}
 use Rattle.converter_program_inner.proofs.run.Tie as tie
@@ -8,17 +9,29 @@ use Rattle.converter_program_inner.proofs.run.Tie as tie
 large-buffer-requires : tie.Need-large-buffer-requires
 large-buffer-requires c κs = search needs
 
-slice-aggregate-read-full : tie.Need-slice-aggregate-read-full
-slice-aggregate-read-full c = search needs
+large-buffer-requires-2 : tie.Need-large-buffer-requires-2
+large-buffer-requires-2 c κs = search needs
 
-read-full-requires : tie.Need-read-full-requires
-read-full-requires c κs = search needs
+slice-aggregate-go-through : tie.Need-slice-aggregate-go-through
+slice-aggregate-go-through c = search needs
 
-is-more-requires : tie.Need-is-more-requires
-is-more-requires c κs = search needs
+slice-aggregate-go-through-2 : tie.Need-slice-aggregate-go-through-2
+slice-aggregate-go-through-2 c = search needs
+
+go-through-requires : tie.Need-go-through-requires
+go-through-requires c κs = search needs
+
+slice-aggregate-say : tie.Need-slice-aggregate-say
+slice-aggregate-say c = search needs
+
+say-requires : tie.Need-say-requires
+say-requires c κs = search needs
+
+array-share-prefix-new : tie.Need-array-share-prefix-new
+array-share-prefix-new c = omega (arith, say-within _ _ _ _ (c .before .say .ensures), c .before .say .kept)
 
 slice-aggregate-write-all : tie.Need-slice-aggregate-write-all
-slice-aggregate-write-all c = search needs
+slice-aggregate-write-all c = simp length-take (omega (arith, say-within _ _ _ _ (c .before .before .say .ensures), c .before .before .say .kept))
 
 write-all-requires : tie.Need-write-all-requires
 write-all-requires c κs = search needs
@@ -26,42 +39,18 @@ write-all-requires c κs = search needs
 returns : tie.Need-returns
 returns c = search needs
 
-large-buffer-requires-2 : tie.Need-large-buffer-requires-2
-large-buffer-requires-2 c κs = search needs
-
-array-share-prefix-old : tie.Need-array-share-prefix-old
-array-share-prefix-old c = search needs
-
-slice-aggregate-convert : tie.Need-slice-aggregate-convert
-slice-aggregate-convert c = search needs
-
-array-borrow-prefix-new : tie.Need-array-borrow-prefix-new
-array-borrow-prefix-new c = search needs
-
-slice-aggregate-convert-2 : tie.Need-slice-aggregate-convert-2
-slice-aggregate-convert-2 c = let h = array-borrow-prefix-new (c .before) in simp length-take (omega (arith, h))
-
-convert-requires : tie.Need-convert-requires
-convert-requires c κs = search needs
-
-returns-2 : tie.Need-returns-2
-returns-2 c = search needs
-
 pub run-spec : {M : Type 1} → statement M
 run-spec =
     tie.close
     (tie.spec
     large-buffer-requires
-    slice-aggregate-read-full
-    read-full-requires
-    is-more-requires
+    large-buffer-requires-2
+    slice-aggregate-go-through
+    slice-aggregate-go-through-2
+    go-through-requires
+    slice-aggregate-say
+    say-requires
+    array-share-prefix-new
     slice-aggregate-write-all
     write-all-requires
-    returns
-    large-buffer-requires-2
-    array-share-prefix-old
-    slice-aggregate-convert
-    array-borrow-prefix-new
-    slice-aggregate-convert-2
-    convert-requires
-    returns-2)
+    returns)

@@ -1,0 +1,2 @@
+-- What the parts of the call promise (Says).
+pub mod Says

@@ -1,0 +1,65 @@
+-- `converter_program_inner::check_block` meets its contract.
+use native.Mathlib.Omega.{arith}
+use Rattle.converter_program_inner.proofs.Blocks.{place-room, check-done, check-on, check-refused}
+use borrow.Author.Needs.{needs}
+use Rattle.converter_program_inner.proofs.check_block.Statement.{statement}
+use Rattle.converter_program_inner.proofs.check_block.Tie as tie
+
+check-requires : tie.Need-check-requires
+check-requires c κs = search needs
+
+enum-known-r : tie.Need-enum-known-r
+enum-known-r c = search needs
+
+number-requires : tie.Need-number-requires
+number-requires c κs = search needs
+
+place-requires : tie.Need-place-requires
+place-requires c κs = search needs
+
+add-t10 : tie.Need-add-t10
+add-t10 c =
+    let args = c .before .before .before .before .before .before .before .args in
+    let r = c .before .before .before .r in
+    let check = c .before .before .before .before .before .check in
+    let pre = c .before .before .before .before .before .before .before .pre in
+    omega (arith, place-room (args .block .now) (args .last) _ (rw (r .given .1) at (check .ensures)), c .place .ensures, pre)
+
+enum-known-m : tie.Need-enum-known-m
+enum-known-m c = search needs
+
+returns : tie.Need-returns
+returns c =
+    let args = c .before .before .before .before .before .before .args in
+    let m = c .before .before .m in
+    let check = c .before .before .before .before .check in
+    check-done (args .at) (args .block .now) (args .block .now) _ (args .last) (c .if1 .taken) (rw (m .given .1) at (check .ensures))
+
+returns-2 : tie.Need-returns-2
+returns-2 c =
+    let args = c .before .before .before .before .before .before .before .args in
+    let r = c .before .before .before .r in
+    let check = c .before .before .before .before .before .check in
+    check-refused (args .at) (args .block .now) (args .block .now) (args .last) _ _ _ (rw (r .given .1) at (check .ensures))
+    (c .before .number .ensures) (c .place .ensures)
+
+returns-3 : tie.Need-returns-3
+returns-3 c =
+    let args = c .before .before .before .before .before .before .args in
+    let m = c .before .before .m in
+    let check = c .before .before .before .before .check in
+    check-on (args .at) (args .block .now) (args .block .now) _ (args .last) (c .if1 .left) (rw (m .given .1) at (check .ensures))
+
+pub check-block-spec : {M : Type 1} → statement M
+check-block-spec =
+    tie.close
+    (tie.spec
+    check-requires
+    enum-known-r
+    number-requires
+    place-requires
+    add-t10
+    enum-known-m
+    returns
+    returns-2
+    returns-3)

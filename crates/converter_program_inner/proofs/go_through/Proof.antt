@@ -1,0 +1,72 @@
+-- `converter_program_inner::go_through` meets its contract.
+use mathlib.Core.Path.{refl}
+use mathlib.Core.Bool.{false}
+use Rattle.converter_program_inner.specs.Says.ThroughSays.{nowhere, stopped}
+use Rattle.converter_program_inner.proofs.Blocks.{roomy-still}
+use Rattle.converter_program_inner.proofs.Times.{once-reached, once-stopped, through-whole}
+use borrow.Author.Needs.{needs}
+use Rattle.converter_program_inner.proofs.go_through.Statement.{statement}
+use Rattle.converter_program_inner.proofs.go_through.Tie as tie
+
+lseek-requires : tie.Need-lseek-requires
+lseek-requires c κs = search needs
+
+returns : tie.Need-returns
+returns c = nowhere refl
+
+go-once-requires : tie.Need-go-once-requires
+go-once-requires c κs = search needs
+
+enum-known-end : tie.Need-enum-known-end
+enum-known-end c = search needs
+
+write-to-requires : tie.Need-write-to-requires
+write-to-requires c κs =
+    let pre = c .before .before .before .before .before .before .before .before .before .before .before .before .before .before .before .before .pre in
+    let block = c .before .before .before .before .before .before .before .before .block in
+    let new = c .before .before .before .before .before .before .new in
+    roomy-still _ _ _ _ pre (block .given) (new .given)
+
+enum-known-t : tie.Need-enum-known-t
+enum-known-t c = search needs
+
+same-length : tie.Need-same-length
+same-length c = search needs
+
+same-length-2 : tie.Need-same-length-2
+same-length-2 c = search needs
+
+returns-2 : tie.Need-returns-2
+returns-2 c =
+    let go-once = c .before .before .before .before .before .before .before .before .before .before .before .before .before .before .go-once in
+    let end = c .before .before .before .before .before .before .before .before .end in
+    let write-to = c .before .before .before .before .write-to in
+    through-whole _ _ (once-reached false (go-once .result) _ (end .given .1) (go-once .ensures)) (write-to .ensures)
+
+same-length-3 : tie.Need-same-length-3
+same-length-3 c = search needs
+
+same-length-4 : tie.Need-same-length-4
+same-length-4 c = search needs
+
+returns-3 : tie.Need-returns-3
+returns-3 c =
+    let go-once = c .before .before .before .before .before .before .before .go-once in
+    stopped false (once-stopped false (go-once .result) _ (c .before .t .given .1) (go-once .ensures))
+
+pub go-through-spec : {M : Type 1} → statement M
+go-through-spec =
+    tie.close
+    (tie.spec
+    lseek-requires
+    returns
+    go-once-requires
+    enum-known-end
+    write-to-requires
+    enum-known-t
+    same-length
+    same-length-2
+    returns-2
+    same-length-3
+    same-length-4
+    returns-3)
