@@ -5,6 +5,7 @@ pub use home_spec::Homed;
 pub use home_spec::Told;
 use refusal::Checked;
 use refusal::Refusal;
+ghost use lib.Dec.{ltb};
 ghost use Rattle.refusal.specs.Calls.{oneReading, twoReadings};
 ghost use Rattle.rings.specs.Alike.{evenHanded, sameRing, apart};
 ghost use Rattle.home_spec.specs.Says.{HomeSays, ToldSays, DistanceSays};
@@ -66,5 +67,20 @@ pub fn apart(a: &[u8], b: &[u8], k: usize) -> Distance
     match check_readings_inner::check_pair(a, b, k) {
         Checked::Refused(r) => Distance::Refused(r),
         Checked::Good => Distance::Apart(home_nearest_inner::fewest_differing(a, b)),
+    }
+}
+
+// Whether a turn of one reading differs from the other at fewer than d places, that is, whether they are less than d apart; or refusal 1, 10, 2 or 3.
+pub fn nearer(a: &[u8], b: &[u8], k: usize, d: usize) -> Told
+    ensures { λ r. ⌜ ToldSays (twoReadings (now (a .entry)) (now (b .entry)) k) (ltb (apart (now (a .entry)) (now (b .entry))) d) r ⌝ }
+{
+    match check_readings_inner::check_pair(a, b, k) {
+        Checked::Refused(r) => Told::Refused(r),
+        Checked::Good => {
+            if home_nearest_inner::is_nearer(a, b, d) {
+                return Told::Yes;
+            }
+            Told::No
+        }
     }
 }

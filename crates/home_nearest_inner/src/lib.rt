@@ -1,8 +1,9 @@
 // How far apart two lent readings are. No public call: the calls of `home` check what these ask for.
 
 ghost use mathlib.Core.Path.{_≡_};
-ghost use Prim.Native.Nat.{_≤_, min};
+ghost use Prim.Native.Nat.{_≤_, _<_, min};
 ghost use lib.ListN.{length};
+ghost use lib.Dec.{ltb};
 ghost use Rattle.words.specs.Turn.{turn};
 ghost use Rattle.rings.specs.Alike.{differing, apart};
 
@@ -44,4 +45,19 @@ pub fn fewest_differing(a: &[u8], b: &[u8]) -> usize
         i += 1;
     }
     best
+}
+
+// Whether a and b are less than d apart. The first turn of a that differs from b at fewer places decides, and each is given up at d.
+pub fn is_nearer(a: &[u8], b: &[u8], d: usize) -> bool
+    requires { ⌜ (0 < length (now a)) × (length (now a) ≡ length (now b)) ⌝ }
+    ensures { λ r. ⌜ r ≡ ltb (apart (now (a .entry)) (now (b .entry))) d ⌝ }
+{
+    let mut j = 0;
+    while j < a.len() {
+        if differing_below(a, j, b, d) < d {
+            return true;
+        }
+        j += 1;
+    }
+    false
 }

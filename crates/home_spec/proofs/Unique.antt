@@ -1,6 +1,6 @@
 -- No call has two answers, the lent output included.
 --     one-homed       bringing home: one answer, and one output after it
---     one-told        same ring and even-handed
+--     one-told        same ring, even-handed and nearer
 --     one-distance    apart
 use Prim.Native.Nat.{ℕ}
 use mathlib.Core.Path.{_≡_, refl, sym, ap, _∙_}

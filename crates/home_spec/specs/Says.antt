@@ -1,4 +1,4 @@
--- What the calls of this crate promise (01, 'Rules the work stands on'; 'Refusal numbers': home 1, 2, 3, 4; same ring and apart 1, 10, 2, 3; even-handed 1, 2, 3).
+-- What the calls of this crate promise (01, 'Rules the work stands on'; 'Refusal numbers': home 1, 2, 3, 4; same ring, apart and nearer 1, 10, 2, 3; even-handed 1, 2, 3).
 --     HomeSays w k b r c        bringing w home: the answer r, where the output held b before and holds c after
 --     ToldSays a t r            a question with the checks a: the answer r, where t is the truth
 --     DistanceSays v w k r      how far apart v and w are: the answer r

@@ -1,6 +1,6 @@
 -- The loop of `choose`. The walk has come to a ring, and the choice from the Lyndon words above it, from those taken so far on, is the set.
---     Along n k d want w p t        that invariant: the walk w, the places p and the number taken t
---     started, along-start          the walk starts from the all-zero ring, which is taken where n is 1
+--     Along n k d want w p q t      that invariant: the walk w, the places p, their tallies q and the number taken t
+--     started, along-start          the walk starts from the all-zero ring, which is taken where n is 1, and then its tally is one of shade 0
 --     came, along-on, along-less    a step to a next Lyndon word, which is offered; fewer readings are above
 --     stops, along-ended            there is none: not full
 --     along-full                    there are enough
@@ -11,7 +11,7 @@ use mathlib.Core.Option.{none, some}
 use mathlib.Core.Logic.{⊎-elim}
 use mathlib.Core.List.{List, [], _∷_}
 use native.Mathlib.Omega.{arith}
-use lib.ListN.{length, getD, take, length-append}
+use lib.ListN.{length, getD, take, length-append, length-set}
 use lib.Seq.{ext-getD, getD-take, length-take-le}
 use lib.Dec.{eqb}
 use borrow.Author.Tests.{eq-eqb, ne-eqb}
@@ -19,8 +19,9 @@ use types.Run.{OneOf}
 use denote.Enum.Declared.{tagOf}
 use Rattle.walk_spec.proofs.Outcome.{the-type}
 use Rattle.words.specs.Order.{before}
+use Rattle.words.specs.Search.{tab}
 use Rattle.words.specs.Readings.{Sized, Shaded, Reading, readings, count, bit}
-use Rattle.words.proofs.Split.{lt, eq, gt, tri}
+use Rattle.words.proofs.Split.{passes, fails, test, lt, eq, gt, tri}
 use Rattle.rings.specs.Necklace.{lyndon}
 use Rattle.rings.specs.Prenecklace.{prenecklace}
 use Rattle.rings.specs.Steps.{nextOf}
@@ -35,6 +36,7 @@ use Rattle.walk_spec.specs.declared.Walk.{Walk}
 use Rattle.walk_spec.specs.declared.Started.{Started}
 use Rattle.walk_spec.specs.declared.Outcome.{Outcome}
 use Rattle.walk_spec.specs.declared.Outcome.the-variants.{Moved, Done, Refused}
+use Rattle.rings.specs.Counts.{occurs, countsOf}
 use Rattle.walk_spec.specs.Record.{ringOf, walkOf, walkAsked}
 use Rattle.walk_spec.specs.Says.{StartSays, StepSays, Onto, Ended}
 use Rattle.walk_record_laws.proofs.Good.{ring-of, walk-good}
@@ -44,20 +46,20 @@ use Rattle.set_spec.specs.Greedy.{greedy, picked}
 use Rattle.set_spec.specs.Places.{laid}
 use Rattle.set_pick_spec.specs.Order.{Askable}
 use Rattle.set_pick_spec.specs.Says.{Chosen}
-use Rattle.set_places_inner.specs.Says.{Fit, HoldsSet, Stocked, OfferSays}
+use Rattle.set_places_inner.specs.Says.{Fit, tallyAt, HoldsSet, Stocked, OfferSays}
 use Rattle.set_laws.proofs.Kept.{rest, rest-step, rest-end, lyndons-one, lyndons-more}
 use Rattle.set_laws.proofs.Choice.{greedy-none, greedy-enough, greedy-first, offered, offered-most, greedy-offer}
 use Rattle.set_laws.proofs.Places.{laid-length, laid-zeros}
 
 -- ---- the invariant
 
-pub record Along (n k d want : ℕ) (w : Walk) (p : List ℕ) (t : ℕ) : Type 0 where
+pub record Along (n k d want : ℕ) (w : Walk) (p q : List ℕ) (t : ℕ) : Type 0 where
   pub last : List ℕ
   pub set : List (List ℕ)
   pub walk : w ≡ walkOf k last
   pub reading : Reading n k last
   pub pre : prenecklace last ≡ true
-  pub holds : HoldsSet n k set p t
+  pub holds : HoldsSet n k set p q t
   pub within : t ≤ want
   pub rests : greedy d (want - length set) set (rest k last) ≡ picked n k d want
 
@@ -75,12 +77,21 @@ started n k s h v w a e p =
     let q : StartSays (zeros n) k w a = rw e at p in
     ap (λ (x : Started). x .walk) (one-start (zeros n) k w (o .first) a C.Good q (o .started)) ∙ o .started .1
 
-pub along-start : (n k d want : ℕ) (w : Walk) (t : ℕ) → Askable n k d want → w ≡ walkOf k (zeros n) → t ≡ bit (eqb n 1) → Along n k d want w (zeros 768) t
+-- at most one ring is taken at the start
+pub taken-few : (n t : ℕ) → t ≡ bit (eqb n 1) → t ≤ 1
+taken-few n t e = elim (test (eqb n 1)) [ passes q ↦ omega (arith, rw q at e) | fails q ↦ omega (arith, rw q at e) ]
+
+-- the tally of the one sector 0
+one-zero : tallyAt (lib.ListN.set (zeros 512) 0 1) 0 ≡ countsOf 16 (zeros 1)
+unfolding countsOf tab occurs
+one-zero = refl
+
+pub along-start : (n k d want : ℕ) (w : Walk) (t : ℕ) → Askable n k d want → w ≡ walkOf k (zeros n) → t ≡ bit (eqb n 1) → Along n k d want w (zeros 768) (lib.ListN.set (zeros 512) 0 t) t
 unfolding picked
 along-start n k d want w t ask e f =
     elim (tri n 1) [ lt q ↦ absurd (omega (arith, ask .numbers .sized)) | eq q ↦ one q (rw (eq-eqb n 1 q) at f) | gt q ↦ two q (rw (ne-eqb n 1 (λ z. omega arith)) at f) ]
   where
-    one : n ≡ 1 → t ≡ 1 → Along n k d want w (zeros 768) t
+    one : n ≡ 1 → t ≡ 1 → Along n k d want w (zeros 768) (lib.ListN.set (zeros 512) 0 t) t
     one q g =
         record {
           last = zeros n;
@@ -88,7 +99,13 @@ along-start n k d want w t ask e f =
           walk = e;
           reading = zeros-reading n k (omega (arith, ask .numbers .shaded));
           pre = zeros-prenecklace n;
-          holds = record { places = laid-zeros (zeros 1 ∷ []) blank; number = g; each = λ j b. let z : j ≡ 0 = omega arith in rw (z, q) (zeros-reading 1 k (omega (arith, ask .numbers .shaded))) };
+          holds = record {
+            places = laid-zeros (zeros 1 ∷ []) blank;
+            number = g;
+            each = λ j b. let z : j ≡ 0 = omega arith in rw (z, q) (zeros-reading 1 k (omega (arith, ask .numbers .shaded)));
+            room = length-set (zeros 512) 0 t ∙ length-zeros 512;
+            tallies = λ j b. let z : j ≡ 0 = omega arith in rw (z, g) one-zero;
+          };
           within = omega (arith, ask .settable);
           rests = rw q (sym (ap (greedy d want []) (lyndons-one k (omega (arith, ask .numbers .shaded))) ∙ ap (λ (x : ℕ). greedy d x [] (zeros 1 ∷ rest k (zeros 1))) more-one ∙ greedy-first d (want - 1) (rest k (zeros 1)) (zeros 1)));
         }
@@ -100,7 +117,7 @@ along-start n k d want w t ask e f =
         more-one : want ≡ suc (want - 1)
         more-one = omega (arith, ask .settable)
 
-    two : 1 < n → t ≡ 0 → Along n k d want w (zeros 768) t
+    two : 1 < n → t ≡ 0 → Along n k d want w (zeros 768) (lib.ListN.set (zeros 512) 0 t) t
     two q g =
         record {
           last = zeros n;
@@ -108,7 +125,13 @@ along-start n k d want w t ask e f =
           walk = e;
           reading = zeros-reading n k (omega (arith, ask .numbers .shaded));
           pre = zeros-prenecklace n;
-          holds = record { places = laid-zeros [] (λ j y. refl); number = g; each = λ j b. absurd (omega arith) };
+          holds = record {
+            places = laid-zeros [] (λ j y. refl);
+            number = g;
+            each = λ j b. absurd (omega arith);
+            room = length-set (zeros 512) 0 t ∙ length-zeros 512;
+            tallies = λ j b. absurd (omega arith);
+          };
           within = omega arith;
           rests = ap (λ (x : ℕ). greedy d x [] (rest k (zeros n))) zero-less ∙ sym (ap (greedy d want []) (lyndons-more n k (omega arith)));
         }
@@ -123,23 +146,26 @@ pub record Came (k : ℕ) (u : List ℕ) (w′ : Walk) : Type 0 where
   pub next : nextOf lyndon k u ≡ some ring
   pub handed : w′ ≡ walkOf k ring
 
-module _ (n k d want : ℕ) (ask : Askable n k d want) (w : Walk) (p : List ℕ) (t : ℕ) (a : Along n k d want w p t) where
+module _ (n k d want : ℕ) (ask : Askable n k d want) (w : Walk) (p q : List ℕ) (t : ℕ) (a : Along n k d want w p q t) where
   sized : Sized n
   sized = omega (arith, ask .numbers .sized)
 
   pub came : (w′ : Walk) (m : ℕ) → StepSays lyndon w w′ (Moved m) → Came k (a .last) w′
-  came w′ m s = let q : Onto lyndon (walkOf k (a .last)) w′ m = rw (a .walk) at s in record { ring = q .to; next = rw (ring-of k (a .last)) at (q .next); handed = q .handed }
+  came w′ m s = let o : Onto lyndon (walkOf k (a .last)) w′ m = rw (a .walk) at s in record { ring = o .to; next = rw (ring-of k (a .last)) at (o .next); handed = o .handed }
 
   good : Passed (walkAsked w)
   good = rw (a .walk) (walk-good n k (a .last) sized (ask .numbers .shaded) (a .reading) (a .pre))
 
   pub stops : (w′ : Walk) (o : Outcome) → OneOf (1 ∷ 2 ∷ []) (tagOf the-type o) → StepSays lyndon w w′ o → nextOf lyndon k (a .last) ≡ none
   stops w′ (Moved m) t s = ⊎-elim (λ e. absurd (omega arith)) (λ e. absurd (omega arith)) t
-  stops w′ (Done m) t s = let q : Ended lyndon (walkOf k (a .last)) w′ m = rw (a .walk) at s in rw (ring-of k (a .last)) at (q .next)
+  stops w′ (Done m) t s = let o : Ended lyndon (walkOf k (a .last)) w′ m = rw (a .walk) at s in rw (ring-of k (a .last)) at (o .next)
   stops w′ (Refused r) t s = absurd (never-both (walkAsked w) r (s .0) good)
 
   pub along-size : length p ≡ 768
   along-size = rw (a .holds .places) (laid-length (a .set))
+
+  pub along-room : length q ≡ 512
+  along-room = a .holds .room
 
   -- none is left
   pub along-ended : nextOf lyndon k (a .last) ≡ none → t < want → Chosen n k d want p t false
@@ -179,7 +205,11 @@ module _ (n k d want : ℕ) (ask : Askable n k d want) (w : Walk) (p : List ℕ)
     pub came-reads : Reading (length (take n (w′ .ring))) k (take n (w′ .ring))
     came-reads = rw (came-ring, came-reading .long) came-reading
 
-    pub came-stock : Stocked (length (take n (w′ .ring))) k p t
+    -- the record has the ring's shade counts
+    pub came-counts : w′ .counts ≡ countsOf 16 (take n (w′ .ring))
+    came-counts = rw came-ring (ap (λ (x : Walk). x .counts) (c .handed))
+
+    pub came-stock : Stocked (length (take n (w′ .ring))) k p q t
     came-stock = rw (came-ring, came-reading .long) (record { set = a .set; holds = a .holds })
 
     -- fewer readings are above
@@ -187,17 +217,17 @@ module _ (n k d want : ℕ) (ask : Askable n k d want) (w : Walk) (p : List ℕ)
     along-less =
         rw (c .handed, a .walk, ring-of k (c .ring), ring-of k (a .last)) (fewer-above n k (a .last) (c .ring) came-reading (next-facts lyndon k (a .last) (c .ring) (c .next) .1))
 
-    pub along-on : (r : ℕ) (p′ : List ℕ) → t < want → OfferSays k d p t (take n (w′ .ring)) r p′ → Along n k d want w′ p′ r
-    along-on r p′ h o =
-        let o′ : OfferSays k d p t (c .ring) r p′ = rw came-ring at o in
-        let q : HoldsSet n k (offered d (a .set) (c .ring)) p′ r = subst (λ x. HoldsSet x k (a .set) p t → HoldsSet x k (offered d (a .set) (c .ring)) p′ r) (came-reading .long) (o′ (a .set)) (a .holds) in
+    pub along-on : (r : ℕ) (p′ q′ : List ℕ) → t < want → OfferSays k d p q t (take n (w′ .ring)) r p′ q′ → Along n k d want w′ p′ q′ r
+    along-on r p′ q′ h o =
+        let o′ : OfferSays k d p q t (c .ring) r p′ q′ = rw came-ring at o in
+        let now : HoldsSet n k (offered d (a .set) (c .ring)) p′ q′ r = subst (λ x. HoldsSet x k (a .set) p q t → HoldsSet x k (offered d (a .set) (c .ring)) p′ q′ r) (came-reading .long) (o′ (a .set)) (a .holds) in
         record {
           last = c .ring;
           set = offered d (a .set) (c .ring);
           walk = c .handed;
           reading = came-reading;
           pre = necklace-prenecklace (c .ring) (lyndon-necklace (c .ring) (next-facts lyndon k (a .last) (c .ring) (c .next) .2));
-          holds = q;
-          within = omega (arith, q .number, offered-most d (a .set) (c .ring), a .holds .number);
+          holds = now;
+          within = omega (arith, now .number, offered-most d (a .set) (c .ring), a .holds .number);
           rests = sym (greedy-offer d want (a .set) (rest k (c .ring)) (c .ring) (omega (arith, a .holds .number))) ∙ ap (greedy d (want - length (a .set)) (a .set)) (sym (rest-step k (a .last) (c .ring) (c .next))) ∙ a .rests;
         }

@@ -13,7 +13,7 @@ ghost use Rattle.walk_spec.specs.Says.{StepSays};
 ghost use Rattle.set_pick_spec.specs.Order.{Askable};
 ghost use Rattle.set_pick_spec.specs.Says.{PickSays};
 
-// The all-zero ring is a Lyndon word only where n is 1, and the walk does not come to it; its place holds 0 already.
+// The all-zero ring is a Lyndon word only where n is 1, and the walk does not come to it; its place holds 0 already, and its tally is one of shade 0.
 fn zero_taken(n: usize) -> usize
     ensures { λ r. ⌜ r ≡ bit (eqb n 1) ⌝ }
 {
@@ -39,7 +39,9 @@ pub fn choose(n: usize, k: usize, d: usize, wanted: usize) -> Picked
     let started = walk::start(&zeros[..n], k);
     let mut w = started.walk;
     let mut places = [0u8; 768];
+    let mut tallies = [0u8; 512];
     let mut taken = zero_taken(n);
+    tallies[0] = taken as u8;
     while taken < wanted {
         let stepped = next_word(w);
         let outcome = stepped.outcome;
@@ -53,7 +55,16 @@ pub fn choose(n: usize, k: usize, d: usize, wanted: usize) -> Picked
         };
         w = stepped.walk;
         let ring = w.ring;
-        taken = set_places_inner::offer(&mut places, taken, &ring[..n], k, d);
+        let counts = w.counts;
+        taken = set_places_inner::offer(
+            &mut places,
+            &mut tallies,
+            taken,
+            &ring[..n],
+            &counts,
+            k,
+            d,
+        );
     }
     Picked {
         places: places,

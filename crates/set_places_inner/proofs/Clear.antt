@@ -1,34 +1,30 @@
 -- The loop over the places: a ring compared with the readings that they hold, the last one first.
 --     stock-length           the places are 768 sectors
 --     ClearFrom d p t w i    w is at least d apart from the readings in the places i to t
---     part-apart, part-never the part of the places that the code lends is a reading, so that the distance is told
+--     part-good, part-counts the part of the places that the code lends is a reading, and the part of the tallies has its counts
+--     part-far               what is told of that part
 --     clear-start, clear-on, clear-ends, clear-all    the loop
 use Prim.Native.Nat.{ℕ, _+_, _-_, _*_, _<_, _≤_}
 use mathlib.Core.Path.{_≡_, refl, sym, ap, subst, _∙_}
-use mathlib.Core.Bool.{true, false, not}
+use mathlib.Core.Bool.{Bool, true, false}
 use mathlib.Core.List.{List, [], _++_}
 use native.Mathlib.Omega.{arith}
 use lib.ListN.{length, getD, take, drop, length-append, List·getD-append}
 use lib.Seq.{getD-append-add}
-use borrow.Author.Tests.{lt-ltb, le-ltb}
 use Rattle.words.specs.Readings.{Reading}
 use Rattle.words.proofs.Split.{lt, eq, gt, tri, clash, refuted}
 use Rattle.words.proofs.Search.{all-at, all-of}
-use Rattle.rings.specs.Alike.{apart}
-use Rattle.refusal.specs.declared.Refusal.{Refusal}
-use Rattle.refusal.specs.Order.{Passed, Given}
+use Rattle.rings.specs.Counts.{countsOf}
+use Rattle.refusal.specs.Order.{Passed}
 use Rattle.refusal.specs.Calls.{twoReadings}
-use Rattle.refusal.proofs.Unique.{never-both}
-use Rattle.home_spec.specs.declared.Distance.the-variants.{Apart, Refused}
-use Rattle.home_spec.specs.Says.{DistanceSays}
 use Rattle.set_spec.specs.Greedy.{farFrom}
 use Rattle.set_spec.specs.Places.{placeAt}
 use Rattle.set_laws.proofs.Places.{laid-length, place-laid}
-use Rattle.set_places_inner.specs.Says.{Fit, Stocked, clearIn}
+use Rattle.set_places_inner.specs.Says.{Fit, tallyAt, Stocked, clearIn}
 
 -- the places are 768 sectors
-pub stock-length : (n k : ℕ) (p : List ℕ) (t : ℕ) → Stocked n k p t → length p ≡ 768
-stock-length n k p t s = rw (s .holds .places) (laid-length (s .set))
+pub stock-length : (n k : ℕ) (p q : List ℕ) (t : ℕ) → Stocked n k p q t → length p ≡ 768
+stock-length n k p q t s = rw (s .holds .places) (laid-length (s .set))
 
 -- w is at least d apart from the readings in the places i to t
 abbrev pub ClearFrom : ℕ → List ℕ → ℕ → List ℕ → ℕ → Type 0
@@ -42,14 +38,15 @@ pub clear-all : (d : ℕ) (p : List ℕ) (t : ℕ) (w : List ℕ) (i : ℕ) → 
 clear-all d p t w i c h = sym (all-of t (λ j. farFrom d (placeAt (length w) p j) w) (λ j l. c j (omega arith) l))
 
 -- the reading in place j, and the ring
-module _ (p w : List ℕ) (t k j : ℕ) (fit : Fit (length w) k) (reading : Reading (length w) k w) (stock : Stocked (length w) k p t) (most : t ≤ 32) (b : j < t) where
+module _ (p q w : List ℕ) (t k j : ℕ) (fit : Fit (length w) k) (reading : Reading (length w) k w) (stock : Stocked (length w) k p q t) (most : t ≤ 32) (b : j < t) where
+  there : j < length (stock .set)
+  there = omega (arith, stock .holds .number)
+
   place-is : placeAt (length w) p j ≡ getD (stock .set) j []
-  place-is =
-      rw (stock .holds .places)
-      (place-laid (length w) (stock .set) j (fit .short) (omega (arith, stock .holds .number)) (omega (arith, stock .holds .number)) (stock .holds .each j (omega (arith, stock .holds .number)) .long))
+  place-is = rw (stock .holds .places) (place-laid (length w) (stock .set) j (fit .short) (omega (arith, stock .holds .number)) there (stock .holds .each j there .long))
 
   place-reading : Reading (length w) k (placeAt (length w) p j)
-  place-reading = rw place-is (stock .holds .each j (omega (arith, stock .holds .number)))
+  place-reading = rw place-is (stock .holds .each j there)
 
   place-length : length (placeAt (length w) p j) ≡ length w
   place-length = place-reading .long
@@ -74,27 +71,27 @@ module _ (p w : List ℕ) (t k j : ℕ) (fit : Fit (length w) k) (reading : Read
             | gt l ↦ past i (omega arith) s
           ]
 
-  -- the part of the places that the code lends
-  module _ (at end : ℕ) (e : at ≡ 24 * j) (f : end ≡ at + length w) where
+  -- the parts of the places and of the tallies that the code lends
+  module _ (at end first past : ℕ) (e : at ≡ 24 * j) (f : end ≡ at + length w) (g : first ≡ 16 * j) (h : past ≡ first + 16) where
     part-is : take (end - at) (drop at p) ≡ placeAt (length w) p j
-    part-is = let g : end - at ≡ length w = omega arith in rw (g, e) refl
+    part-is = let m : end - at ≡ length w = omega arith in rw (m, e) refl
 
-    pub part-apart : (m : ℕ) → DistanceSays (take (end - at) (drop at p)) w k (Apart m) → m ≡ apart (placeAt (length w) p j) w
-    part-apart m s = s .1 ∙ ap (λ (x : List ℕ). apart x w) part-is
+    pub part-good : Passed (twoReadings (take (end - at) (drop at p)) w k)
+    part-good = subst (λ x. Passed (twoReadings x w k)) (sym part-is) pair-good
 
-    pub part-never : (r : Refusal) → DistanceSays (take (end - at) (drop at p)) w k (Refused r) → ⊥
-    part-never r s = never-both (twoReadings (placeAt (length w) p j) w k) r (subst (λ x. Given (twoReadings x w k) r) part-is s) pair-good
+    pub part-counts : take (past - first) (drop first q) ≡ countsOf 16 (take (end - at) (drop at p))
+    part-counts = let m : past - first ≡ 16 = omega arith in rw (m, g) (stock .holds .tallies j there) ∙ ap (countsOf 16) (sym (part-is ∙ place-is))
 
--- the reading in place j is m apart from the ring
-module _ (d : ℕ) (p : List ℕ) (t : ℕ) (w : List ℕ) (j m : ℕ) (e : m ≡ apart (placeAt (length w) p j) w) (b : j < t) where
+    pub part-far : (d : ℕ) (r : Bool) → r ≡ farFrom d (take (end - at) (drop at p)) w → r ≡ farFrom d (placeAt (length w) p j) w
+    part-far d r s = s ∙ ap (λ (x : List ℕ). farFrom d x w) part-is
+
+-- what is told of the reading in place j
+module _ (d : ℕ) (p : List ℕ) (t : ℕ) (w : List ℕ) (j : ℕ) (r : Bool) (e : r ≡ farFrom d (placeAt (length w) p j) w) (b : j < t) where
   -- one that is nearer decides the test
-  pub clear-ends : m < d → false ≡ clearIn (length w) d p t w
-  unfolding farFrom
+  pub clear-ends : r ≡ false → false ≡ clearIn (length w) d p t w
   clear-ends l =
-      sym (refuted (clearIn (length w) d p t w) (λ h. clash (farFrom d (placeAt (length w) p j) w) (all-at t (λ j. farFrom d (placeAt (length w) p j) w) h j b) (rw (← e, lt-ltb m d l) refl)))
+      sym (refuted (clearIn (length w) d p t w) (λ h. clash (farFrom d (placeAt (length w) p j) w) (all-at t (λ j. farFrom d (placeAt (length w) p j) w) h j b) (sym e ∙ l)))
 
   -- one that is not is left behind
-  pub clear-on : d ≤ m → (i : ℕ) → ClearFrom d p t w i → i ≤ j + 1 → ClearFrom d p t w j
-  unfolding farFrom
-  clear-on l i c q x h s =
-      elim (tri x j) [ lt g ↦ absurd (omega arith) | eq g ↦ rw (g, ← e, le-ltb m d l) refl | gt g ↦ c x (omega arith) s ]
+  pub clear-on : r ≡ true → (i : ℕ) → ClearFrom d p t w i → i ≤ j + 1 → ClearFrom d p t w j
+  clear-on l i c q x h s = elim (tri x j) [ lt g ↦ absurd (omega arith) | eq g ↦ rw g (sym e ∙ l) | gt g ↦ c x (omega arith) s ]

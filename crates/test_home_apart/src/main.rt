@@ -1,9 +1,11 @@
 // How far apart rings are, run and compared: each ring of 1 to 6 sectors and 2 shades against each, in both orders, and rings of 64 sectors. A row is a ring and
 // its distances from all rings of as many sectors, in increasing order. The expected text, stdout, is made from the definition. The cases are the lines of stdin:
-// `all`, two readings of as many sectors, and how many readings of 2 shades there are; `pair`, two readings, and k.
+// `all`, two readings of as many sectors, and how many readings of 2 shades there are; `pair`, two readings, and k; `near`, two readings, k, and d: are they less
+// than d apart?
 
 use home::Distance;
 use home::Homed;
+use home::Told;
 use test_show::made;
 
 fn print_distance(r: Distance) {
@@ -56,12 +58,28 @@ fn pair(a: &[u8], b: &[u8], k: usize) {
     test_show::newline();
 }
 
+// Whether two rings are less than d apart.
+fn near(a: &[u8], b: &[u8], k: usize, d: usize) {
+    test_show::number(d);
+    test_show::text(b": ");
+    match home::nearer(a, b, k, d) {
+        Told::Yes => test_show::text(b"yes"),
+        Told::No => test_show::text(b"no"),
+        Told::Refused(r) => test_show::refused(r),
+    }
+    test_show::newline();
+}
+
 // ---- the lines
 
 fn answer(line: &[u8], a: &mut [u8], b: &mut [u8], out: &mut [u8]) {
     let number = test_cases::number(line, 3);
     if test_cases::letter(line, 0) == b'a' {
         square(a, b, out, number);
+        return;
+    }
+    if test_cases::letter(line, 0) == b'n' {
+        near(a, b, number, test_cases::number(line, 4));
         return;
     }
     pair(a, b, number);

@@ -1,23 +1,22 @@
--- `set_choose_inner::choose` meets its contract. Its loop is that of Along: the choice from the Lyndon words above the ring that the walk has come to, from those taken on, is the
--- set; each turn leaves fewer readings above.
+-- `set_choose_inner::choose` meets its contract. Its loop is that of Along: the choice from the Lyndon words above the ring that the walk has come to, from those
+-- taken on, is the set; each turn leaves fewer readings above.
 use mathlib.Core.Path.{sym}
 use native.Mathlib.Omega.{arith}
-use lib.ListN.{set}
+use lib.ListN.{set, length-take}
+use lib.Seq.{length-take-le}
 use Rattle.words.specs.Order.{before}
 use Rattle.words.specs.Readings.{readings, count}
 use Rattle.walk_spec.specs.Record.{ringOf}
-use Rattle.set_choose_inner.proofs.Along.{Along, zeros-part, started, along-start, came, stops, along-ended, along-full, came-size, along-size, came-fit, came-reads, came-stock, along-less, along-on}
-use lib.ListN.{length-take}
-use lib.Seq.{length-take-le}
+use Rattle.set_choose_inner.proofs.Along.{Along, zeros-part, taken-few, started, along-start, came, stops, along-ended, along-full, came-size, along-size, along-room, came-fit, came-reads, came-counts, came-stock, along-less, along-on}
 use borrow.Author.Needs.{needs}
 use Rattle.set_choose_inner.proofs.choose.Statement.{statement}
 use Rattle.set_choose_inner.proofs.choose.Tie as tie
 
 abbrev Inv-loop : tie.InvT-loop
-Inv-loop n k d wanted w₀ places₀ taken₀ w places taken = Along n k d wanted w places taken
+Inv-loop n k d wanted w₀ places₀ tallies₀ taken₀ w places tallies taken = Along n k d wanted w places tallies taken
 
 abbrev μ-loop : tie.MeasureT-loop
-μ-loop n k d wanted w₀ places₀ taken₀ w places taken = count (before (ringOf w)) (readings n k)
+μ-loop n k d wanted w₀ places₀ tallies₀ taken₀ w places tallies taken = count (before (ringOf w)) (readings n k)
 
 array-share-prefix-zeros : tie.Need-array-share-prefix-zeros Inv-loop μ-loop
 array-share-prefix-zeros c = omega (arith, c .pre .short)
@@ -31,8 +30,20 @@ start-requires c κs = search needs
 zero-taken-requires : tie.Need-zero-taken-requires Inv-loop μ-loop
 zero-taken-requires c κs = search needs
 
+cast-tallies : tie.Need-cast-tallies Inv-loop μ-loop
+cast-tallies c = omega (arith, taken-few (c .before .before .before .before .args .n) (c .zero-taken .result) (c .zero-taken .ensures))
+
+array-write-tallies : tie.Need-array-write-tallies Inv-loop μ-loop
+array-write-tallies c = search needs
+
 loop-holds : tie.Need-loop-holds Inv-loop μ-loop
-loop-holds c = let a = c .before .before .before .before .args in let q = c .before .before .before .before .pre in let st = c .before .before .start in along-start (a .n) (a .k) (a .d) (a .wanted) _ (c .zero-taken .result) q (started (a .n) (a .k) (omega (arith, q .numbers .sized)) (q .numbers .shaded) _ (st .result .walk) (st .result .answer) (zeros-part (a .n) 64 (omega (arith, q .short))) (st .ensures)) (c .zero-taken .ensures)
+loop-holds c =
+    let a = c .before .before .before .before .args in
+    let q = c .before .before .before .before .pre in
+    let st = c .before .before .start in
+    along-start (a .n) (a .k) (a .d) (a .wanted) _ (c .zero-taken .result) q
+    (started (a .n) (a .k) (omega (arith, q .numbers .sized)) (q .numbers .shaded) _ (st .result .walk) (st .result .answer)
+    (zeros-part (a .n) 64 (omega (arith, q .short))) (st .ensures)) (c .zero-taken .ensures)
 
 next-word-requires : tie.Need-next-word-requires Inv-loop μ-loop
 next-word-requires c κs = search needs
@@ -41,47 +52,115 @@ enum-told : tie.Need-enum-told Inv-loop μ-loop
 enum-told c = search needs
 
 returns : tie.Need-returns Inv-loop μ-loop
-returns c = let a = c .before .before .before .before .before .before .before .before .args in let q = c .before .before .before .before .before .before .before .before .pre in let l = c .before .before .before .loop in let r = c .before .next-word in along-ended (a .n) (a .k) (a .d) (a .wanted) q (l .w) (l .places) (l .taken) (l .inv) (stops (a .n) (a .k) (a .d) (a .wanted) q (l .w) (l .places) (l .taken) (l .inv) (r .result .walk) (r .result .outcome) (c .match .keys2) (r .ensures)) (omega (arith, c .before .before .loop-test .taken))
+returns c =
+    let a = c .before .before .before .before .before .before .before .before .args in
+    let q = c .before .before .before .before .before .before .before .before .pre in
+    let l = c .before .before .before .loop in
+    let r = c .before .next-word in
+    along-ended (a .n) (a .k) (a .d) (a .wanted) q (l .w) (l .places) (l .tallies) (l .taken) (l .inv)
+    (stops (a .n) (a .k) (a .d) (a .wanted) q (l .w) (l .places) (l .tallies) (l .taken) (l .inv) (r .result .walk) (r .result .outcome) (c .match .keys2)
+    (r .ensures)) (omega (arith, c .before .before .loop-test .taken))
 
 slice-aggregate-offer : tie.Need-slice-aggregate-offer Inv-loop μ-loop
-slice-aggregate-offer c = let a = c .before .before .before .before .before .before .before .before .before .before .before .before .args in let q = c .before .before .before .before .before .before .before .before .before .before .before .before .pre in let l = c .before .before .before .before .before .before .before .loop in sym (along-size (a .n) (a .k) (a .d) (a .wanted) q (l .w) (l .places) (l .taken) (l .inv))
-
-array-share-prefix-ring : tie.Need-array-share-prefix-ring Inv-loop μ-loop
-array-share-prefix-ring c = let a = c .before .before .before .before .before .before .before .before .before .before .before .before .args in let q = c .before .before .before .before .before .before .before .before .before .before .before .before .pre in let l = c .before .before .before .before .before .before .before .loop in let r = c .before .before .before .before .before .next-word in let o = c .before .before .before .enum-told .given in let cm = came (a .n) (a .k) (a .d) (a .wanted) q (l .w) (l .places) (l .taken) (l .inv) (r .result .walk) (o .0 .0) (rw (o .1) at (r .ensures)) in came-size (a .n) (a .k) (a .d) (a .wanted) q (l .w) (l .places) (l .taken) (l .inv) (r .result .walk) cm
+slice-aggregate-offer c =
+    let a = c .before .before .before .before .before .before .before .before .before .before .before .before .before .args in
+    let q = c .before .before .before .before .before .before .before .before .before .before .before .before .before .pre in
+    let l = c .before .before .before .before .before .before .before .before .loop in
+    sym (along-size (a .n) (a .k) (a .d) (a .wanted) q (l .w) (l .places) (l .tallies) (l .taken) (l .inv))
 
 slice-aggregate-offer-2 : tie.Need-slice-aggregate-offer-2 Inv-loop μ-loop
-slice-aggregate-offer-2 c = let a = c .before .before .before .before .before .before .before .before .before .before .before .before .before .args in let q = c .before .before .before .before .before .before .before .before .before .before .before .before .before .pre in let l = c .before .before .before .before .before .before .before .before .loop in let r = c .before .before .before .before .before .before .next-word in let o = c .before .before .before .before .enum-told .given in let cm = came (a .n) (a .k) (a .d) (a .wanted) q (l .w) (l .places) (l .taken) (l .inv) (r .result .walk) (o .0 .0) (rw (o .1) at (r .ensures)) in sym (length-take-le (a .n) (r .result .walk .ring) (came-size (a .n) (a .k) (a .d) (a .wanted) q (l .w) (l .places) (l .taken) (l .inv) (r .result .walk) cm))
+slice-aggregate-offer-2 c =
+    let a = c .before .before .before .before .before .before .before .before .before .before .before .before .before .before .args in
+    let q = c .before .before .before .before .before .before .before .before .before .before .before .before .before .before .pre in
+    let l = c .before .before .before .before .before .before .before .before .before .loop in
+    sym (along-room (a .n) (a .k) (a .d) (a .wanted) q (l .w) (l .places) (l .tallies) (l .taken) (l .inv))
+
+array-share-prefix-ring : tie.Need-array-share-prefix-ring Inv-loop μ-loop
+array-share-prefix-ring c =
+    let a = c .before .before .before .before .before .before .before .before .before .before .before .before .before .before .args in
+    let q = c .before .before .before .before .before .before .before .before .before .before .before .before .before .before .pre in
+    let l = c .before .before .before .before .before .before .before .before .before .loop in
+    let r = c .before .before .before .before .before .before .before .next-word in
+    let o = c .before .before .before .before .before .enum-told .given in
+    let cm = came (a .n) (a .k) (a .d) (a .wanted) q (l .w) (l .places) (l .tallies) (l .taken) (l .inv) (r .result .walk) (o .0 .0)
+    (rw (o .1) at (r .ensures)) in
+    came-size (a .n) (a .k) (a .d) (a .wanted) q (l .w) (l .places) (l .tallies) (l .taken) (l .inv) (r .result .walk) cm
+
+slice-aggregate-offer-3 : tie.Need-slice-aggregate-offer-3 Inv-loop μ-loop
+slice-aggregate-offer-3 c =
+    let a = c .before .before .before .before .before .before .before .before .before .before .before .before .before .before .before .args in
+    let q = c .before .before .before .before .before .before .before .before .before .before .before .before .before .before .before .pre in
+    let l = c .before .before .before .before .before .before .before .before .before .before .loop in
+    let r = c .before .before .before .before .before .before .before .before .next-word in
+    let o = c .before .before .before .before .before .before .enum-told .given in
+    let cm = came (a .n) (a .k) (a .d) (a .wanted) q (l .w) (l .places) (l .tallies) (l .taken) (l .inv) (r .result .walk) (o .0 .0)
+    (rw (o .1) at (r .ensures)) in
+    sym (length-take-le (a .n) (r .result .walk .ring) (came-size (a .n) (a .k) (a .d) (a .wanted) q (l .w) (l .places) (l .tallies) (l .taken) (l .inv)
+    (r .result .walk) cm))
+
+slice-aggregate-offer-4 : tie.Need-slice-aggregate-offer-4 Inv-loop μ-loop
+slice-aggregate-offer-4 c = search needs
 
 offer-requires : tie.Need-offer-requires Inv-loop μ-loop
-offer-requires c κs = let a = c .before .before .before .before .before .before .before .before .before .before .before .before .before .args in let q = c .before .before .before .before .before .before .before .before .before .before .before .before .before .pre in let l = c .before .before .before .before .before .before .before .before .loop in let r = c .before .before .before .before .before .before .next-word in let o = c .before .before .before .before .enum-told .given in let cm = came (a .n) (a .k) (a .d) (a .wanted) q (l .w) (l .places) (l .taken) (l .inv) (r .result .walk) (o .0 .0) (rw (o .1) at (r .ensures)) in (came-fit (a .n) (a .k) (a .d) (a .wanted) q (l .w) (l .places) (l .taken) (l .inv) (r .result .walk) cm, (came-reads (a .n) (a .k) (a .d) (a .wanted) q (l .w) (l .places) (l .taken) (l .inv) (r .result .walk) cm, (came-stock (a .n) (a .k) (a .d) (a .wanted) q (l .w) (l .places) (l .taken) (l .inv) (r .result .walk) cm, omega (arith, q .settable, c .before .before .before .before .before .before .before .loop-test .taken))))
+offer-requires c κs =
+    let a = c .before .before .before .before .before .before .before .before .before .before .before .before .before .before .before .before .args in
+    let q = c .before .before .before .before .before .before .before .before .before .before .before .before .before .before .before .before .pre in
+    let l = c .before .before .before .before .before .before .before .before .before .before .before .loop in
+    let r = c .before .before .before .before .before .before .before .before .before .next-word in
+    let o = c .before .before .before .before .before .before .before .enum-told .given in
+    let cm = came (a .n) (a .k) (a .d) (a .wanted) q (l .w) (l .places) (l .tallies) (l .taken) (l .inv) (r .result .walk) (o .0 .0)
+    (rw (o .1) at (r .ensures)) in (
+      came-fit (a .n) (a .k) (a .d) (a .wanted) q (l .w) (l .places) (l .tallies) (l .taken) (l .inv) (r .result .walk) cm,
+      (
+        came-reads (a .n) (a .k) (a .d) (a .wanted) q (l .w) (l .places) (l .tallies) (l .taken) (l .inv) (r .result .walk) cm,
+        (
+          came-counts (a .n) (a .k) (a .d) (a .wanted) q (l .w) (l .places) (l .tallies) (l .taken) (l .inv) (r .result .walk) cm,
+          (
+            came-stock (a .n) (a .k) (a .d) (a .wanted) q (l .w) (l .places) (l .tallies) (l .taken) (l .inv) (r .result .walk) cm,
+            omega
+                (arith, q .settable, c .before .before .before .before .before .before .before .before .before .before .loop-test .taken),
+          ),
+        ),
+      ),
+    )
 
 loop-less : tie.Need-loop-less Inv-loop μ-loop
-loop-less c = let a = c .before .before .before .before .before .before .before .before .before .before .before .before .before .before .before .args in let q = c .before .before .before .before .before .before .before .before .before .before .before .before .before .before .before .pre in let l = c .before .before .before .before .before .before .before .before .before .before .loop in let r = c .before .before .before .before .before .before .before .before .next-word in let o = c .before .before .before .before .before .before .enum-told .given in let cm = came (a .n) (a .k) (a .d) (a .wanted) q (l .w) (l .places) (l .taken) (l .inv) (r .result .walk) (o .0 .0) (rw (o .1) at (r .ensures)) in along-less (a .n) (a .k) (a .d) (a .wanted) q (l .w) (l .places) (l .taken) (l .inv) (r .result .walk) cm
+loop-less c =
+    let a = c .before .before .before .before .before .before .before .before .before .before .before .before .before .before .before .before .before .before
+    .before .args in
+    let q = c .before .before .before .before .before .before .before .before .before .before .before .before .before .before .before .before .before .before
+    .before .pre in
+    let l = c .before .before .before .before .before .before .before .before .before .before .before .before .before .before .loop in
+    let r = c .before .before .before .before .before .before .before .before .before .before .before .before .next-word in
+    let o = c .before .before .before .before .before .before .before .before .before .before .enum-told .given in
+    let cm = came (a .n) (a .k) (a .d) (a .wanted) q (l .w) (l .places) (l .tallies) (l .taken) (l .inv) (r .result .walk) (o .0 .0)
+    (rw (o .1) at (r .ensures)) in
+    along-less (a .n) (a .k) (a .d) (a .wanted) q (l .w) (l .places) (l .tallies) (l .taken) (l .inv) (r .result .walk) cm
 
 loop-again : tie.Need-loop-again Inv-loop μ-loop
-loop-again c = let a = c .before .before .before .before .before .before .before .before .before .before .before .before .before .before .before .args in let q = c .before .before .before .before .before .before .before .before .before .before .before .before .before .before .before .pre in let l = c .before .before .before .before .before .before .before .before .before .before .loop in let r = c .before .before .before .before .before .before .before .before .next-word in let o = c .before .before .before .before .before .before .enum-told .given in let cm = came (a .n) (a .k) (a .d) (a .wanted) q (l .w) (l .places) (l .taken) (l .inv) (r .result .walk) (o .0 .0) (rw (o .1) at (r .ensures)) in along-on (a .n) (a .k) (a .d) (a .wanted) q (l .w) (l .places) (l .taken) (l .inv) (r .result .walk) cm _ _ (omega (arith, c .before .before .before .before .before .before .before .before .before .loop-test .taken)) (c .before .offer .ensures)
+loop-again c =
+    let a = c .before .before .before .before .before .before .before .before .before .before .before .before .before .before .before .before .before .before
+    .before .args in
+    let q = c .before .before .before .before .before .before .before .before .before .before .before .before .before .before .before .before .before .before
+    .before .pre in
+    let l = c .before .before .before .before .before .before .before .before .before .before .before .before .before .before .loop in
+    let r = c .before .before .before .before .before .before .before .before .before .before .before .before .next-word in
+    let o = c .before .before .before .before .before .before .before .before .before .before .enum-told .given in
+    let cm = came (a .n) (a .k) (a .d) (a .wanted) q (l .w) (l .places) (l .tallies) (l .taken) (l .inv) (r .result .walk) (o .0 .0)
+    (rw (o .1) at (r .ensures)) in
+    along-on (a .n) (a .k) (a .d) (a .wanted) q (l .w) (l .places) (l .tallies) (l .taken) (l .inv) (r .result .walk) cm _ _ _
+    (omega (arith, c .before .before .before .before .before .before .before .before .before .before .before .before .before .loop-test .taken))
+    (c .before .before .offer .ensures)
 
 returns-2 : tie.Need-returns-2 Inv-loop μ-loop
-returns-2 c = let a = c .before .before .before .before .before .before .args in let q = c .before .before .before .before .before .before .pre in let l = c .before .loop in along-full (a .n) (a .k) (a .d) (a .wanted) q (l .w) (l .places) (l .taken) (l .inv) (omega (arith, c .loop-test .left))
+returns-2 c =
+    let a = c .before .before .before .before .before .before .args in
+    let q = c .before .before .before .before .before .before .pre in
+    let l = c .before .loop in
+    along-full (a .n) (a .k) (a .d) (a .wanted) q (l .w) (l .places) (l .tallies) (l .taken) (l .inv) (omega (arith, c .loop-test .left))
 
 pub choose-spec : {M : Type 1} → statement M
 choose-spec =
-    tie.close
-    (tie.spec
-    Inv-loop
-    μ-loop
-    array-share-prefix-zeros
-    slice-aggregate-start
-    start-requires
-    zero-taken-requires
-    loop-holds
-    next-word-requires
-    enum-told
-    returns
-    slice-aggregate-offer
-    array-share-prefix-ring
-    slice-aggregate-offer-2
-    offer-requires
-    loop-less
-    loop-again
-    returns-2)
+    tie.close (tie.spec Inv-loop μ-loop array-share-prefix-zeros slice-aggregate-start start-requires zero-taken-requires cast-tallies array-write-tallies
+    loop-holds next-word-requires enum-told returns slice-aggregate-offer slice-aggregate-offer-2 array-share-prefix-ring slice-aggregate-offer-3
+    slice-aggregate-offer-4 offer-requires loop-less loop-again returns-2)

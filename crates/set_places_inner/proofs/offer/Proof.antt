@@ -1,25 +1,32 @@
 -- `set_places_inner::offer` meets its contract.
-use Prim.Native.Nat.{_+_}
+use Prim.Native.Nat.{_+_, _*_}
 use mathlib.Core.Path.{_∙_, sym, refl}
 use native.Mathlib.Omega.{arith}
 use lib.ListN.{length}
 use borrow.Author.Tests.{not-true, not-false}
 use Rattle.set_places_inner.proofs.Clear.{stock-length}
-use Rattle.set_places_inner.proofs.Offering.{offer-no, offer-yes}
-use Rattle.set_places_inner.proofs.Offering.{offer-no, offer-yes, copied-over}
-use Prim.Native.Nat.{_*_}
+use Rattle.set_places_inner.proofs.Offering.{counts-many, offer-no, offer-yes, copied-over}
 use borrow.Author.Needs.{needs}
 use Rattle.set_places_inner.proofs.offer.Statement.{statement}
 use Rattle.set_places_inner.proofs.offer.Tie as tie
 
 is-clear-requires : tie.Need-is-clear-requires
-is-clear-requires c κs = let q = c .before .before .before .pre in (q .0, (q .1 .0, (q .1 .1 .0, omega (arith, q .1 .1 .1))))
+is-clear-requires c κs =
+    let q = c .before .before .before .before .before .before .pre in
+    (q .0, (q .1 .0, (q .1 .1 .0, (q .1 .1 .1 .0, omega (arith, q .1 .1 .1 .1)))))
 
 same-length : tie.Need-same-length
 same-length c = search needs
 
+same-length-2 : tie.Need-same-length-2
+same-length-2 c = search needs
+
 returns : tie.Need-returns
-returns c = let a = c .before .before .before .before .before .args in let q = c .before .before .before .before .before .pre in offer-no (a .k) (a .d) (a .places .now) (a .ring .now) (a .taken) (q .0 .short) (q .1 .1 .1) (sym (c .before .is-clear .ensures) ∙ not-true _ (c .if1 .taken))
+returns c =
+    let a = c .before .before .before .before .before .before .before .before .args in
+    let q = c .before .before .before .before .before .before .before .before .pre in
+    offer-no (a .k) (a .d) (a .places .now) (a .tallies .now) (a .ring .now) (a .taken) (q .0 .short) (q .1 .1 .1 .1)
+    (sym (c .before .is-clear .ensures) ∙ not-true _ (c .if1 .taken))
 
 mul-at : tie.Need-mul-at
 mul-at c = search needs
@@ -31,36 +38,73 @@ sub-copy : tie.Need-sub-copy
 sub-copy c = search needs
 
 part-copy-start : tie.Need-part-copy-start
-part-copy-start c = search needs
+part-copy-start c =
+    let a = c .before .before .before .before .before .before .before .before .args in
+    let q = c .before .before .before .before .before .before .before .before .pre in
+    let z = stock-length (length (a .ring .now)) (a .k) (a .places .now) (a .tallies .now) (a .taken) (q .1 .1 .1 .0) in
+    omega (arith, z, q .0 .short, q .1 .1 .1 .1)
 
 part-copy-end : tie.Need-part-copy-end
-part-copy-end c = let a = c .before .before .before .before .before .args in let q = c .before .before .before .before .before .pre in let z = stock-length (length (a .ring .now)) (a .k) (a .places .now) (a .taken) (q .1 .1 .0) in omega (arith, z, q .0 .short, q .1 .1 .1)
+part-copy-end c =
+    let a = c .before .before .before .before .before .before .before .before .args in
+    let q = c .before .before .before .before .before .before .before .before .pre in
+    let z = stock-length (length (a .ring .now)) (a .k) (a .places .now) (a .tallies .now) (a .taken) (q .1 .1 .1 .0) in
+    omega (arith, z, q .0 .short, q .1 .1 .1 .1)
 
 copy-requires : tie.Need-copy-requires
 copy-requires c κs = search needs
 
+mul-first : tie.Need-mul-first
+mul-first c = search needs
+
+add-past : tie.Need-add-past
+add-past c = search needs
+
+sub-copy-2 : tie.Need-sub-copy-2
+sub-copy-2 c = search needs
+
+part-copy-start-2 : tie.Need-part-copy-start-2
+part-copy-start-2 c =
+    let a = c .before .before .before .before .before .before .before .before .before .before .before .before .args in
+    let q = c .before .before .before .before .before .before .before .before .before .before .before .before .pre in
+    omega (arith, q .1 .1 .1 .0 .holds .room, q .1 .1 .1 .1)
+
+part-copy-end-2 : tie.Need-part-copy-end-2
+part-copy-end-2 c =
+    let a = c .before .before .before .before .before .before .before .before .before .before .before .before .args in
+    let q = c .before .before .before .before .before .before .before .before .before .before .before .before .pre in
+    omega (arith, q .1 .1 .1 .0 .holds .room, q .1 .1 .1 .1)
+
+copy-requires-2 : tie.Need-copy-requires-2
+copy-requires-2 c κs =
+    let a = c .before .before .before .before .before .before .before .before .before .before .before .before .before .args in
+    let q = c .before .before .before .before .before .before .before .before .before .before .before .before .before .pre in
+    omega (arith, counts-many (a .ring .now) (a .counts .now) (q .1 .1 .0), c .copy-arg2 .given)
+
 add-result : tie.Need-add-result
 add-result c = search needs
 
-same-length-2 : tie.Need-same-length-2
-same-length-2 c = search needs
+same-length-3 : tie.Need-same-length-3
+same-length-3 c = search needs
+
+same-length-4 : tie.Need-same-length-4
+same-length-4 c = search needs
 
 returns-2 : tie.Need-returns-2
-returns-2 c = let a = c .before .before .before .before .before .before .before .before .before .args in let q = c .before .before .before .before .before .before .before .before .before .pre in let z = stock-length (length (a .ring .now)) (a .k) (a .places .now) (a .taken) (q .1 .1 .0) in offer-yes (a .k) (a .d) (a .places .now) (a .ring .now) (a .taken) (q .0 .short) (q .1 .1 .1) _ (q .1 .0) (sym (c .before .before .before .before .before .is-clear .ensures) ∙ not-false _ (c .before .before .before .before .if1 .left)) (copied-over (a .places .now) (a .ring .now) _ (24 * a .taken) (24 * a .taken + length (a .ring .now)) refl (omega (arith, z, q .0 .short, q .1 .1 .1)) (c .before .before .copy .ensures .1))
+returns-2 c =
+    let a = c .before .before .before .before .before .before .before .before .before .before .before .before .before .before .before .before .args in
+    let q = c .before .before .before .before .before .before .before .before .before .before .before .before .before .before .before .before .pre in
+    let z = stock-length (length (a .ring .now)) (a .k) (a .places .now) (a .tallies .now) (a .taken) (q .1 .1 .1 .0) in
+    let s = q .1 .1 .1 .0 .holds .room in
+    let m = counts-many (a .ring .now) (a .counts .now) (q .1 .1 .0) in
+    offer-yes (a .k) (a .d) (a .places .now) (a .tallies .now) (a .ring .now) (a .taken) (q .0 .short) (q .1 .1 .1 .1) _ _ (a .counts .now) (q .1 .0)
+    (sym (c .before .before .before .before .before .before .before .before .before .is-clear .ensures) ∙ not-false _
+    (c .before .before .before .before .before .before .before .before .if1 .left)) (q .1 .1 .0) (copied-over (a .places .now) (a .ring .now) _ (24 * a .taken)
+    (24 * a .taken + length (a .ring .now)) refl (omega (arith, z, q .0 .short, q .1 .1 .1 .1))
+    (c .before .before .before .before .before .before .copy .ensures .1)) (copied-over (a .tallies .now) (a .counts .now) _ (16 * a .taken)
+    (16 * a .taken + 16) (omega (arith, m)) (omega (arith, s, q .1 .1 .1 .1)) (c .before .before .copy2 .ensures .1))
 
 pub offer-spec : {M : Type 1} → statement M
 offer-spec =
-    tie.close
-    (tie.spec
-    is-clear-requires
-    same-length
-    returns
-    mul-at
-    add-end
-    sub-copy
-    part-copy-start
-    part-copy-end
-    copy-requires
-    add-result
-    same-length-2
-    returns-2)
+    tie.close (tie.spec is-clear-requires same-length same-length-2 returns mul-at add-end sub-copy part-copy-start part-copy-end copy-requires mul-first
+    add-past sub-copy-2 part-copy-start-2 part-copy-end-2 copy-requires-2 add-result same-length-3 same-length-4 returns-2)

@@ -1,0 +1,42 @@
+-- `home::nearer` meets its contract: what the check answers, or else whether a turn is near enough.
+use mathlib.Core.Path.{_∙_, sym}
+use Rattle.refusal.specs.Calls.{twoReadings}
+use Rattle.home.proofs.Answers.{passed-pos, passed-pair}
+use borrow.Author.Needs.{needs}
+use Rattle.home.proofs.nearer.Statement.{statement}
+use Rattle.home.proofs.nearer.Tie as tie
+
+check-pair-requires : tie.Need-check-pair-requires
+check-pair-requires c κs = search needs
+
+enum-known-r : tie.Need-enum-known-r
+enum-known-r c = search needs
+
+enum-told : tie.Need-enum-told
+enum-told c = search needs
+
+is-nearer-requires : tie.Need-is-nearer-requires
+is-nearer-requires c κs =
+    let a = c .before .before .before .before .before .args in
+    let g = rw (c .enum-told .given .1) at (c .before .before .check-pair .ensures) in
+    (passed-pos (twoReadings (a .a .now) (a .b .now) (a .k)) g, passed-pair (a .a .now) (a .b .now) (a .k) g)
+
+returns : tie.Need-returns
+returns c = (
+  rw (c .before .before .enum-told .given .1) at (c .before .before .before .before .check-pair .ensures),
+  sym (c .before .is-nearer .ensures) ∙ c .if1
+      .taken,
+)
+
+returns-2 : tie.Need-returns-2
+returns-2 c = rw (c .before .r .given .1) at (c .before .before .before .check-pair .ensures)
+
+returns-3 : tie.Need-returns-3
+returns-3 c = (
+  rw (c .before .before .enum-told .given .1) at (c .before .before .before .before .check-pair .ensures),
+  sym (c .before .is-nearer .ensures) ∙ c .if1
+      .left,
+)
+
+pub nearer-spec : {M : Type 1} → statement M
+nearer-spec = tie.close (tie.spec check-pair-requires enum-known-r enum-told is-nearer-requires returns returns-2 returns-3)

@@ -1,0 +1,2 @@
+-- By the counts and by the turns, over plain lists (Far).
+pub mod Far

@@ -1,0 +1,56 @@
+-- `set_far_inner::surplus_of` meets its contract. The loop's invariant: `more` is the surplus of the shades below s.
+use Prim.Native.Nat.{_≤_, _-_, _*_}
+use mathlib.Core.Path.{_≡_, refl}
+use native.Mathlib.Omega.{arith}
+use Rattle.words.proofs.Sequence.{sec}
+use Rattle.ring_home_laws.proofs.Counts.{surplus}
+use Rattle.set_far_inner.proofs.Far.{surplus-more}
+use borrow.Author.Needs.{needs}
+use Rattle.set_far_inner.proofs.surplus_of.Statement.{statement}
+use Rattle.set_far_inner.proofs.surplus_of.Tie as tie
+
+abbrev Inv-loop : tie.InvT-loop
+Inv-loop a b more₀ s₀ more s = (s ≤ 16) × (more ≤ 255 * s) × (more ≡ surplus s (sec a) (sec b))
+
+abbrev μ-loop : tie.MeasureT-loop
+μ-loop a b more₀ s₀ more s = 16 - s
+
+loop-holds : tie.Need-loop-holds Inv-loop μ-loop
+unfolding surplus
+loop-holds c = (omega arith, omega arith, refl)
+
+shared-slice-read-above : tie.Need-shared-slice-read-above Inv-loop μ-loop
+shared-slice-read-above c = search needs
+
+shared-slice-read-above-2 : tie.Need-shared-slice-read-above-2 Inv-loop μ-loop
+shared-slice-read-above-2 c = search needs
+
+above-requires : tie.Need-above-requires Inv-loop μ-loop
+above-requires c κs = search needs
+
+add-more : tie.Need-add-more Inv-loop μ-loop
+add-more c =
+    let l = c .before .before .before .before .loop in
+    let x = c .above .ensures in
+    omega (arith, l .inv .1, c .before .before .shared-slice-known3 .given (l .s))
+
+add-s : tie.Need-add-s Inv-loop μ-loop
+add-s c = search needs
+
+loop-less : tie.Need-loop-less Inv-loop μ-loop
+loop-less c = search needs
+
+loop-again : tie.Need-loop-again Inv-loop μ-loop
+loop-again c =
+    let a = c .before .before .before .before .before .before .before .args in
+    let l = c .before .before .before .before .loop in
+    let m = surplus-more (sec (a .a .now)) (sec (a .b .now)) (l .s) (l .more) (c .above .result) (l .inv .2) (l .inv .1) (c .above .ensures)
+    (omega (arith, c .before .before .shared-slice-known3 .given (l .s))) in
+    (omega arith, m .1, m .0)
+
+returns : tie.Need-returns Inv-loop μ-loop
+returns c = let a = c .before .before .before .before .args in let l = c .before .loop in let e : l .s ≡ 16 = omega arith in rw e at (l .inv .2)
+
+pub surplus-of-spec : {M : Type 1} → statement M
+surplus-of-spec =
+    tie.close (tie.spec Inv-loop μ-loop loop-holds shared-slice-read-above shared-slice-read-above-2 above-requires add-more add-s loop-less loop-again returns)
