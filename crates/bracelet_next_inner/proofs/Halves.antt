@@ -2,8 +2,10 @@
 --     halves d         how many bits d takes, where that is at most 8
 --     halves-le        a span below 2 to the power t takes at most t
 --     halves-less      half of a span, rounded down, takes fewer
+--     halves-within    a span within another takes at most as many
+--     tries-less       with a number of tries before it, the tries left and the halves together go down
 --     halves-shades    the span of 16 shades takes at most 4
-use Prim.Native.Nat.{ℕ, zero, suc, _+_, _*_, _^_, _<_, _≤_}
+use Prim.Native.Nat.{ℕ, zero, suc, _+_, _-_, _*_, _^_, _<_, _≤_}
 use mathlib.Core.Path.{_≡_, refl, ap, _∙_}
 use mathlib.Core.Bool.{Bool}
 use native.Mathlib.Omega.{arith}
@@ -36,6 +38,10 @@ halves-at : (d : ℕ) → d < 256 → d < 2 ^ halves d
 unfolding halves
 halves-at d h = ltb-true d (2 ^ least 9 (within d)) (least-at 9 (within d) (omega (arith, halves-le d 8 h)))
 
+-- a span within another takes at most as many
+pub halves-within : (d e : ℕ) → d < 256 → e ≤ d → halves e ≤ halves d
+halves-within d e h l = halves-le e (halves d) (omega (arith, halves-at d h))
+
 -- half of a span takes fewer
 pub halves-less : (d e : ℕ) → 0 < d → d < 256 → e + e ≤ d → halves e < halves d
 halves-less d e z h l = go (halves d) refl (halves-at d h)
@@ -43,3 +49,8 @@ halves-less d e z h l = go (halves d) refl (halves-at d h)
     go : (t : ℕ) → halves d ≡ t → d < 2 ^ t → halves e < t
     go zero g b = absurd (omega (arith, pow-zero 2))
     go (suc t) g b = omega (arith, halves-le e t (omega (arith, pow-succ' 2 t)))
+
+-- with t tries before it, each on a span within the one before: the tries left and the halves together go down
+pub tries-less : (d e t u : ℕ) → 0 < d → d < 256 → e < d → (t ≡ 0 → e + e ≤ d) → u ≡ t - 1 → u + halves e < t + halves d
+tries-less d e t u z h l half q =
+    elim (tri t 0) [ lt g ↦ absurd (omega arith) | eq g ↦ omega (arith, halves-less d e z h (half g)) | gt g ↦ omega (arith, halves-within d e h (omega arith)) ]

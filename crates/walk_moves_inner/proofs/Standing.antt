@@ -14,7 +14,7 @@ use mathlib.Core.Bool.{true, false}
 use mathlib.Core.List.{List}
 use native.Mathlib.Omega.{arith}
 use native.Mathlib.Numerals.{add-one}
-use native.Mathlib.Nat.{mod-self}
+use native.Mathlib.Nat.{mod-self, mod-eq-of-lt, add-mod-left}
 use lib.ListN.{length, getD}
 use lib.Dec.{eqb}
 use borrow.Author.Tests.{eq-eqb, ne-eqb, eqb-true, eqb-false}
@@ -89,6 +89,10 @@ pub kind-full : (kind : K.Kind) (n : ℕ) → kindAt kind n n ≡ true
 kind-full Prenecklace n = refl
 kind-full Necklace n = eq-eqb (n % n) 0 (mod-self n)
 kind-full Lyndon n = eq-eqb n n refl
+
+-- a number of which p is more than half, and not all, is no multiple of p
+pub short-rem : (n p : ℕ) → p < n → n - p < p → n % p ≡ 0 → ⊥
+short-rem n p h k e = omega (arith, sym e ∙ ap (λ (x : ℕ). x % p) (let q : n ≡ p + (n - p) = omega arith in q) ∙ add-mod-left p (n - p) ∙ mod-eq-of-lt k)
 
 -- where every sector is k - 1 the ring is a necklace
 full-necklace : (k : ℕ) (v : List ℕ) → Reading (length v) k v → 0 < length v → lastLow k v ≡ 0 → necklace v ≡ true

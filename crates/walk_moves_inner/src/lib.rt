@@ -3,7 +3,8 @@
 
 use rings::Class;
 ghost use mathlib.Core.Path.{_≡_};
-ghost use Prim.Native.Nat.{_<_, _≤_};
+ghost use Prim.Native.Nat.{_%_, _<_, _≤_};
+ghost use lib.Dec.{eqb};
 ghost use Rattle.walk_moves_inner.specs.Kinds.{kindAt, classAt};
 ghost use Rattle.walk_moves_inner.specs.Going.{ReadyToStep, Found};
 
@@ -12,6 +13,17 @@ pub enum Kind {
     Prenecklace,
     Necklace,
     Lyndon,
+}
+
+// Whether p divides n, which is greater. Most are more than half of n: those do not, and nothing is divided.
+fn divides(p: usize, n: usize) -> bool
+    requires { ⌜ (0 < p) × (p < n) ⌝ }
+    ensures { λ r. ⌜ r ≡ eqb (n % p) 0 ⌝ }
+{
+    if n - p < p {
+        return false;
+    }
+    n % p == 0
 }
 
 // Whether a prenecklace of n sectors whose lyn is p is of the kind. Most have p = n: those are Lyndon words, which are of each kind, and nothing is divided.
@@ -24,7 +36,7 @@ pub fn of_kind(kind: Kind, n: usize, p: usize) -> bool
     }
     match kind {
         Kind::Prenecklace => true,
-        Kind::Necklace => n % p == 0,
+        Kind::Necklace => divides(p, n),
         Kind::Lyndon => false,
     }
 }

@@ -3,16 +3,16 @@ use Prim.Native.Nat.{_-_}
 use mathlib.Core.Path.{refl}
 use native.Mathlib.Omega.{arith}
 use lib.ListN.{length}
-use borrow.Author.Needs.{needs}
 use Rattle.bracelet_next_inner.proofs.Lifting.{Leading, leading-start, leading-settles, leading-on, leading-end}
+use borrow.Author.Needs.{needs}
 use Rattle.bracelet_next_inner.proofs.complete.Statement.{statement}
 use Rattle.bracelet_next_inner.proofs.complete.Tie as tie
 
 abbrev Inv-loop : tie.InvT-loop
-Inv-loop s₀ m k top i₀ s i = Leading k s₀ m s i
+Inv-loop s₀ m k top i₀ p₀ s i p = Leading k s₀ m s i
 
 abbrev μ-loop : tie.MeasureT-loop
-μ-loop s₀ m k top i₀ s i = length s - i
+μ-loop s₀ m k top i₀ p₀ s i p = length s - i
 
 sub-top : tie.Need-sub-top Inv-loop μ-loop
 sub-top c = search needs
@@ -21,38 +21,56 @@ cast-top : tie.Need-cast-top Inv-loop μ-loop
 cast-top c = search needs
 
 loop-holds : tie.Need-loop-holds Inv-loop μ-loop
-loop-holds c = let g = c .before in leading-start (g .args .k) (g .args .s .now) (g .args .m) (g .pre .2)
+loop-holds c = let a = c .before .args in leading-start (a .k) (a .s .now) (a .m) (c .before .pre .2)
+
+asked-requires : tie.Need-asked-requires Inv-loop μ-loop
+asked-requires c κs = search needs
 
 settle-requires : tie.Need-settle-requires Inv-loop μ-loop
-settle-requires c κs = let g = c .before .before .before .before in let a = g .args in let l = c .before .before .loop in leading-settles (a .k) (a .s .now) (a .m) (l .s) (l .i) (a .k - 1) (l .inv) (c .before .loop-test .taken) refl _ (omega (arith, g .pre .0))
+settle-requires c κs =
+    let a = c .before .before .before .before .before .before .args in
+    let l = c .before .before .before .before .loop in
+    leading-settles (a .k) (a .s .now) (a .m) (l .s) (l .i) (a .k - 1) (l .inv) (c .before .before .before .loop-test .taken) refl _
+    (omega (arith, c .before .before .before .before .before .before .pre .0))
 
-add-i : tie.Need-add-i Inv-loop μ-loop
-add-i c = search needs
+add-next : tie.Need-add-next Inv-loop μ-loop
+add-next c = search needs
+
+slice-read-if1 : tie.Need-slice-read-if1 Inv-loop μ-loop
+slice-read-if1 c = search needs
 
 loop-less : tie.Need-loop-less Inv-loop μ-loop
 loop-less c = search needs
 
 loop-again : tie.Need-loop-again Inv-loop μ-loop
-loop-again c = let g = c .before .before .before .before .before .before .before in let a = g .args in let l = c .before .before .before .before .before .loop in leading-on (a .k) (a .s .now) (a .m) (l .s) (l .i) (a .k - 1) (l .inv) (c .before .before .before .before .loop-test .taken) refl _ (omega arith) _ (search needs) (c .before .before .settle .ensures)
+loop-again c =
+    let a = c .before .before .before .before .before .before .before .before .before .before .before .args in
+    let l = c .before .before .before .before .before .before .before .before .before .loop in
+    leading-on (a .k) (a .s .now) (a .m) (l .s) (l .i) (a .k - 1) (l .inv)
+    (c .before .before .before .before .before .before .before .before .loop-test .taken) refl _ (omega arith) _ (search needs)
+    (c .before .before .before .before .settle .ensures)
+
+loop-less-2 : tie.Need-loop-less-2 Inv-loop μ-loop
+loop-less-2 c = search needs
+
+loop-again-2 : tie.Need-loop-again-2 Inv-loop μ-loop
+loop-again-2 c =
+    let a = c .before .before .before .before .before .before .before .before .before .before .before .args in
+    let l = c .before .before .before .before .before .before .before .before .before .loop in
+    leading-on (a .k) (a .s .now) (a .m) (l .s) (l .i) (a .k - 1) (l .inv)
+    (c .before .before .before .before .before .before .before .before .loop-test .taken) refl _ (omega arith) _ (search needs)
+    (c .before .before .before .before .settle .ensures)
 
 same-length : tie.Need-same-length Inv-loop μ-loop
 same-length c = search needs
 
 returns : tie.Need-returns Inv-loop μ-loop
-returns c = let g = c .before .before .before in let a = g .args in let l = c .before .loop in leading-end (a .k) (a .s .now) (a .m) (l .s) (l .i) (l .inv) (c .loop-test .left)
+returns c =
+    let a = c .before .before .before .args in
+    let l = c .before .loop in
+    leading-end (a .k) (a .s .now) (a .m) (l .s) (l .i) (l .inv) (c .loop-test .left)
 
 pub complete-spec : {M : Type 1} → statement M
 complete-spec =
-    tie.close
-    (tie.spec
-    Inv-loop
-    μ-loop
-    sub-top
-    cast-top
-    loop-holds
-    settle-requires
-    add-i
-    loop-less
-    loop-again
-    same-length
-    returns)
+    tie.close (tie.spec Inv-loop μ-loop sub-top cast-top loop-holds asked-requires settle-requires add-next slice-read-if1 loop-less loop-again loop-less-2
+    loop-again-2 same-length returns)

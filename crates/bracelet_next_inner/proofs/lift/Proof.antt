@@ -48,6 +48,13 @@ add-settle c =
     let l = c .before .before .before .before .before .before .before .loop in
     omega (arith, g .pre .shades, lifting-shade (a .k) (a .s .now) (g .pre) (l .s) (l .i) (l .i - 1) (a .k - 1) (l .inv) (omega arith) refl)
 
+add-settle-2 : tie.Need-add-settle-2 Inv-loop μ-loop
+add-settle-2 c =
+    let g = c .before .before .before .before .before .before .before .before .before in
+    let a = g .args in
+    let l = c .before .before .before .before .before .before .before .loop in
+    omega (arith, g .pre .shades, lifting-shade (a .k) (a .s .now) (g .pre) (l .s) (l .i) (l .i - 1) (a .k - 1) (l .inv) (omega arith) refl)
+
 settle-requires : tie.Need-settle-requires Inv-loop μ-loop
 settle-requires c κs =
     let g = c .before .before .before .before .before .before .before .before .before in
@@ -102,6 +109,7 @@ lift-spec =
     slice-write-s
     is-bracelet-requires
     add-settle
+    add-settle-2
     settle-requires
     add-result
     same-length
