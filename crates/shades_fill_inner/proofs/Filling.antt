@@ -8,7 +8,7 @@ use native.Mathlib.Omega.{arith}
 use native.Mathlib.Numerals.{add-one}
 use lib.ListN.{length, getD, take, set, replicate, length-set, replicate-append-replicate}
 use lib.Seq.{take-suc-set, take-all}
-use Rattle.shades_laws.proofs.Cut.{sum-take-suc, sum-take-le}
+use Rattle.shades_laws.proofs.Sums.{sum-take-suc, sum-take-le}
 use Rattle.words.specs.Sum.{sumOf}
 use Rattle.shades_laws.proofs.Letters.{letters, letters-suc, lettersFrom}
 

@@ -9,9 +9,9 @@
 --     Product     such words that do not fall, one behind the other, are a necklace
 --     Made        the pool's words are such words
 --     Pool        the pool's steps, and the theorems: where it is stuck there is no completion, where its least word is not before al there is one
---     Cut         a pool laid out in two arrays
---     Held        the pool's steps as a loop over these arrays sees them
+--     Sums        sums of the first counts
 --     Letters     the letters of given counts in increasing order
+--     Groups      the pool told by its groups of equal words, as a loop over arrays sees it
 pub mod Under
 pub mod Copies
 pub mod Clear
@@ -21,6 +21,6 @@ pub mod Lowest
 pub mod Product
 pub mod Made
 pub mod Pool
-pub mod Cut
-pub mod Held
+pub mod Sums
 pub mod Letters
+pub mod Groups

@@ -4,8 +4,7 @@
 --     Sorted w            the letters of w do not fall
 --     Arranged al v xs    a rearrangement of the pool that stands clear of al ++ v
 --     Pool al w xs        what holds of the pool at each step: its order, and that each completion of al by the letters of w leaves an arrangement
---     glued q xs          the pool with its last word joined to word q - 1
--- The laws that a loop needs: `pool-start`, `pool-glue`, `pool-stuck`. The whole run as one statement: `no-completion`.
+-- The laws that a loop needs: `pool-start`, `join-pool`, `pool-stuck`, `pool-yes`; told by groups of equal words in Groups.
 use Prim.Native.Nat.{ℕ, zero, suc, _+_, _-_, _<_, _≤_}
 use mathlib.Core.Path.{_≡_, refl, sym, ap, _∙_, subst}
 use mathlib.Core.Bool.{true, false}
@@ -76,12 +75,8 @@ pool-start al (a ∷ w) lyn z h = record {
 
 -- ---- a step
 
--- the pool with its last word joined to word q - 1
-unfoldable pub glued : ℕ → List (List ℕ) → List (List ℕ)
-glued q xs = set (take (length xs - 1) xs) (q - 1) (getD xs (q - 1) [] ++ getD xs (length xs - 1) [])
-
 -- the last of the copies, put to what follows
-replicate-shift : (n : ℕ) (s : List ℕ) (r : List (List ℕ)) → replicate (suc n) s ++ r ≡ replicate n s ++ s ∷ r
+pub replicate-shift : (n : ℕ) (s : List ℕ) (r : List (List ℕ)) → replicate (suc n) s ++ r ≡ replicate n s ++ s ∷ r
 replicate-shift zero s r = refl
 replicate-shift (suc n) s r = ap (λ x. s ∷ x) (replicate-shift n s r)
 
@@ -106,7 +101,7 @@ join-arranged al v s g n xs lyn short l r = record { list = e .new; clear = e .c
     both-counts y = simp (copies-append, copies-cons, copies-none) (omega arith)
 
 -- joining s with g leaves a pool
-join-pool : (al w s g : List ℕ) (n : ℕ) (xs : List (List ℕ)) → Short s al → Ladder s g xs → Pool al w (replicate (suc n) s ++ (xs ++ g ∷ [])) → Pool al w (replicate n s ++ (s ++ g) ∷ xs)
+pub join-pool : (al w s g : List ℕ) (n : ℕ) (xs : List (List ℕ)) → Short s al → Ladder s g xs → Pool al w (replicate (suc n) s ++ (xs ++ g ∷ [])) → Pool al w (replicate n s ++ (s ++ g) ∷ xs)
 join-pool al w s g n xs short l p = record { lyn = p .lyn; shape = go n; made = made-join w s g (replicate n s) xs (over-short (ladder-top l)) (subst (Made w) parted (p .made)); arranged = λ v c h. join-arranged al v s g n xs (p .lyn) short l (p .arranged v c h) }
   where
     go : (n : ℕ) → Shape (getD (replicate n s ++ (s ++ g) ∷ xs) 0 []) (replicate n s ++ (s ++ g) ∷ xs)
@@ -134,43 +129,6 @@ leading-shape s xs p q h lead stops = (leading s (p .extra) (p .rest) q (all-wea
   where
     long : length xs ≡ suc (p .extra) + length (p .rest)
     long = ap length (p .whole) ∙ length-append (replicate (suc (p .extra)) s) (p .rest) ∙ ap (λ x. x + length (p .rest)) (length-replicate (suc (p .extra)) s)
-
--- what joining does, seen at the words themselves
-pub glued-at : (a xs : List (List ℕ)) (s g : List ℕ) → glued (suc (length a)) ((a ++ s ∷ xs) ++ g ∷ []) ≡ a ++ (s ++ g) ∷ xs
-unfolding glued
-glued-at a xs s g = rw (e₁, e₂, take-append-seam, List·getD-append (a ++ s ∷ xs) (g ∷ []) [] (length a) inside, getD-append-seam a s xs [], getD-append-seam (a ++ s ∷ xs) g [] [], set-append-seam)
-  where
-    e₁ : length ((a ++ s ∷ xs) ++ g ∷ []) - 1 ≡ length (a ++ s ∷ xs)
-    e₁ = rw (length-append (a ++ s ∷ xs) (g ∷ [])) (omega arith)
-
-    e₂ : suc (length a) - 1 ≡ length a
-    e₂ = omega arith
-
-    inside : length a < length (a ++ s ∷ xs)
-    inside = rw (length-append a (s ∷ xs)) (omega arith)
-
--- the last word taken out and joined to the last copy of the least
-pub pool-glue : (al w : List ℕ) (xs : List (List ℕ)) → Pool al w xs → (q : ℕ) → q < length xs → ((i : ℕ) → i < q → getD xs i [] ≡ getD xs 0 []) →
-    (getD xs q [] ≡ getD xs 0 [] → ⊥) → before (getD xs 0 []) al ≡ true → Pool al w (glued q xs)
-pool-glue al w xs p q h lead stops b = go (leading-shape s xs (p .shape) q (omega arith) lead (λ l. stops))
-  where
-    s : List ℕ
-    s = getD xs 0 []
-
-    n : ℕ
-    n = p .shape .extra
-
-    go : (q ≡ suc n) × (length xs ≡ suc n + length (p .shape .rest)) → Pool al w (glued q xs)
-    go (e, l) = at (topped (p .shape) (omega arith))
-      where
-        at : Topped s n xs → Pool al w (glued q xs)
-        at t = subst (Pool al w) (sym becomes) (join-pool al w s (t .last) n (t .between) (before-short s al b) (t .ladder) (subst (Pool al w) (t .whole) p))
-          where
-            becomes : glued q xs ≡ replicate n s ++ (s ++ t .last) ∷ t .between
-            becomes =
-                ap (λ x. glued x xs) (e ∙ ap suc (sym (length-replicate n s)))
-                ∙ ap (glued (suc (length (replicate n s)))) (t .whole ∙ replicate-shift n s (t .between ++ t .last ∷ []) ∙ sym (append-assoc (replicate n s) (s ∷ t .between) (t .last ∷ [])))
-                ∙ glued-at (replicate n s) (t .between) s (t .last)
 
 -- copies of a word that is too small do not stand clear
 copies-not-clear : {al t s : List ℕ} (x : List ℕ) (xs : List (List ℕ)) → All (λ y. y ≡ s) (x ∷ xs) → Clear al t (x ∷ xs) → (s ++ al) ≪ t → ⊥
@@ -206,28 +164,3 @@ pool-stuck al w xs p lead b v c h = none-clear (p .arranged v c h)
 -- where the least word does not stand before al, there is one
 pub pool-yes : (al w : List ℕ) (xs : List (List ℕ)) → 0 < length al → Pool al w xs → before (getD xs 0 []) al ≡ false → Completed al w
 pool-yes al w xs z p h = made-whole al w (getD xs 0 []) xs z (p .lyn) (p .shape) (p .made) h
-
--- ---- the whole run
-
--- a pool that comes from another by such steps
-pub data Reached (al : List ℕ) (xs : List (List ℕ)) : List (List ℕ) → Type 0 where
-  begun : Reached al xs xs
-  then-glued : {ys : List (List ℕ)} → Reached al xs ys → (q : ℕ) → q < length ys → ((i : ℕ) → i < q → getD ys i [] ≡ getD ys 0 []) →
-      (getD ys q [] ≡ getD ys 0 [] → ⊥) → before (getD ys 0 []) al ≡ true → Reached al xs (glued q ys)
-
--- what comes from a pool by such steps is a pool
-pub pool-reached : {al w : List ℕ} {xs ys : List (List ℕ)} → Pool al w xs → Reached al xs ys → Pool al w ys
-pool-reached p begun = p
-pool-reached {al} {w} p (then-glued {ys} r q h lead stops b) = pool-glue al w ys (pool-reached p r) q h lead stops b
-
--- Theorem N: al a Lyndon word and w sorted letters; where the pool of the letters comes to copies of one word that stands before al, no word with the
--- letters of w completes al to a necklace
-pub no-completion : (al w : List ℕ) → Lyn (sec al) (length al) → 0 < length w → Sorted w → (xs : List (List ℕ)) → Reached al (singles w) xs →
-    ((i : ℕ) → i < length xs → getD xs i [] ≡ getD xs 0 []) → before (getD xs 0 []) al ≡ true →
-    (v : List ℕ) → ((b : ℕ) → occurs b v ≡ occurs b w) → necklace (al ++ v) ≡ true → ⊥
-no-completion al w lyn z sorted xs r = pool-stuck al w xs (pool-reached (pool-start al w lyn z sorted) r)
-
--- EXACT: where it comes to a least word that does not stand before al, some word with the letters of w completes al to a necklace
-pub completion : (al w : List ℕ) → 0 < length al → Lyn (sec al) (length al) → 0 < length w → Sorted w → (xs : List (List ℕ)) → Reached al (singles w) xs →
-    before (getD xs 0 []) al ≡ false → Completed al w
-completion al w y lyn z sorted xs r = pool-yes al w xs y (pool-reached (pool-start al w lyn z sorted) r)

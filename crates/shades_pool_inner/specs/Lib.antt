@@ -1,2 +1,2 @@
--- A pool of words laid out in two arrays (Pool).
-pub mod Pool
+-- Words of the pool as chains of nodes (Chain).
+pub mod Chain

@@ -1,81 +1,53 @@
-// A pool of words laid out in two arrays: comparing words, the copies of the first, and moving the last. No public calls.
-ghost use mathlib.Core.Path.{_≡_};
-ghost use Prim.Native.Nat.{_+_, _≤_};
-ghost use Rattle.words.specs.Order.{before, same};
-ghost use Rattle.shades_laws.specs.Arrays.{Moved};
-ghost use Rattle.shades_pool_inner.specs.Pool.{Laid, Leading};
+// Words of the pool as chains of nodes: a word is a beginning of al and then the word of another node, or a letter. Comparing such a word with al. No public calls.
+ghost use Rattle.shades_pool_inner.specs.Chain.{Agree, Chained, Compares};
 
-// Whether v stands before w.
-pub fn stands_before(v: &[u8], w: &[u8]) -> bool
-    ensures { λ r. ⌜ r ≡ before (now (v .entry)) (now (w .entry)) ⌝ }
+// How far v and w agree.
+fn agree(v: &[u8], w: &[u8]) -> usize
+    ensures { λ r. ⌜ Agree (now (v .entry)) (now (w .entry)) r ⌝ }
 {
-    let mut j = 0;
-    while j < w.len() {
-        if j == v.len() {
-            return true;
+    let mut j: usize = 0;
+    while j < v.len() {
+        if j == w.len() {
+            return j;
         }
-        if v[j] < w[j] {
-            return true;
-        }
-        if w[j] < v[j] {
-            return false;
+        if v[j] != w[j] {
+            return j;
         }
         j += 1;
     }
-    false
+    j
 }
 
-// Whether v is w.
-fn same_word(v: &[u8], w: &[u8]) -> bool
-    ensures { λ r. ⌜ r ≡ same (now (v .entry)) (now (w .entry)) ⌝ }
+// How the first a sectors of al, with the word of node g behind them, compare with al: 0 where they lie under it, their number where they are a beginning of it, and the
+// length of al where they do not stand before it.
+pub fn against(al: &[u8], pre: &[u8], next: &[u8], first: usize, g: usize, a: usize) -> usize
+    requires { ⌜ Chained (now al) (now pre) (now next) first g a ⌝ }
+    ensures { λ r. ⌜ Compares (now (al .entry)) (now (pre .entry)) (now (next .entry)) first g a r ⌝ }
 {
-    if v.len() != w.len() {
-        return false;
-    }
-    let mut i = 0;
-    while i < v.len() {
-        if v[i] != w[i] {
-            return false;
+    let mut i = g;
+    let mut c = a;
+    while i < first {
+        let p = pre[i] as usize;
+        let d = agree(&al[..p], &al[c..]);
+        if d == al.len() - c {
+            return al.len();
         }
-        i += 1;
-    }
-    true
-}
-
-// How many of the t words, from the first on, are copies of the first.
-pub fn leading(w: &[u8], len: &[usize], t: usize) -> usize
-    requires { ⌜ Laid t (now len) (now w) ⌝ }
-    ensures { λ r. ⌜ Leading r t (now (len .entry)) (now (w .entry)) ⌝ }
-{
-    let a = len[0];
-    let mut q: usize = 1;
-    while q < t {
-        if len[q] != a {
-            return q;
+        if d < p {
+            if al[d] < al[c + d] {
+                return 0;
+            }
+            return al.len();
         }
-        let o = q * a;
-        if !same_word(&w[o..o + a], &w[..a]) {
-            return q;
-        }
-        q += 1;
+        c += p;
+        i = next[i] as usize;
     }
-    q
-}
-
-// The letters v with the g before place l moved to place o.
-pub fn moved(v: [u8; 64], o: usize, g: usize, l: usize) -> [u8; 64]
-    requires { ⌜ (o + g ≤ l) × (l ≤ 64) ⌝ }
-    ensures { λ r. ⌜ Moved o g l v r ⌝ }
-{
-    let mut w = v;
-    let mut i = o;
-    while i < l {
-        if i < o + g {
-            w[i] = v[l - g + (i - o)];
-        } else {
-            w[i] = v[i - g];
-        }
-        i += 1;
+    let x = i - 64;
+    let y = al[c] as usize;
+    if x < y {
+        return 0;
     }
-    w
+    if y < x {
+        return al.len();
+    }
+    c + 1
 }

@@ -5,7 +5,8 @@
 --     counts-long        the letters of a word are as many as its counts say
 --     completing         what the pool asks
 --     raised-lyndon      raising a sector of a prenecklace and cutting behind it gives a Lyndon word
---     lift-start, lift-asks, lift-more    the shades above that at a place, one after the other
+--     left-start, left-more, left-end     the least shade that is left
+--     lift-none, lift-asks, lift-found, lift-not    the shades above that at a place
 use Prim.Native.Nat.{ℕ, zero, suc, _+_, _-_, _<_, _≤_}
 use mathlib.Core.Path.{_≡_, refl, sym, _∙_, subst}
 use mathlib.Core.Bool.{Bool, true, false, true≢false}
@@ -25,7 +26,8 @@ use Rattle.ring_laws.proofs.Words.{pre-of}
 use Rattle.ring_laws.proofs.Lyndon.{lyndon-of}
 use Rattle.words.specs.Sum.{sumOf}
 use Rattle.shades_completable_inner.specs.Completion.{Completing, Hopeless, Hopeful, Decides}
-use Rattle.shades_raise_inner.specs.Places.{Barred, Fitting, Allows, Possible, Liftable, Lifted, LiftedTo}
+use Rattle.shades_raise_inner.specs.Places.{Barred, Fitting, Allows, Possible, LeftFrom, Liftable, LiftedTo}
+use Rattle.shades_raise_inner.proofs.Lower.{barred-above}
 use Rattle.shades_tally_inner.proofs.Tallying.{occurs-none, occurs-here, occurs-other}
 use Rattle.shades_tally_inner.proofs.Leaving.{sum-le}
 
@@ -77,6 +79,16 @@ allows-none u b rem e = record { yes = λ q. absurd (true≢false (sym q)); no =
 pub allows-pool : (u : List ℕ) (b : ℕ) (rem : List ℕ) (r : Bool) → b < length rem → (getD rem b 0 ≡ 0 → ⊥) → Decides (u ++ b ∷ []) (lessOne rem b) r → Allows u b rem r
 allows-pool u b rem r l z d = record { yes = λ q. fitting-pool u b rem l z (d .yes q); no = λ q. barred-pool u b rem l (d .no q) }
 
+-- the same where nothing is left of the shades from k on, which are not told
+pub allows-part : (u : List ℕ) (b k : ℕ) (rem : List ℕ) (r : Bool) → b < k → k ≤ length rem → ((x : ℕ) → k ≤ x → getD rem x 0 ≡ 0) → (getD rem b 0 ≡ 0 → ⊥) → Decides (u ++ b ∷ []) (take k (lessOne rem b)) r → Allows u b rem r
+allows-part u b k rem r l few past z d = allows-pool u b rem r (omega arith) z (record { yes = λ q. let h = d .yes q in record { rest = h .rest; letters = λ x. h .letters x ∙ told x; whole = h .whole }; no = λ q v c n. d .no q v (λ x. c x ∙ sym (told x)) n })
+  where
+    told : (x : ℕ) → getD (take k (lessOne rem b)) x 0 ≡ getD (lessOne rem b) x 0
+    told x = elim (tri x k) [ lt h ↦ getD-take k (lessOne rem b) x 0 h | eq h ↦ none (omega arith) | gt h ↦ none (omega arith) ]
+      where
+        none : k ≤ x → getD (take k (lessOne rem b)) x 0 ≡ getD (lessOne rem b) x 0
+        none h = List·getD-eq-default (take k (lessOne rem b)) 0 {n = x} (omega (arith, length-take-le k (lessOne rem b) (omega (arith, length-set rem b (getD rem b 0 - 1))))) ∙ sym (getD-set-other rem b x (getD rem b 0 - 1) 0 (λ q. omega arith) ∙ past x h)
+
 -- the letters of a word are as many as its counts say
 pub counts-long : (v cs : List ℕ) → ((b : ℕ) → occurs b v ≡ getD cs b 0) → length v ≡ sumOf cs
 unfolding sumOf
@@ -110,12 +122,19 @@ less-sum rem b = sum-le (lessOne rem b) rem (λ x. elim (tri x b) [ lt e ↦ oth
         ]
 
 -- what the pool asks
-pub completing : (w : List ℕ) (l b : ℕ) (rem : List ℕ) → length w ≡ 64 → length rem ≡ 16 → Possible w l b rem → Completing (take (l + 1) (set w l b)) (lessOne rem b)
-completing w l b rem size few p = record {
+pub completing : (w : List ℕ) (l b k : ℕ) (rem : List ℕ) → length w ≡ 64 → length rem ≡ 16 → Possible w l b k rem → Completing (take (l + 1) (set w l b)) (take k (lessOne rem b))
+completing w l b k rem size few p = record {
   lyndon-al = rw (add-one l, take-suc-set w l b (omega (arith, p .inside))) (p .lyndon-al);
-  shades = omega (arith, length-set rem b (getD rem b 0 - 1));
-  room = omega (arith, less-sum rem b, p .room);
+  small = omega (arith, length-take-le (l + 1) (set w l b) (omega (arith, length-set w l b, p .inside)), p .inside);
+  shades = omega (arith, length-take-le k (lessOne rem b) (omega (arith, length-set rem b (getD rem b 0 - 1), p .shades)), p .shades);
+  room = omega (arith, sum-le (take k (lessOne rem b)) (lessOne rem b) part, less-sum rem b, p .room);
 }
+  where
+    part : (x : ℕ) → getD (take k (lessOne rem b)) x 0 ≤ getD (lessOne rem b) x 0
+    part x = elim (tri x k) [ lt h ↦ omega (arith, getD-take k (lessOne rem b) x 0 h) | eq h ↦ none (omega arith) | gt h ↦ none (omega arith) ]
+      where
+        none : k ≤ x → getD (take k (lessOne rem b)) x 0 ≤ getD (lessOne rem b) x 0
+        none h = omega (arith, List·getD-eq-default (take k (lessOne rem b)) 0 {n = x} (omega (arith, length-take-le k (lessOne rem b) (omega (arith, length-set rem b (getD rem b 0 - 1), p .shades)))))
 
 -- raising a sector of a prenecklace and cutting behind it gives a Lyndon word
 pub raised-lyndon : (w : List ℕ) (l b : ℕ) → l < length w → prenecklace (take (suc l) w) ≡ true → sec w l < b → lyndon (take l w ++ b ∷ []) ≡ true
@@ -139,33 +158,53 @@ raised-lyndon w l b inside pre h = lyndon-of al (omega (arith, long)) (subst (Ly
     first : Rattle.ring_laws.proofs.Run.Pre (sec w) (suc l)
     first = pre-through (sec (take (suc l) w)) (sec w) (suc l) (λ m k. getD-take (suc l) w m 0 k) (rw (length-take-le (suc l) w (omega arith)) at (pre-of (take (suc l) w) pre))
 
--- ---- the shades above that at place l, one after the other
+-- ---- the least shade that is left
 
--- the first of them
-pub lift-start : (w : List ℕ) (l k : ℕ) (rem : List ℕ) → Liftable w l k rem → Lifted w l k rem (sec w l + 1)
-lift-start w l k rem p = record { above = omega arith; most = omega (arith, p .low); barred = λ b h m. absurd (omega arith) }
+-- no shade from b up to x is left
+pub record Leftless (rem : List ℕ) (b k x : ℕ) : Type 0 where
+  pub from : b ≤ x
+  pub most : x ≤ k
+  pub none : (y : ℕ) → b ≤ y → y < x → getD rem y 0 ≡ 0
 
--- what is asked of each
-pub lift-asks : (w : List ℕ) (l k : ℕ) (rem : List ℕ) (b : ℕ) → length w ≡ 64 → Liftable w l k rem → Lifted w l k rem b → b < k → Possible w l b rem
-lift-asks w l k rem b size p r h = record {
-  inside = p .inside;
-  shade = omega (arith, p .shades);
-  room = p .room;
-  lyndon-al = raised-lyndon w l b (omega (arith, p .inside)) (p .pre) (r .above);
-}
+pub left-start : (rem : List ℕ) (b k : ℕ) → b ≤ k → Leftless rem b k b
+left-start rem b k h = record { from = omega arith; most = h; none = λ y p q. absurd (omega arith) }
 
--- one more is barred
-pub lift-more : (w : List ℕ) (l k : ℕ) (rem : List ℕ) (b : ℕ) → Lifted w l k rem b → b < k → Barred (take l w) b rem → Lifted w l k rem (b + 1)
-lift-more w l k rem b r h x = record {
-  above = omega (arith, r .above);
-  most = omega arith;
-  barred = λ a m q. elim (tri a b) [ lt e ↦ r .barred a m e | eq e ↦ subst (λ y. Barred (take l w) y rem) (sym e) x | gt e ↦ absurd (omega arith) ];
-}
+pub left-more : (rem : List ℕ) (b k x : ℕ) → Leftless rem b k x → x < k → getD rem x 0 ≡ 0 → Leftless rem b k (x + 1)
+left-more rem b k x p h z = record { from = omega (arith, p .from); most = omega arith; none = λ y m q. elim (tri y x) [ lt e ↦ p .none y m e | eq e ↦ rw e z | gt e ↦ absurd (omega arith) ] }
 
--- some word goes on with it
-pub lift-found : (w : List ℕ) (l k : ℕ) (rem : List ℕ) (b : ℕ) → Lifted w l k rem b → Fitting (take l w) b rem → LiftedTo w l k rem b
-lift-found w l k rem b r f = record { lifted = r; fitting = λ h. f }
+pub left-end : (rem : List ℕ) (b k x : ℕ) → Leftless rem b k x → (x < k → getD rem x 0 ≡ 0 → ⊥) → LeftFrom rem b k x
+left-end rem b k x p h = record { from = p .from; most = p .most; none = p .none; some = h }
 
--- no shade is left
-pub lift-end : (w : List ℕ) (l k : ℕ) (rem : List ℕ) (b : ℕ) → Lifted w l k rem b → k ≤ b → LiftedTo w l k rem b
-lift-end w l k rem b r h = record { lifted = r; fitting = λ q. absurd (omega arith) }
+-- ---- the shades above that at place l
+
+module _ (w : List ℕ) (l k : ℕ) (rem : List ℕ) (r : ℕ) (size : length w ≡ 64) (p : Liftable w l k rem) (left : LeftFrom rem (sec w l + 1) k r) where
+  -- each below the least that is left is barred
+  below-barred : (b : ℕ) → sec w l < b → b < r → Barred (take l w) b rem
+  below-barred b h m = barred-none (take l w) b rem (left .none b (omega arith) m)
+
+  -- none is left
+  pub lift-none : r ≡ k → LiftedTo w l k rem k
+  lift-none e = record { lifted = record { above = p .low; most = omega arith; barred = λ b h m. below-barred b h (omega arith) }; fitting = λ h. absurd (omega arith) }
+
+  module _ (some : r ≡ k → ⊥) where
+    -- what is asked of the least that is left
+    pub lift-asks : Possible w l r k rem
+    lift-asks = record {
+      inside = p .inside;
+      shades = p .shades;
+      shade = omega (arith, left .most);
+      past = p .past;
+      room = p .room;
+      lyndon-al = raised-lyndon w l r (omega (arith, p .inside)) (p .pre) (omega (arith, left .from));
+    }
+
+    -- some word goes on with it
+    pub lift-found : Fitting (take l w) r rem → LiftedTo w l k rem r
+    lift-found f = record { lifted = record { above = omega (arith, left .from); most = left .most; barred = below-barred }; fitting = λ h. f }
+
+    -- it is barred, and so is each greater one
+    pub lift-not : Barred (take l w) r rem → LiftedTo w l k rem k
+    lift-not x = record { lifted = record { above = p .low; most = omega arith; barred = λ b h m. elim (tri b r) [ lt e ↦ below-barred b h e | eq e ↦ subst (λ y. Barred (take l w) y rem) (sym e) x | gt e ↦ barred-above (take l w) r b rem e (raised r (omega (arith, left .from))) (raised b h) (left .some (omega (arith, left .most))) x ] }; fitting = λ h. absurd (omega arith) }
+      where
+        raised : (b : ℕ) → sec w l < b → lyndon (take l w ++ b ∷ []) ≡ true
+        raised b h = raised-lyndon w l b (omega (arith, p .inside)) (p .pre) h

@@ -3,15 +3,14 @@
 --     blocked-exceeds      what stands before the place is already more than the counts allow
 --     blocked-barred       the shade is barred
 --     begun-fitting        the shade fits: some ring goes on with it
---     raise-asks, raise-none, raise-some    one place
---     Past, find-start, find-asks, find-found, find-more, find-end    one place after the other, from the last on
+--     Past, Seeking, find-start, find-asks, find-found, find-more, find-end    one place after the other, from the last on
 use Prim.Native.Nat.{ℕ, suc, _+_, _-_, _<_, _≤_}
 use mathlib.Core.Path.{_≡_, sym, ap, _∙_, subst}
 use mathlib.Core.Bool.{true}
 use mathlib.Core.List.{List, _∷_, _++_}
 use native.Mathlib.Omega.{arith}
-use lib.ListN.{length, getD, take, drop, List·getD-append, List·getD-eq-default}
-use lib.Seq.{split-at, length-take-le, getD-take, getD-at, ext-getD}
+use lib.ListN.{length, getD, take, drop, set, List·getD-append, List·getD-eq-default}
+use lib.Seq.{split-at, length-take-le, getD-take, getD-at, ext-getD, take-take}
 use Rattle.words.proofs.Split.{lt, eq, gt, tri, both, both-left, both-right}
 use Rattle.words.proofs.Sequence.{sec}
 use Rattle.rings.specs.Necklace.{necklace}
@@ -21,12 +20,13 @@ use Rattle.words.specs.Sum.{sumOf}
 use Rattle.ring_laws.proofs.Run.{pre-shorter, pre-through}
 use Rattle.ring_laws.proofs.Words.{pre-of, of-pre}
 use Rattle.shades_laws.proofs.Copies.{occurs-append}
-use Rattle.shades_raise_inner.specs.Places.{CountedRing, Blocked, Begun, Barred, Fitting, Liftable, LiftedTo, Raisable, Raises, PlaceFound}
-use Rattle.shades_tally_inner.specs.Remaining.{Remains, Exceeds}
+use Rattle.shades_raise_inner.specs.Places.{CountedRing, Blocked, Begun, Barred, Fitting, Liftable, LiftedTo, PlaceFound}
+use Rattle.shades_tally_inner.specs.Remaining.{Remains, Exceeds, Fittable, Fitted}
+use Rattle.shades_tally_inner.specs.declared.Fit.{Fit}
 use Rattle.shades_raise_inner.specs.Ready.{Opening}
 use Rattle.shades_tally_inner.proofs.Tallying.{counts-at, counts-end, occurs-at, occurs-past}
 use Rattle.shades_raise_inner.proofs.Barring.{counts-long}
-use Rattle.shades_tally_inner.proofs.Leaving.{remains-sum}
+use Rattle.shades_tally_inner.proofs.Leaving.{remains-sum, remains-less, remains-le, exceeds-longer}
 
 -- a beginning of a prenecklace is a prenecklace
 pub beginning-pre : (w : List ℕ) (n m : ℕ) → m ≤ n → n ≤ length w → prenecklace (take n w) ≡ true → prenecklace (take m w) ≡ true
@@ -131,25 +131,6 @@ begun-fitting cs k w l b rem room many known r f = record {
           | gt e ↦ absurd (omega (arith, counts x, List·getD-eq-default cs 0 {n = x} (omega arith)))
         ]
 
--- ---- one place
-
--- what is asked of the shades at the place
-pub raise-asks : (w : List ℕ) (l k : ℕ) (cs rem : List ℕ) → Raisable w l k cs → Remains cs (take l w) rem → Liftable w l k rem
-raise-asks w l k cs rem p r = record { inside = p .inside; shades = p .shades; room = omega (arith, p .room, remains-sum cs (take l w) rem r); pre = p .pre; low = p .low }
-
--- no ring of the counts goes on there
-pub raise-none : (w : List ℕ) (l k : ℕ) (cs : List ℕ) → length w ≡ 64 → Raisable w l k cs → Exceeds cs (take l w) → Raises w l k cs k
-raise-none w l k cs size p x = record { above = p .low; most = omega arith; begun = λ h. absurd (omega arith); blocked = λ n b h m q. blocked-exceeds cs n k w l b h (omega (arith, p .inside)) x }
-
--- each shade between is barred
-pub raise-some : (w : List ℕ) (l k : ℕ) (cs rem : List ℕ) (r : ℕ) → length w ≡ 64 → Raisable w l k cs → Remains cs (take l w) rem → LiftedTo w l k rem r → Raises w l k cs r
-raise-some w l k cs rem r size p left up = record {
-  above = up .lifted .above;
-  most = up .lifted .most;
-  blocked = λ n b h m q. blocked-barred cs n k w l b h (omega (arith, p .inside)) rem (p .many) left (up .lifted .barred b m q);
-  begun = λ h. begun-fitting cs k w l r rem (omega (arith, p .inside)) (p .many) (p .known) left (up .fitting h);
-}
-
 -- ---- one place after the other, from the last on
 
 -- each place from i on is blocked to each greater shade
@@ -157,57 +138,97 @@ pub record Past (w : List ℕ) (n k : ℕ) (cs : List ℕ) (i : ℕ) : Type 0 wh
   pub within : i ≤ n
   pub blocked : (l b : ℕ) → i ≤ l → l < n → sec w l < b → b < k → Blocked cs n k w l b
 
--- there is no place behind the last
-pub find-start : (w : List ℕ) (n k : ℕ) (cs : List ℕ) → Past w n k cs n
-find-start w n k cs = record { within = omega arith; blocked = λ l b h m. absurd (omega arith) }
+-- each place behind i is blocked, and rem is what the counts leave beside the sectors before i
+pub record Seeking (w : List ℕ) (n k : ℕ) (cs : List ℕ) (i : ℕ) (rem : List ℕ) : Type 0 where
+  pub inside : i < n
+  pub remains : Remains cs (take i w) rem
+  pub past : Past w n k cs (suc i)
 
--- what is asked of a place
-pub find-asks : (w : List ℕ) (n k : ℕ) (cs : List ℕ) (i : ℕ) → length w ≡ 64 → Opening w n k cs → Past w n k cs i → 0 < i → Raisable w (i - 1) k cs
-find-asks w n k cs i size p at z = record {
-  inside = omega (arith, at .within, p .ready .size);
-  shades = p .ready .shades;
-  many = p .ready .many;
-  room = omega (arith, p .ready .whole, p .ready .size);
-  pre = beginning-pre w n (suc (i - 1)) (omega (arith, at .within)) (omega (arith, p .ready .size)) (p .pre);
-  low = known (i - 1) inside;
-  known = λ m h. known m (omega (arith, inside));
-}
-  where
-    inside : i - 1 < n
-    inside = omega (arith, at .within)
+module _ (w : List ℕ) (n k : ℕ) (cs : List ℕ) (size : length w ≡ 64) (p : Opening w n k cs) where
+  -- each sector is a shade
+  known-shade : (m : ℕ) → m < n → sec w m < k
+  known-shade m h = rw (getD-take n w m 0 h) at (p .ready .reading .shades m h)
 
-    known : (m : ℕ) → m < n → sec w m < k
-    known m h = rw (getD-take n w m 0 h) at (p .ready .reading .shades m h)
+  -- all sectors but the last
+  pub find-part : n - 1 ≤ length w
+  find-part = omega (arith, p .ready .size)
 
-module _ (w : List ℕ) (n k : ℕ) (cs : List ℕ) (i r : ℕ) (at : Past w n k cs i) (z : 0 < i) (up : Raises w (i - 1) k cs r) where
-  -- the place can be raised
-  pub find-found : sumOf cs ≡ n → r < k → PlaceFound w n k cs (record { end = i; shade = r })
-  find-found whole h = record {
-    within = at .within;
-    blocked = at .blocked;
-    above = λ q. up .above;
-    known = λ q. h;
-    between = λ b q m. up .blocked n b (omega (arith, at .within)) m;
-    begun = λ q. rw whole at (up .begun h);
+  front-long : length (take (n - 1) w) ≡ n - 1
+  front-long = length-take-le (n - 1) w find-part
+
+  -- each of them has a count
+  pub find-fits : Fittable cs (take (n - 1) w)
+  find-fits = record { few = omega (arith, p .ready .many, p .ready .shades); known = λ i h. let b : i < n - 1 = omega (arith, front-long) in rw (getD-take (n - 1) w i 0 b, p .ready .many) (known-shade i (omega arith)) }
+
+  -- where they no longer fit, no place behind is looked at
+  pub find-start : (r : Fit) → Fitted cs (take (n - 1) w) r → Seeking w n k cs (r .end) (r .rem)
+  find-start r f = record {
+    inside = omega (arith, f .within, front-long, p .ready .pos);
+    remains = subst (λ u. Remains cs u (r .rem)) (take-take (r .end) (n - 1) w (omega (arith, f .within, front-long))) (f .remains);
+    past = record { within = omega (arith, f .within, front-long, p .ready .pos); blocked = λ l b h m q t. blocked-exceeds cs n k w l b m (omega (arith, p .ready .size)) (exceeds-longer cs w (suc (r .end)) l h (subst (Exceeds cs) (take-take (suc (r .end)) (n - 1) w (omega arith)) (f .exceeds (omega (arith, front-long))))) };
   }
 
-  -- it cannot
-  pub find-more : k ≤ r → Past w n k cs (i - 1)
-  find-more h = record {
-    within = omega (arith, at .within);
-    blocked = λ l b m q. elim (tri l (i - 1)) [ lt e ↦ absurd (omega arith) | eq e ↦ here l b e q | gt e ↦ at .blocked l b (omega arith) q ];
-  }
-    where
-      here : (l b : ℕ) → l ≡ i - 1 → l < n → sec w l < b → b < k → Blocked cs n k w l b
-      here l b e q = rw e (λ m y. up .blocked n b (omega (arith, at .within)) m (omega arith))
+  module _ (i : ℕ) (rem : List ℕ) (at : Seeking w n k cs i rem) where
+    -- what is asked of the shades at the place
+    pub find-asks : Liftable w i k rem
+    find-asks = record {
+      inside = omega (arith, at .inside, p .ready .size);
+      shades = p .ready .shades;
+      past = λ x h. at .remains .past x (omega (arith, p .ready .many));
+      room = omega (arith, p .ready .whole, p .ready .size, remains-sum cs (take i w) rem (at .remains));
+      pre = beginning-pre w n (suc i) (omega (arith, at .inside)) (omega (arith, p .ready .size)) (p .pre);
+      low = known-shade i (at .inside);
+    }
 
--- no place can be raised
-pub find-end : (w : List ℕ) (n k : ℕ) (cs : List ℕ) (i : ℕ) → Past w n k cs i → i ≡ 0 → PlaceFound w n k cs (record { end = 0; shade = 0 })
-find-end w n k cs i at e = record {
-  within = omega arith;
-  blocked = λ l b h. at .blocked l b (omega arith);
-  above = λ q. absurd (omega arith);
-  known = λ q. absurd (omega arith);
-  between = λ b q. absurd (omega arith);
-  begun = λ q. absurd (omega arith);
-}
+    module _ (r : ℕ) (up : LiftedTo w i k rem r) where
+      -- each shade between is blocked
+      blocked-here : (b : ℕ) → sec w i < b → b < r → Blocked cs n k w i b
+      blocked-here b m q = blocked-barred cs n k w i b (at .inside) (omega (arith, at .inside, p .ready .size)) rem (p .ready .many) (at .remains) (up .lifted .barred b m q)
+
+      -- a place that cannot be raised joins those behind it
+      past-here : (r < k → ⊥) → (l b : ℕ) → i ≤ l → l < n → sec w l < b → b < k → Blocked cs n k w l b
+      past-here h l b m q t u =
+          elim (tri i l) [
+            | lt x ↦ at .past .blocked l b (omega arith) q t u
+            | eq x ↦ subst (λ y. sec w y < b → Blocked cs n k w y b) x (λ s. blocked-here b s (omega arith)) t
+            | gt x ↦ absurd (omega arith)
+          ]
+
+      -- the place can be raised
+      pub find-found : r < k → PlaceFound w n k cs (record { end = i + 1; shade = r })
+      find-found h =
+          let e : i + 1 - 1 ≡ i = omega arith in
+          record {
+            within = omega (arith, at .inside);
+            blocked = λ l b m. at .past .blocked l b (omega arith);
+            above = λ q. rw e (up .lifted .above);
+            known = λ q. h;
+            between = λ b q. rw e (blocked-here b);
+            begun = λ q. rw e (subst (λ x. Begun cs x k w i r) (p .ready .whole) (begun-fitting cs k w i r rem (omega (arith, at .inside, p .ready .size)) (p .ready .many) (λ m h. known-shade m (omega (arith, at .inside))) (at .remains) (up .fitting h)));
+          }
+
+      -- it cannot, and it is the first
+      pub find-end : (r < k → ⊥) → i ≡ 0 → PlaceFound w n k cs (record { end = 0; shade = 0 })
+      find-end h e = record {
+        within = omega arith;
+        blocked = λ l b m. past-here h l b (omega arith);
+        above = λ q. absurd (omega arith);
+        known = λ q. absurd (omega arith);
+        between = λ b q. absurd (omega arith);
+        begun = λ q. absurd (omega arith);
+      }
+
+      -- it cannot, and there is one before it
+      pub find-more : (r < k → ⊥) → (i ≡ 0 → ⊥) → Seeking w n k cs (i - 1) (set rem (sec w (i - 1)) (getD rem (sec w (i - 1)) 0 + 1))
+      find-more h z = record {
+        inside = omega (arith, at .inside);
+        remains = remains-less cs w rem (i - 1) (omega (arith, at .inside, p .ready .size)) (rw (p .ready .many) (known-shade (i - 1) (omega (arith, at .inside)))) (omega (arith, p .ready .many, p .ready .shades)) (subst (λ x. Remains cs (take x w) rem) (let e : i ≡ i - 1 + 1 = omega arith in e) (at .remains));
+        past = record { within = omega (arith, at .inside); blocked = λ l b m. past-here h l b (omega arith) };
+      }
+
+      -- the sector before it is a shade that has a count
+      pub find-shade : (i ≡ 0 → ⊥) → sec w (i - 1) < 16
+      find-shade z = omega (arith, known-shade (i - 1) (omega (arith, at .inside)), p .ready .shades)
+
+      pub find-count : (b : ℕ) → getD rem b 0 ≤ 64
+      find-count b = omega (arith, remains-le cs (take i w) rem b (at .remains), p .ready .whole, p .ready .size)

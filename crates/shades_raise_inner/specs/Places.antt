@@ -5,7 +5,7 @@
 --     Barred u b rem           no word of exactly the letters that rem counts, of which b is the first, completes u to a necklace
 --     Fitting u b rem          some such word does
 --     Allows u b rem r         r is yes exactly where some such word does
---     Possible, Liftable, Lifted, LiftedTo, Raisable, Raises, PlaceFound    what `possible`, `lift`, `open_shade` and `find` ask and promise
+--     Possible, LeftFrom, Liftable, Lifted, LiftedTo, PlaceFound    what `possible`, `left_from`, `lift` and `find` ask and promise
 -- What the counts leave beside some sectors: `shades_tally_inner`, specs/Remaining.
 use Prim.Native.Nat.{ℕ, suc, _+_, _-_, _<_, _≤_}
 use mathlib.Core.Path.{_≡_}
@@ -52,16 +52,26 @@ pub record Allows (u : List ℕ) (b : ℕ) (rem : List ℕ) (r : Bool) : Type 0 
   pub no : r ≡ false → Barred u b rem
 
 -- the first l sectors of w with the shade b behind them are a Lyndon word
-pub record Possible (w : List ℕ) (l b : ℕ) (rem : List ℕ) : Type 0 where
+pub record Possible (w : List ℕ) (l b k : ℕ) (rem : List ℕ) : Type 0 where
   pub inside : l < 64
-  pub shade : b < 16
+  pub shades : k ≤ 16
+  pub shade : b < k
+  pub past : (x : ℕ) → k ≤ x → getD rem x 0 ≡ 0
   pub room : sumOf rem ≤ 64
   pub lyndon-al : lyndon (take l w ++ b ∷ []) ≡ true
+
+-- r is the least shade from b on of which some is left, or k
+pub record LeftFrom (rem : List ℕ) (b k r : ℕ) : Type 0 where
+  pub from : b ≤ r
+  pub most : r ≤ k
+  pub none : (x : ℕ) → b ≤ x → x < r → getD rem x 0 ≡ 0
+  pub some : r < k → getD rem r 0 ≡ 0 → ⊥
 
 -- place l of w ends a prenecklace
 pub record Liftable (w : List ℕ) (l k : ℕ) (rem : List ℕ) : Type 0 where
   pub inside : l < 64
   pub shades : k ≤ 16
+  pub past : (x : ℕ) → k ≤ x → getD rem x 0 ≡ 0
   pub room : sumOf rem ≤ 64
   pub pre : prenecklace (take (suc l) w) ≡ true
   pub low : sec w l < k
@@ -76,23 +86,6 @@ pub record Lifted (w : List ℕ) (l k : ℕ) (rem : List ℕ) (r : ℕ) : Type 0
 pub record LiftedTo (w : List ℕ) (l k : ℕ) (rem : List ℕ) (r : ℕ) : Type 0 where
   pub lifted : Lifted w l k rem r
   pub fitting : r < k → Fitting (take l w) r rem
-
--- place l of w ends a prenecklace of k shades, and there are k counts
-pub record Raisable (w : List ℕ) (l k : ℕ) (cs : List ℕ) : Type 0 where
-  pub inside : l < 64
-  pub shades : k ≤ 16
-  pub many : length cs ≡ k
-  pub room : sumOf cs ≤ 64
-  pub pre : prenecklace (take (suc l) w) ≡ true
-  pub low : sec w l < k
-  pub known : (m : ℕ) → m < l → sec w m < k
-
--- r is above the shade at place l of w, and each shade between is blocked; it is k, or some ring goes on with it
-pub record Raises (w : List ℕ) (l k : ℕ) (cs : List ℕ) (r : ℕ) : Type 0 where
-  pub above : sec w l < r
-  pub most : r ≤ k
-  pub blocked : (n b : ℕ) → l < n → sec w l < b → b < r → Blocked cs n k w l b
-  pub begun : r < k → Begun cs (sumOf cs) k w l r
 
 -- each place from `end` on is blocked to each greater shade, and that before it up to the shade of the answer, with which some ring goes on
 pub record PlaceFound (w : List ℕ) (n k : ℕ) (cs : List ℕ) (r : Place) : Type 0 where

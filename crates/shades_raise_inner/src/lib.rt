@@ -1,11 +1,12 @@
 // The last place of a prenecklace that can be raised so that the pool leaves a completion (`shades_completable_inner`). No public calls.
+ghost use Prim.Native.Nat.{_≤_};
 ghost use lib.ListN.{take};
-ghost use Rattle.shades_raise_inner.specs.Places.{Possible, Allows, Liftable, LiftedTo, Raisable, Raises, PlaceFound};
+ghost use Rattle.shades_raise_inner.specs.Places.{Possible, Allows, LeftFrom, Liftable, LiftedTo, PlaceFound};
 ghost use Rattle.shades_raise_inner.specs.Ready.{Opening};
 
 // Whether letters can complete the first l sectors with the shade b behind them to a necklace, where rem counts what is left beside those l.
-fn possible(w: [u8; 64], l: usize, b: usize, rem: [usize; 16]) -> bool
-    requires { ⌜ Possible w l b rem ⌝ }
+fn possible(w: [u8; 64], l: usize, b: usize, k: usize, rem: [usize; 16]) -> bool
+    requires { ⌜ Possible w l b k rem ⌝ }
     ensures { λ r. ⌜ Allows (take l w) b rem r ⌝ }
 {
     if rem[b] == 0 {
@@ -15,35 +16,37 @@ fn possible(w: [u8; 64], l: usize, b: usize, rem: [usize; 16]) -> bool
     al[l] = b as u8;
     let mut left = rem;
     left[b] -= 1;
-    shades_completable_inner::completable(&al[..l + 1], &left)
+    shades_completable_inner::completable(&al[..l + 1], &left[..k])
 }
 
-// The least shade above that at place l to which letters leave a completion, or k.
+// The least shade from b on of which some is left, or k.
+fn left_from(rem: [usize; 16], b: usize, k: usize) -> usize
+    requires { ⌜ (b ≤ k) × (k ≤ 16) ⌝ }
+    ensures { λ r. ⌜ LeftFrom rem b k r ⌝ }
+{
+    let mut x = b;
+    while x < k {
+        if rem[x] != 0 {
+            return x;
+        }
+        x += 1;
+    }
+    x
+}
+
+// The least shade above that at place l to which letters leave a completion, or k: where the least that is left is barred, each is.
 fn lift(w: [u8; 64], l: usize, k: usize, rem: [usize; 16]) -> usize
     requires { ⌜ Liftable w l k rem ⌝ }
     ensures { λ r. ⌜ LiftedTo w l k rem r ⌝ }
 {
-    let mut b = (w[l] as usize) + 1;
-    while b < k {
-        if possible(w, l, b, rem) {
-            return b;
-        }
-        b += 1;
-    }
-    b
-}
-
-// The least shade above that at place l with which a ring of these counts goes on there, or k.
-fn open_shade(w: [u8; 64], l: usize, k: usize, counts: &[usize]) -> usize
-    requires { ⌜ Raisable w l k (now counts) ⌝ }
-    ensures { λ r. ⌜ Raises w l k (now (counts .entry)) r ⌝ }
-{
-    let left = shades_tally_inner::left_over(counts, &w[..l]);
-    if !left.fits {
+    let b = left_from(rem, (w[l] as usize) + 1, k);
+    if b == k {
         return k;
     }
-    let rem = left.rem;
-    lift(w, l, k, rem)
+    if possible(w, l, b, k, rem) {
+        return b;
+    }
+    k
 }
 
 // A place, counted from 1, and the shade to which it is raised; 0 and 0 where there is none.
@@ -52,18 +55,27 @@ pub struct Place {
     pub shade: usize,
 }
 
-// The last place that can be raised so that a ring of these counts begins so.
+// The last place that can be raised so that a ring of these counts begins so. No place is looked at before which the sectors are more than the counts allow.
 pub fn find(w: [u8; 64], n: usize, k: usize, counts: &[usize]) -> Place
     requires { ⌜ Opening w n k (now counts) ⌝ }
     ensures { λ r. ⌜ PlaceFound w n k (now (counts .entry)) r ⌝ }
 {
-    let mut i = n;
-    while 0 < i {
-        let b = open_shade(w, i - 1, k, counts);
+    let fit = shades_tally_inner::fitting(counts, &w[..n - 1]);
+    let mut i = fit.end;
+    let mut rem = fit.rem;
+    loop {
+        let b = lift(w, i, k, rem);
         if b < k {
-            return Place { end: i, shade: b };
+            return Place {
+                end: i + 1,
+                shade: b,
+            };
+        }
+        if i == 0 {
+            return Place { end: 0, shade: 0 };
         }
         i -= 1;
+        let x = w[i] as usize;
+        rem[x] += 1;
     }
-    Place { end: 0, shade: 0 }
 }

@@ -1,11 +1,12 @@
 // Counting the shades of a reading. No public calls.
 ghost use mathlib.Core.Path.{_≡_};
 ghost use Prim.Native.Nat.{_≤_};
+ghost use mathlib.Core.List.{[]};
 ghost use lib.ListN.{length};
 ghost use Rattle.rings.specs.Counts.{occurs, hasCounts, countedNecklace};
 ghost use Rattle.ring_laws.specs.Run.{Run};
 ghost use Rattle.words.specs.Sequence.{sec};
-ghost use Rattle.shades_tally_inner.specs.Remaining.{Beside};
+ghost use Rattle.shades_tally_inner.specs.Remaining.{Remains, Fittable, Fitted};
 
 // How often the shade b stands in s.
 fn tally(s: &[u8], b: usize) -> usize
@@ -47,32 +48,40 @@ pub fn is_counted(s: &[u8], p: usize, counts: &[usize]) -> bool
     has_counts(s, counts)
 }
 
-// What the counts leave beside some sectors, where those fit into the counts.
-pub struct Left {
-    pub fits: bool,
-    pub rem: [usize; 16],
-}
-
-// What the counts leave beside the sectors u.
-pub fn left_over(counts: &[usize], u: &[u8]) -> Left
+// What the counts leave where no sector is taken.
+fn untouched(counts: &[usize]) -> [usize; 16]
     requires { ⌜ length (now counts) ≤ 16 ⌝ }
-    ensures { λ r. ⌜ Beside (now (counts .entry)) (now (u .entry)) r ⌝ }
+    ensures { λ r. ⌜ Remains (now (counts .entry)) [] r ⌝ }
 {
     let mut rem = [0usize; 16];
     let mut b: usize = 0;
     while b < counts.len() {
-        let x = tally(u, b);
-        if counts[b] < x {
-            return Left {
-                fits: false,
-                rem: rem,
-            };
-        }
-        rem[b] = counts[b] - x;
+        rem[b] = counts[b];
         b += 1;
     }
-    Left {
-        fits: true,
-        rem: rem,
+    rem
+}
+
+// How many sectors fit into counts, and what the counts leave beside those.
+pub struct Fit {
+    pub end: usize,
+    pub rem: [usize; 16],
+}
+
+// How far the sectors s fit into the counts.
+pub fn fitting(counts: &[usize], s: &[u8]) -> Fit
+    requires { ⌜ Fittable (now counts) (now s) ⌝ }
+    ensures { λ r. ⌜ Fitted (now (counts .entry)) (now (s .entry)) r ⌝ }
+{
+    let mut rem = untouched(counts);
+    let mut i: usize = 0;
+    while i < s.len() {
+        let x = s[i] as usize;
+        if rem[x] == 0 {
+            return Fit { end: i, rem: rem };
+        }
+        rem[x] -= 1;
+        i += 1;
     }
+    Fit { end: i, rem: rem }
 }

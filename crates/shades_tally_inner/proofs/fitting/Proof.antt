@@ -1,0 +1,82 @@
+-- `shades_tally_inner::fitting` meets its contract. The loop: the first i sectors fit, and rem is what the counts leave beside them.
+use Prim.Native.Nat.{_≤_, _-_}
+use native.Mathlib.Omega.{arith}
+use lib.ListN.{length, take}
+use borrow.Author.Needs.{needs}
+use Rattle.shades_tally_inner.specs.Remaining.{Remains}
+use Rattle.shades_tally_inner.proofs.Leaving.{remains-more, exceeds-one}
+use Rattle.shades_tally_inner.proofs.fitting.Statement.{statement}
+use Rattle.shades_tally_inner.proofs.fitting.Tie as tie
+
+abbrev Inv-loop : tie.InvT-loop
+Inv-loop counts s rem₀ i₀ rem i = (i ≤ length s) × Remains counts (take i s) rem
+
+abbrev μ-loop : tie.MeasureT-loop
+μ-loop counts s rem₀ i₀ rem i = length s - i
+
+untouched-requires : tie.Need-untouched-requires Inv-loop μ-loop
+untouched-requires c κs = c .before .before .pre .few
+
+loop-holds : tie.Need-loop-holds Inv-loop μ-loop
+loop-holds c = (omega arith, c .untouched .ensures)
+
+shared-slice-read-x : tie.Need-shared-slice-read-x Inv-loop μ-loop
+shared-slice-read-x c = search needs
+
+cast-x : tie.Need-cast-x Inv-loop μ-loop
+cast-x c = omega (arith, c .shared-slice-known3 .given (c .before .before .loop .i))
+
+mul-if1 : tie.Need-mul-if1 Inv-loop μ-loop
+mul-if1 c = omega (arith, c .before .before .before .before .before .before .pre .known (c .before .before .loop .i) (c .before .loop-test .taken), c .before .before .before .before .before .before .pre .few, c .before .before .loop .inv .1 .size)
+
+array-read-if1 : tie.Need-array-read-if1 Inv-loop μ-loop
+array-read-if1 c = omega (arith, c .before .before .before .before .before .before .pre .known (c .before .before .loop .i) (c .before .loop-test .taken), c .before .before .before .before .before .before .pre .few, c .before .before .loop .inv .1 .size)
+
+returns : tie.Need-returns Inv-loop μ-loop
+returns c = let l = c .before .before .before .loop in let a = c .before .before .before .before .before .before .before .args in record { within = l .inv .0; remains = l .inv .1; exceeds = λ h. exceeds-one (a .counts .now) (a .s .now) (l .rem) (l .i) (c .before .before .loop-test .taken) (c .before .before .before .before .before .before .before .pre .known (l .i) (c .before .before .loop-test .taken)) (c .before .before .before .before .before .before .before .pre .few) (l .inv .1) (c .if1 .taken) }
+
+mul-rem : tie.Need-mul-rem Inv-loop μ-loop
+mul-rem c = omega (arith, c .before .before .before .before .before .before .before .pre .known (c .before .before .before .loop .i) (c .before .before .loop-test .taken), c .before .before .before .before .before .before .before .pre .few, c .before .before .before .loop .inv .1 .size)
+
+array-read-rem : tie.Need-array-read-rem Inv-loop μ-loop
+array-read-rem c = omega (arith, c .before .before .before .before .before .before .before .pre .known (c .before .before .before .loop .i) (c .before .before .loop-test .taken), c .before .before .before .before .before .before .before .pre .few, c .before .before .before .loop .inv .1 .size)
+
+sub-rem : tie.Need-sub-rem Inv-loop μ-loop
+sub-rem c = search needs
+
+array-write-rem : tie.Need-array-write-rem Inv-loop μ-loop
+array-write-rem c = omega (arith, c .before .before .before .before .before .before .before .pre .known (c .before .before .before .loop .i) (c .before .before .loop-test .taken), c .before .before .before .before .before .before .before .pre .few, c .before .before .before .loop .inv .1 .size)
+
+add-i : tie.Need-add-i Inv-loop μ-loop
+add-i c = search needs
+
+loop-less : tie.Need-loop-less Inv-loop μ-loop
+loop-less c = search needs
+
+loop-again : tie.Need-loop-again Inv-loop μ-loop
+loop-again c = let l = c .before .before .before .loop in let a = c .before .before .before .before .before .before .before .args in (omega arith, remains-more (a .counts .now) (a .s .now) (l .rem) (l .i) (c .before .before .loop-test .taken) (c .before .before .before .before .before .before .before .pre .known (l .i) (c .before .before .loop-test .taken)) (c .before .before .before .before .before .before .before .pre .few) (l .inv .1) (c .if1 .left))
+
+returns-2 : tie.Need-returns-2 Inv-loop μ-loop
+returns-2 c = record { within = c .before .loop .inv .0; remains = c .before .loop .inv .1; exceeds = λ h. absurd (omega (arith, c .loop-test .left)) }
+
+pub fitting-spec : {M : Type 1} → statement M
+fitting-spec =
+    tie.close
+    (tie.spec
+    Inv-loop
+    μ-loop
+    untouched-requires
+    loop-holds
+    shared-slice-read-x
+    cast-x
+    mul-if1
+    array-read-if1
+    returns
+    mul-rem
+    array-read-rem
+    sub-rem
+    array-write-rem
+    add-i
+    loop-less
+    loop-again
+    returns-2)
