@@ -19,7 +19,8 @@ use Rattle.words.specs.Sum.{sumOf}
 use Rattle.words.proofs.Split.{lt, eq, gt, tri}
 use Rattle.words.proofs.Sequence.{sec}
 use Rattle.words.proofs.Lex.{before-gt, before-irrefl}
-use Rattle.rings.specs.Necklace.{lyndon}
+use Rattle.rings.specs.Necklace.{necklace, lyndon}
+use Rattle.rings.specs.Counts.{occurs}
 use Rattle.ring_laws.proofs.Run.{Lyn}
 use Rattle.ring_laws.proofs.Lyndon.{of-lyndon, lyndon-pos}
 use Rattle.shades_laws.proofs.Under.{_≪_, here, Short, opening, before-place}
@@ -27,7 +28,7 @@ use Rattle.shades_laws.proofs.Made.{Completed, made-none}
 use Rattle.shades_laws.proofs.Letters.{letters, occurs-letters, length-letters}
 use Rattle.shades_laws.proofs.Groups.{Grouped, spread, group-start, group-dropped, group-few, group-pushed, group-taken, group-stuck, group-low, group-yes}
 use Rattle.shades_pool_inner.specs.Chain.{Spelled, Chained, Ranked, Compares}
-use Rattle.shades_completable_inner.specs.Completion.{Completing, Hopeless, Decides, Least, Numbered, Opened}
+use Rattle.shades_completable_inner.specs.Completion.{Completing, Hopeless, Decides, Least, Numbered, LastSome, Opened}
 
 -- ---- the least letter that is left
 
@@ -75,8 +76,8 @@ completed-yes : (al rem : List ℕ) → Completed al (letters rem) → Decides a
 completed-yes al rem c = record { yes = λ e. record { rest = c .rest; letters = λ b. c .letters b ∙ occurs-letters b 0 b rem (omega arith); whole = c .whole }; no = λ e. absurd (true≢false e) }
 
 -- no completion
-hopeless-no : (al rem : List ℕ) → ((v : List ℕ) → ((b : ℕ) → Rattle.rings.specs.Counts.occurs b v ≡ Rattle.rings.specs.Counts.occurs b (letters rem)) → Rattle.rings.specs.Necklace.necklace (al ++ v) ≡ true → ⊥) → Decides al rem false
-hopeless-no al rem h = record { yes = λ r. absurd (true≢false (sym r)); no = λ r v c n. h v (λ x. c x ∙ sym (occurs-letters x 0 x rem (omega arith))) n }
+hopeless-no : (al rem : List ℕ) → ((u v : List ℕ) → ((b : ℕ) → occurs b v ≡ occurs b (letters rem)) → necklace (al ++ (u ++ v)) ≡ true → ⊥) → Decides al rem false
+hopeless-no al rem h = record { yes = λ r. absurd (true≢false (sym r)); no = λ r u v c n. h u v (λ x. c x ∙ sym (occurs-letters x 0 x rem (omega arith))) n }
 
 module _ (al rem : List ℕ) (c : Completing al rem) where
   some-al : 0 < length al
@@ -198,7 +199,7 @@ test-start al rem b num p size numbered = record {
     opening-letter : b ∷ [] ≡ take 1 al
     opening-letter = ap (λ x. x ∷ []) (sym (p .begins)) ∙ sym (take-suc al 0 0 (omega (arith, p .long)))
 
-module _ (al rem : List ℕ) (first q a f e : ℕ) (num pre next : List ℕ) (t : Testing al rem first q a f e num pre next) where
+module _ {al rem : List ℕ} {first q a f e : ℕ} {num pre next : List ℕ} (t : Testing al rem first q a f e num pre next) where
   -- only copies of the least word are left
   pub test-stuck : e ≡ f → Decides al rem false
   test-stuck h = hopeless-no al rem (group-stuck (subst (Grouped al (letters rem) (take a al) q (t .word) (sec num) f) (let z : t .groups ≡ 0 = omega (arith, t .ends) in z) (t .grouped)) (opens-before al a (t .within)))
@@ -399,3 +400,57 @@ module _ (al rem : List ℕ) (first q a f e : ℕ) (num pre next : List ℕ) (t 
 
             word-long : 0 < length (t .word g)
             word-long = Rattle.shades_laws.proofs.Groups.beyond-long (more .beyond g g (omega (arith, g-at)) (omega (arith, g-at)) (omega arith))
+
+-- groups without copies at the end go
+pub test-skipped : {al rem : List ℕ} {first q a f e : ℕ} {num pre next : List ℕ} → Testing al rem first q a f e num pre next → (r : ℕ) → LastSome num f e r → Testing al rem first q a f r num pre next
+test-skipped {al} {rem} {first} {q} {a} {f} {e} {num} {pre} {next} t r l = go (e - r) e t (omega (arith, l .upto)) (λ i h k. l .none i h k)
+  where
+    go : (d e : ℕ) → Testing al rem first q a f e num pre next → e ≡ r + d → ((i : ℕ) → r ≤ i → i < e → getD num i 0 ≡ 0) → Testing al rem first q a f r num pre next
+    go zero e t k none = subst (λ x. Testing al rem first q a f x num pre next) (let z : e ≡ r = omega arith in z) t
+    go (suc d) e t k none = go d (e - 1) (test-dropped t (λ x. omega (arith, l .from)) (none (e - 1) (omega arith) (omega arith))) (omega arith) (λ i h m. none i h (omega arith))
+
+-- what the loop's numbers are bounded by, where there is a last group and x is its number
+pub record Bounds (al : List ℕ) (first q a f e x : ℕ) (num pre next : List ℕ) : Type 0 where
+  pub size : length num ≡ 80
+  pub slots : length pre ≡ 80
+  pub links : length next ≡ 80
+  pub order : f < e
+  pub top : e ≤ 80
+  pub some : 0 < q
+  pub few : q + x ≤ f
+  pub within : a < length al
+  pub small : length al ≤ 64
+
+pub test-bounds : {al rem : List ℕ} {first q a f e : ℕ} {num pre next : List ℕ} → Testing al rem first q a f e num pre next → (e ≡ f → ⊥) → Bounds al first q a f e (getD num (e - 1) 0) num pre next
+test-bounds {f = f} {e = e} t other = record {
+  size = t .size;
+  slots = t .slots;
+  links = t .links;
+  order = elim (tri f e) [ lt h ↦ h | eq h ↦ absurd (other (sym h)) | gt h ↦ absurd (omega (arith, test-order t)) ];
+  top = t .top;
+  some = test-some t;
+  few = test-number t other;
+  within = t .within;
+  small = t .small;
+}
+
+-- ---- the last group that has a copy
+
+-- each group from r on has none
+pub record Dropping (num : List ℕ) (f e r : ℕ) : Type 0 where
+  pub from : f ≤ r
+  pub upto : r ≤ e
+  pub none : (i : ℕ) → r ≤ i → i < e → getD num i 0 ≡ 0
+
+pub drop-start : (num : List ℕ) (f e : ℕ) → f ≤ e → Dropping num f e e
+drop-start num f e h = record { from = h; upto = omega arith; none = λ i p q. absurd (omega arith) }
+
+pub drop-more : (num : List ℕ) (f e r : ℕ) → Dropping num f e r → f < r → getD num (r - 1) 0 ≡ 0 → Dropping num f e (r - 1)
+drop-more num f e r p h z = record {
+  from = omega arith;
+  upto = omega (arith, p .upto);
+  none = λ i k l. elim (tri i (r - 1)) [ lt x ↦ absurd (omega arith) | eq x ↦ rw x z | gt x ↦ p .none i (omega arith) l ];
+}
+
+pub drop-end : (num : List ℕ) (f e r : ℕ) → Dropping num f e r → (f < r → getD num (r - 1) 0 ≡ 0 → ⊥) → LastSome num f e r
+drop-end num f e r p h = record { from = p .from; upto = p .upto; none = p .none; some = h }

@@ -1,12 +1,13 @@
 -- What it is to complete a beginning to a necklace by letters of given counts.
 --     Completing al rem    al is a Lyndon word, and the letters that rem counts have room
---     Hopeless al rem      no word with exactly these letters completes al to a necklace
+--     Hopeless al rem      no necklace begins with al and ends with exactly these letters
 --     Hopeful al rem       a word with exactly these letters completes al to a necklace
 --     Decides al rem r     r is yes exactly where there is such a word
 --     Least rem r          r is the least letter of which some is left, or how many counts there are
 --     Numbered rem r       letter b is counted at place 64 + b
+--     LastSome num f e r   r is where the last group from f up to e ends that has a copy, or f
 --     Opened al rem b      b is the least letter that is left, and al begins with it and goes on
-use Prim.Native.Nat.{ℕ, _+_, _<_, _≤_}
+use Prim.Native.Nat.{ℕ, _+_, _-_, _<_, _≤_}
 use mathlib.Core.Path.{_≡_}
 use mathlib.Core.Bool.{Bool, true, false}
 use mathlib.Core.List.{List, _++_}
@@ -22,9 +23,9 @@ pub record Completing (al rem : List ℕ) : Type 0 where
   pub shades : length rem ≤ 16
   pub room : sumOf rem ≤ 64
 
--- no word with exactly these letters completes al to a necklace
+-- no necklace begins with al and ends with exactly these letters, whatever stands between
 abbrev pub Hopeless : List ℕ → List ℕ → Type 0
-Hopeless al rem = (v : List ℕ) → ((b : ℕ) → occurs b v ≡ getD rem b 0) → necklace (al ++ v) ≡ true → ⊥
+Hopeless al rem = (u v : List ℕ) → ((b : ℕ) → occurs b v ≡ getD rem b 0) → necklace (al ++ (u ++ v)) ≡ true → ⊥
 
 -- a word with exactly these letters completes al to a necklace
 pub record Hopeful (al rem : List ℕ) : Type 0 where
@@ -32,7 +33,7 @@ pub record Hopeful (al rem : List ℕ) : Type 0 where
   pub letters : (b : ℕ) → occurs b rest ≡ getD rem b 0
   pub whole : necklace (al ++ rest) ≡ true
 
--- r is yes exactly where there is such a word
+-- r is yes exactly where there is such a word; where there is none, not even a longer beginning helps
 pub record Decides (al rem : List ℕ) (r : Bool) : Type 0 where
   pub yes : r ≡ true → Hopeful al rem
   pub no : r ≡ false → Hopeless al rem
@@ -46,6 +47,13 @@ pub record Least (rem : List ℕ) (r : ℕ) : Type 0 where
 -- letter b is counted at place 64 + b
 abbrev pub Numbered : List ℕ → List ℕ → Type 0
 Numbered rem r = (b : ℕ) → b < length rem → getD r (64 + b) 0 ≡ getD rem b 0
+
+-- r is where the last group from f up to e ends that has a copy, or f
+pub record LastSome (num : List ℕ) (f e r : ℕ) : Type 0 where
+  pub from : f ≤ r
+  pub upto : r ≤ e
+  pub none : (i : ℕ) → r ≤ i → i < e → getD num i 0 ≡ 0
+  pub some : f < r → getD num (r - 1) 0 ≡ 0 → ⊥
 
 -- b is the least letter that is left, and al begins with it and goes on
 pub record Opened (al rem : List ℕ) (b : ℕ) : Type 0 where

@@ -101,11 +101,14 @@ ending-not-under al u v t e z h r =
     turned : drop i t ++ take i t ≡ v ++ (al ++ u)
     turned = rw (e, drop-append-seam (al ++ u) v, take-append-seam (al ++ u) v)
 
--- the letters behind al stand clear of the necklace
-pub letters-clear : (al v : List ℕ) → necklace (al ++ v) ≡ true → Clear al (al ++ v) (singles v)
+-- the last letters of a necklace that begins with al stand clear of it
+pub letters-clear : (al u v : List ℕ) → necklace (al ++ (u ++ v)) ≡ true → Clear al (al ++ (u ++ v)) (singles v)
 unfolding singles
-letters-clear al v h = go [] v (ap (λ x. x ++ v) (sym (append-nil al)))
+letters-clear al u v h = go u v (sym (append-assoc al u v))
   where
-    go : (u v′ : List ℕ) → al ++ v ≡ (al ++ u) ++ v′ → Clear al (al ++ v) (singles v′)
-    go u [] e = over
-    go u (a ∷ v′) e = onto {x = a ∷ []} {xs = singles v′} (λ r. ending-not-under al u (a ∷ v′) (al ++ v) e (omega arith) h (rw (read-singles al v′) at r)) (go (u ++ (a ∷ [])) v′ (e ∙ (simp append-assoc)))
+    go : (x y : List ℕ) → al ++ (u ++ v) ≡ (al ++ x) ++ y → Clear al (al ++ (u ++ v)) (singles y)
+    go x [] e = over
+    go x (a ∷ y) e =
+        onto {x = a ∷ []} {xs = singles y}
+        (λ r. ending-not-under al x (a ∷ y) (al ++ (u ++ v)) e (omega arith) h (rw (read-singles al y) at r))
+        (go (x ++ (a ∷ [])) y (e ∙ (simp append-assoc)))

@@ -263,18 +263,19 @@ module _ {al u s : List ℕ} {q : ℕ} {w : ℕ → List ℕ} {m : ℕ → ℕ} 
   group-yes z b = pool-yes al u (replicate q s ++ spread w m f c) z (p .pool) (rw first-word b)
 
   -- where s lies under al there is none
-  pub group-low : s ≪ al → (v : List ℕ) → ((b : ℕ) → occurs b v ≡ occurs b u) → necklace (al ++ v) ≡ true → ⊥
-  group-low low v k h = go (p .pool .arranged v k h)
+  pub group-low : s ≪ al → (x v : List ℕ) → ((b : ℕ) → occurs b v ≡ occurs b u) → necklace (al ++ (x ++ v)) ≡ true → ⊥
+  group-low low x v k h = go (p .pool .arranged x v k h)
     where
       there : (q : ℕ) → 0 < q → 0 < copies s (replicate q s ++ spread w m f c)
       there zero z = absurd (omega arith)
       there (suc q) z = copies-first s (replicate q s ++ spread w m f c)
 
-      go : Arranged al v (replicate q s ++ spread w m f c) → ⊥
-      go a = let d = found s (a .list) (omega (arith, a .moved s, there q (p .some))) in clear-first (clear-back (d .front) (s ∷ d .back) (subst (Clear al (al ++ v)) (d .cut) (a .clear))) (under-longer (read al (d .back)) (under-extended v low))
+      go : Arranged al (x ++ v) (replicate q s ++ spread w m f c) → ⊥
+      go a = let d = found s (a .list) (omega (arith, a .moved s, there q (p .some))) in clear-first (clear-back (d .front) (s ∷ d .back) (subst (Clear al (al ++ (x ++ v))) (d .cut) (a .clear))) (under-longer (read al (d .back)) (under-extended (x ++ v) low))
 
 -- where only copies of s are left, and s stands before al, there is none
-pub group-stuck : {al u s : List ℕ} {q : ℕ} {w : ℕ → List ℕ} {m : ℕ → ℕ} {f : ℕ} → Grouped al u s q w m f 0 → before s al ≡ true → (v : List ℕ) → ((b : ℕ) → occurs b v ≡ occurs b u) → necklace (al ++ v) ≡ true → ⊥
+pub group-stuck : {al u s : List ℕ} {q : ℕ} {w : ℕ → List ℕ} {m : ℕ → ℕ} {f : ℕ} → Grouped al u s q w m f 0 → before s al ≡ true →
+    (x v : List ℕ) → ((b : ℕ) → occurs b v ≡ occurs b u) → necklace (al ++ (x ++ v)) ≡ true → ⊥
 unfolding spread
 group-stuck {al} {u} {s} {q} {w} {m} {f} p b = pool-stuck al u (replicate q s ++ []) (p .pool) (λ i h. each q i h ∙ sym (each q 0 (omega (arith, p .some, length-append (replicate q s) [], length-replicate q s)))) (rw (each q 0 (omega (arith, p .some, length-append (replicate q s) [], length-replicate q s))) b)
   where

@@ -3,7 +3,7 @@
 -- left, there is no completion.
 --     Sorted w            the letters of w do not fall
 --     Arranged al v xs    a rearrangement of the pool that stands clear of al ++ v
---     Pool al w xs        what holds of the pool at each step: its order, and that each completion of al by the letters of w leaves an arrangement
+--     Pool al w xs        what holds of the pool at each step: its order, and that each necklace that begins with al and ends with the letters of w leaves an arrangement
 -- The laws that a loop needs: `pool-start`, `join-pool`, `pool-stuck`, `pool-yes`; told by groups of equal words in Groups.
 use Prim.Native.Nat.{ℕ, zero, suc, _+_, _-_, _<_, _≤_}
 use mathlib.Core.Path.{_≡_, refl, sym, ap, _∙_, subst}
@@ -42,7 +42,7 @@ pub record Pool (al w : List ℕ) (xs : List (List ℕ)) : Type 0 where
   pub lyn : Lyn (sec al) (length al)
   pub shape : Shape (getD xs 0 []) xs
   pub made : Made w xs
-  pub arranged : (v : List ℕ) → ((b : ℕ) → occurs b v ≡ occurs b w) → necklace (al ++ v) ≡ true → Arranged al v xs
+  pub arranged : (u v : List ℕ) → ((b : ℕ) → occurs b v ≡ occurs b w) → necklace (al ++ (u ++ v)) ≡ true → Arranged al (u ++ v) xs
 
 -- ---- the start
 
@@ -67,7 +67,7 @@ pool-start al (a ∷ w) lyn z h = record {
   lyn = lyn;
   shape = go (letters-rise a w h);
   made = made-start (a ∷ w);
-  arranged = λ v e n. record { list = singles v; moved = singles-rearranged v (a ∷ w) e; clear = letters-clear al v n };
+  arranged = λ u v e n. record { list = singles v; moved = singles-rearranged v (a ∷ w) e; clear = letters-clear al u v n };
 }
   where
     go : All (λ y. (a ∷ []) ≼ y) (singles w) × Rising (singles w) → Shape (a ∷ []) ((a ∷ []) ∷ singles w)
@@ -102,7 +102,7 @@ join-arranged al v s g n xs lyn short l r = record { list = e .new; clear = e .c
 
 -- joining s with g leaves a pool
 pub join-pool : (al w s g : List ℕ) (n : ℕ) (xs : List (List ℕ)) → Short s al → Ladder s g xs → Pool al w (replicate (suc n) s ++ (xs ++ g ∷ [])) → Pool al w (replicate n s ++ (s ++ g) ∷ xs)
-join-pool al w s g n xs short l p = record { lyn = p .lyn; shape = go n; made = made-join w s g (replicate n s) xs (over-short (ladder-top l)) (subst (Made w) parted (p .made)); arranged = λ v c h. join-arranged al v s g n xs (p .lyn) short l (p .arranged v c h) }
+join-pool al w s g n xs short l p = record { lyn = p .lyn; shape = go n; made = made-join w s g (replicate n s) xs (over-short (ladder-top l)) (subst (Made w) parted (p .made)); arranged = λ u v c h. join-arranged al (u ++ v) s g n xs (p .lyn) short l (p .arranged u v c h) }
   where
     go : (n : ℕ) → Shape (getD (replicate n s ++ (s ++ g) ∷ xs) 0 []) (replicate n s ++ (s ++ g) ∷ xs)
     go zero = shape-first l
@@ -136,10 +136,10 @@ unfolding read
 copies-not-clear x [] (also e nothing) (onto f over) low = f (rw e low)
 copies-not-clear x (y ∷ xs) (also e k) (onto f c) low = copies-not-clear y xs k c low
 
--- where only copies of the least word are left, there is no completion
+-- where only copies of the least word are left, no necklace begins with al and ends with such letters
 pub pool-stuck : (al w : List ℕ) (xs : List (List ℕ)) → Pool al w xs → ((i : ℕ) → i < length xs → getD xs i [] ≡ getD xs 0 []) → before (getD xs 0 []) al ≡ true →
-    (v : List ℕ) → ((b : ℕ) → occurs b v ≡ occurs b w) → necklace (al ++ v) ≡ true → ⊥
-pool-stuck al w xs p lead b v c h = none-clear (p .arranged v c h)
+    (u v : List ℕ) → ((b : ℕ) → occurs b v ≡ occurs b w) → necklace (al ++ (u ++ v)) ≡ true → ⊥
+pool-stuck al w xs p lead b u v c h = none-clear (p .arranged u v c h)
   where
     s : List ℕ
     s = getD xs 0 []
@@ -154,12 +154,12 @@ pool-stuck al w xs p lead b v c h = none-clear (p .arranged v c h)
     only-copies : All (λ y. y ≡ s) xs
     only-copies = all-copies (p .shape .rest) (p .shape .whole) (let (q, l) = leading-shape s xs (p .shape) (length xs) (omega arith) lead (λ k. absurd (omega arith)) in omega arith)
 
-    none-clear : Arranged al v xs → ⊥
+    none-clear : Arranged al (u ++ v) xs → ⊥
     none-clear a = ends (a .list) (each-rearranged (a .list) xs (a .moved) only-copies) (a .clear) (omega (arith, a .moved s, subst (λ x. 0 < copies s x) (sym (p .shape .whole)) (copies-first s (replicate n s ++ p .shape .rest))))
       where
-        ends : (ys : List (List ℕ)) → All (λ y. y ≡ s) ys → Clear al (al ++ v) ys → 0 < copies s ys → ⊥
+        ends : (ys : List (List ℕ)) → All (λ y. y ≡ s) ys → Clear al (al ++ (u ++ v)) ys → 0 < copies s ys → ⊥
         ends [] e k l = let g = rw copies-none at l in omega arith
-        ends (y ∷ ys) e k l = copies-not-clear y ys e k (short-last al s (p .lyn) (p .shape .long) (before-short s al b) v)
+        ends (y ∷ ys) e k l = copies-not-clear y ys e k (short-last al s (p .lyn) (p .shape .long) (before-short s al b) (u ++ v))
 
 -- where the least word does not stand before al, there is one
 pub pool-yes : (al w : List ℕ) (xs : List (List ℕ)) → 0 < length al → Pool al w xs → before (getD xs 0 []) al ≡ false → Completed al w

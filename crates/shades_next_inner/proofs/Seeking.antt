@@ -1,6 +1,7 @@
 -- The search for the next ring, over the arrays that hold it: the first n sectors of an array of 64.
 --     Standing cs n k start ring p              what the loop of `seek` knows: the next ring above `ring` is that above `start`
 --     seek-start, seek-none, seek-asks          the loop starts; there is no place to raise; what repeating asks
+--     headed                                    what is repeated is a Lyndon word
 --     lastRaised n start ring                   the place that was raised last, or 0
 --     seek-right                                the place that is raised lies further right than that before: there are at most n rounds
 --     seek-few, seek-counts                     what was raised so far is counted, and is at most n
@@ -23,7 +24,7 @@ use Rattle.words.proofs.Lex.{same-refl, same-false, before-less, before-irrefl,
 use Rattle.rings.specs.Prenecklace.{lyn}
 use Rattle.rings.specs.Counts.{countedNecklace}
 use Rattle.rings.specs.Steps.{nextOf}
-use Rattle.ring_laws.proofs.Run.{Pre, Run, pre-shorter}
+use Rattle.ring_laws.proofs.Run.{Pre, Run, pre-shorter, lyn-through}
 use Rattle.ring_laws.proofs.Raise.{raise-lyn}
 use Rattle.ring_laws.proofs.Words.{pre-of}
 use Rattle.ring_laws.proofs.Lyndon.{run-prenecklace, run-lyn}
@@ -31,7 +32,7 @@ use Rattle.ring_laws.proofs.FullWalk.{next-facts}
 use Rattle.shades_next_inner.specs.declared.Sought.{Sought}
 use Rattle.classify_inner.specs.Beginning.{Opened}
 use Rattle.shades_next_inner.specs.Runs.{Repeatable, Repeats}
-use Rattle.shades_raise_inner.specs.Places.{CountedRing, Blocked, Begun, PlaceFound}
+use Rattle.shades_raise_inner.specs.Places.{CountedRing, Blocked, Begun, Headed, PlaceFound}
 use Rattle.shades_next_inner.specs.Above.{Finds}
 use Rattle.shades_raise_inner.specs.Ready.{Ready, Opening}
 use Rattle.shades_next_inner.proofs.Stepping.{Step, step-none, step-found, step-on, Further, further-right, Lifts, raise-step, Settles, settles-keeps, settles-rises, settle-step}
@@ -55,6 +56,10 @@ step-opening cs n k w t next ready step e = record {
   ready = record { pos = ready .pos; size = ready .size; shades = ready .shades; many = ready .many; whole = ready .whole; reading = rw e (step .reading) };
   pre = rw e (step .pre);
 }
+
+-- what is repeated is a Lyndon word
+pub headed : (w : List ℕ) (n p : ℕ) → n ≤ length w → Run (sec (take n w)) (length (take n w)) p → Headed w n p
+headed w n p room r = record { some = λ h. r .pos; lyn = λ h. lyn-through (sec (take n w)) (sec w) p (λ m q. getD-take n w m 0 (omega (arith, r .fits, length-take-le n w room))) (r .lyn) }
 
 -- ---- the loop of `seek`
 
@@ -267,8 +272,11 @@ module _ (cs : List ℕ) (n k : ℕ) (start : List ℕ) (size : length start ≡
   start-long = ready .reading .long
 
   -- the reading is a prenecklace
-  pub above-opening : e ≡ n → Opening start n k cs
-  above-opening h = record { ready = ready; pre = run-prenecklace (take n start) p (let q : e ≡ length (take n start) = h ∙ sym start-long in rw q at (opened .run)) }
+  pub above-opening : e ≡ n → Opening start n k cs × Headed start n p
+  above-opening h = (record { ready = ready; pre = run-prenecklace (take n start) p run }, headed start n p (omega (arith, ready .size, size)) run)
+    where
+      run : Run (sec (take n start)) (length (take n start)) p
+      run = let q : e ≡ length (take n start) = h ∙ sym start-long in rw q at (opened .run)
 
   -- what repeating its longest beginning that is one asks
   pub above-asks : Repeatable (take n start) p
@@ -326,8 +334,8 @@ module _ (cs : List ℕ) (n k : ℕ) (start : List ℕ) (size : length start ≡
 
     -- it is none
     module _ (h : false ≡ countedNecklace cs (take n (t ++ drop n start))) where
-      pub above-on : Opening (t ++ drop n start) n k cs
-      above-on = step-opening cs n k start t (t ++ drop n start) ready settled (settled-holds .front)
+      pub above-on : Opening (t ++ drop n start) n k cs × Headed (t ++ drop n start) n p
+      above-on = (step-opening cs n k start t (t ++ drop n start) ready settled (settled-holds .front), headed (t ++ drop n start) n p (omega (arith, above-size, ready .size)) above-run)
 
       pub above-answers : (r : Sought) → Finds (t ++ drop n start) n k cs r → Finds start n k cs r
       above-answers r a = record {

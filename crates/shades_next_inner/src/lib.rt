@@ -2,6 +2,7 @@
 // Rings are looked for from one prenecklace to a greater one. Each time the last place is found that can be raised so that the pool leaves a
 // completion (`shades_raise_inner`); what follows that place repeats what stands before it.
 ghost use Rattle.shades_raise_inner.specs.Ready.{Ready, Opening};
+ghost use Rattle.shades_raise_inner.specs.Places.{Headed};
 ghost use Rattle.shades_next_inner.specs.Runs.{Repeatable, Repeats};
 ghost use Rattle.shades_next_inner.specs.Above.{Finds};
 
@@ -24,15 +25,16 @@ pub struct Sought {
     pub raised: usize,
 }
 
-// The least ring of these counts above the prenecklace in the first n sectors. Each round raises a place further right: there are at most n.
-fn seek(start: [u8; 64], n: usize, k: usize, counts: &[usize]) -> Sought
-    requires { ⌜ Opening start n k (now counts) ⌝ }
+// The least ring of these counts above the prenecklace in the first n sectors, whose lyn is p. Each round raises a place further right: there are at most n.
+fn seek(start: [u8; 64], n: usize, k: usize, p: usize, counts: &[usize]) -> Sought
+    requires { ⌜ Opening start n k (now counts) × Headed start n p ⌝ }
     ensures { λ r. ⌜ Finds start n k (now (counts .entry)) r ⌝ }
 {
     let mut ring = start;
+    let mut lyn = p;
     let mut raised: usize = 0;
     loop {
-        let place = shades_raise_inner::find(ring, n, k, counts);
+        let place = shades_raise_inner::find(ring, n, k, lyn, counts);
         let i = place.end;
         if i == 0 {
             return Sought {
@@ -51,6 +53,7 @@ fn seek(start: [u8; 64], n: usize, k: usize, counts: &[usize]) -> Sought
                 raised: raised,
             };
         }
+        lyn = i;
     }
 }
 
@@ -62,7 +65,7 @@ pub fn above(start: [u8; 64], n: usize, k: usize, counts: &[usize]) -> Sought
     let begun = classify_inner::scan(&start[..n]);
     let p = begun.lyn;
     if begun.end == n {
-        return seek(start, n, k, counts);
+        return seek(start, n, k, p, counts);
     }
     let mut ring = start;
     repeat(&mut ring[..n], p);
@@ -73,5 +76,5 @@ pub fn above(start: [u8; 64], n: usize, k: usize, counts: &[usize]) -> Sought
             raised: 0,
         };
     }
-    seek(ring, n, k, counts)
+    seek(ring, n, k, p, counts)
 }

@@ -2,6 +2,7 @@
 --     barred-none        no such shade is left
 --     barred-pool, fitting-pool           the pool leaves no completion, or it leaves one
 --     allows-none, allows-pool            what that is for the answer
+--     first-tell         nothing is left of the shades that are not told
 --     counts-long        the letters of a word are as many as its counts say
 --     completing         what the pool asks
 --     raised-lyndon      raising a sector of a prenecklace and cutting behind it gives a Lyndon word
@@ -65,7 +66,7 @@ more-counts b rem v l z c x =
 
 -- the pool leaves no completion
 pub barred-pool : (u : List ℕ) (b : ℕ) (rem : List ℕ) → b < length rem → Hopeless (u ++ b ∷ []) (lessOne rem b) → Barred u b rem
-barred-pool u b rem l h v c n = h v (less-counts b rem v l c) (rw append-assoc n)
+barred-pool u b rem l h v c n = h [] v (less-counts b rem v l c) (rw append-assoc n)
 
 -- or it leaves one
 pub fitting-pool : (u : List ℕ) (b : ℕ) (rem : List ℕ) → b < length rem → (getD rem b 0 ≡ 0 → ⊥) → Hopeful (u ++ b ∷ []) (lessOne rem b) → Fitting u b rem
@@ -79,15 +80,24 @@ allows-none u b rem e = record { yes = λ q. absurd (true≢false (sym q)); no =
 pub allows-pool : (u : List ℕ) (b : ℕ) (rem : List ℕ) (r : Bool) → b < length rem → (getD rem b 0 ≡ 0 → ⊥) → Decides (u ++ b ∷ []) (lessOne rem b) r → Allows u b rem r
 allows-pool u b rem r l z d = record { yes = λ q. fitting-pool u b rem l z (d .yes q); no = λ q. barred-pool u b rem l (d .no q) }
 
+-- where nothing is left of the shades from k on, the first k counts tell all
+pub first-tell : (k : ℕ) (rem : List ℕ) → k ≤ length rem → ((x : ℕ) → k ≤ x → getD rem x 0 ≡ 0) → (x : ℕ) → getD (take k rem) x 0 ≡ getD rem x 0
+first-tell k rem few past x = elim (tri x k) [ lt h ↦ getD-take k rem x 0 h | eq h ↦ none (omega arith) | gt h ↦ none (omega arith) ]
+  where
+    none : k ≤ x → getD (take k rem) x 0 ≡ getD rem x 0
+    none h = List·getD-eq-default (take k rem) 0 {n = x} (omega (arith, length-take-le k rem few)) ∙ sym (past x h)
+
 -- the same where nothing is left of the shades from k on, which are not told
 pub allows-part : (u : List ℕ) (b k : ℕ) (rem : List ℕ) (r : Bool) → b < k → k ≤ length rem → ((x : ℕ) → k ≤ x → getD rem x 0 ≡ 0) → (getD rem b 0 ≡ 0 → ⊥) → Decides (u ++ b ∷ []) (take k (lessOne rem b)) r → Allows u b rem r
-allows-part u b k rem r l few past z d = allows-pool u b rem r (omega arith) z (record { yes = λ q. let h = d .yes q in record { rest = h .rest; letters = λ x. h .letters x ∙ told x; whole = h .whole }; no = λ q v c n. d .no q v (λ x. c x ∙ sym (told x)) n })
+allows-part u b k rem r l few past z d =
+    allows-pool u b rem r (omega arith) z
+    (record {
+      yes = λ q. let h = d .yes q in record { rest = h .rest; letters = λ x. h .letters x ∙ told x; whole = h .whole };
+      no = λ q y v c n. d .no q y v (λ x. c x ∙ sym (told x)) n;
+    })
   where
     told : (x : ℕ) → getD (take k (lessOne rem b)) x 0 ≡ getD (lessOne rem b) x 0
-    told x = elim (tri x k) [ lt h ↦ getD-take k (lessOne rem b) x 0 h | eq h ↦ none (omega arith) | gt h ↦ none (omega arith) ]
-      where
-        none : k ≤ x → getD (take k (lessOne rem b)) x 0 ≡ getD (lessOne rem b) x 0
-        none h = List·getD-eq-default (take k (lessOne rem b)) 0 {n = x} (omega (arith, length-take-le k (lessOne rem b) (omega (arith, length-set rem b (getD rem b 0 - 1))))) ∙ sym (getD-set-other rem b x (getD rem b 0 - 1) 0 (λ q. omega arith) ∙ past x h)
+    told = first-tell k (lessOne rem b) (omega (arith, length-set rem b (getD rem b 0 - 1))) (λ x h. getD-set-other rem b x (getD rem b 0 - 1) 0 (λ q. omega arith) ∙ past x h)
 
 -- the letters of a word are as many as its counts say
 pub counts-long : (v cs : List ℕ) → ((b : ℕ) → occurs b v ≡ getD cs b 0) → length v ≡ sumOf cs

@@ -2,14 +2,17 @@
 --     ring-occurs          each shade stands in a ring as often as the counts say
 --     blocked-exceeds      what stands before the place is already more than the counts allow
 --     blocked-barred       the shade is barred
+--     blocked-hopeless     nothing can end so as the counts leave it
 --     begun-fitting        the shade fits: some ring goes on with it
---     Past, Seeking, find-start, find-asks, find-found, find-more, find-end    one place after the other, from the last on
+--     find-part, find-fits, find-start                               how far the first sectors fit into the counts
+--     Ahead, reach-start, reach-none, reach-asks, reach-stop, reach-more, reach-end    how far a ring may follow w
+--     find-asks, find-found, find-more, find-end                     one place after the other, from there back
 use Prim.Native.Nat.{ℕ, suc, _+_, _-_, _<_, _≤_}
-use mathlib.Core.Path.{_≡_, sym, ap, _∙_, subst}
-use mathlib.Core.Bool.{true}
-use mathlib.Core.List.{List, _∷_, _++_}
+use mathlib.Core.Path.{_≡_, refl, sym, ap, _∙_, subst}
+use mathlib.Core.Bool.{true, false}
+use mathlib.Core.List.{List, _∷_, _++_, append-assoc}
 use native.Mathlib.Omega.{arith}
-use lib.ListN.{length, getD, take, drop, set, List·getD-append, List·getD-eq-default}
+use lib.ListN.{length, getD, take, drop, set, take-append-drop, List·getD-append, List·getD-eq-default}
 use lib.Seq.{split-at, length-take-le, getD-take, getD-at, ext-getD, take-take}
 use Rattle.words.proofs.Split.{lt, eq, gt, tri, both, both-left, both-right}
 use Rattle.words.proofs.Sequence.{sec}
@@ -17,16 +20,18 @@ use Rattle.rings.specs.Necklace.{necklace}
 use Rattle.rings.specs.Counts.{occurs, hasCounts, countedNecklace}
 use Rattle.rings.specs.Prenecklace.{prenecklace}
 use Rattle.words.specs.Sum.{sumOf}
-use Rattle.ring_laws.proofs.Run.{pre-shorter, pre-through}
+use Rattle.ring_laws.proofs.Run.{pre-shorter, pre-through, lyn-through}
 use Rattle.ring_laws.proofs.Words.{pre-of, of-pre}
+use Rattle.ring_laws.proofs.Lyndon.{lyndon-of}
 use Rattle.shades_laws.proofs.Copies.{occurs-append}
-use Rattle.shades_raise_inner.specs.Places.{CountedRing, Blocked, Begun, Barred, Fitting, Liftable, LiftedTo, PlaceFound}
+use Rattle.shades_raise_inner.specs.Places.{CountedRing, Blocked, Begun, Barred, Fitting, Liftable, LiftedTo, Past, Seeking, Headed, PlaceFound}
 use Rattle.shades_tally_inner.specs.Remaining.{Remains, Exceeds, Fittable, Fitted}
 use Rattle.shades_tally_inner.specs.declared.Fit.{Fit}
-use Rattle.shades_raise_inner.specs.Ready.{Opening}
+use Rattle.shades_raise_inner.specs.Ready.{Ready, Opening}
+use Rattle.shades_completable_inner.specs.Completion.{Completing, Hopeless, Decides}
 use Rattle.shades_tally_inner.proofs.Tallying.{counts-at, counts-end, occurs-at, occurs-past}
-use Rattle.shades_raise_inner.proofs.Barring.{counts-long}
-use Rattle.shades_tally_inner.proofs.Leaving.{remains-sum, remains-less, remains-le, exceeds-longer}
+use Rattle.shades_raise_inner.proofs.Barring.{counts-long, lessOne, first-tell}
+use Rattle.shades_tally_inner.proofs.Leaving.{sum-le, remains-sum, remains-more, remains-less, remains-le, exceeds-one, exceeds-longer}
 
 -- a beginning of a prenecklace is a prenecklace
 pub beginning-pre : (w : List ℕ) (n m : ℕ) → m ≤ n → n ≤ length w → prenecklace (take n w) ≡ true → prenecklace (take m w) ≡ true
@@ -67,6 +72,18 @@ module _ (cs : List ℕ) (n k : ℕ) (v : List ℕ) (ring : CountedRing cs n k v
     pub split-occurs : (b : ℕ) → occurs b v ≡ occurs b (take l w) + occurs b (sec v l ∷ drop (suc l) v)
     split-occurs b = ap (occurs b) split-ring ∙ occurs-append b (take l w) (sec v l ∷ drop (suc l) v)
 
+    -- and from it on as often as the counts leave beside what stands before
+    pub left-occurs : (rem : List ℕ) → length cs ≡ k → Remains cs (take l w) rem → (x : ℕ) → occurs x (sec v l ∷ drop (suc l) v) ≡ getD rem x 0
+    left-occurs rem many r x =
+        elim (tri x (length cs)) [
+          | lt h ↦ omega (arith, r .left x h, ring-known x h, split-occurs x)
+          | eq h ↦ past (omega arith)
+          | gt h ↦ past (omega arith)
+        ]
+      where
+        past : length cs ≤ x → occurs x (sec v l ∷ drop (suc l) v) ≡ getD rem x 0
+        past h = omega (arith, r .past x h, ring-past many x h, split-occurs x)
+
 module _ (cs : List ℕ) (n k : ℕ) (w : List ℕ) (l b : ℕ) (inside : l < n) (room : l ≤ length w) where
   -- what stands before the place is already more than the counts allow
   pub blocked-exceeds : Exceeds cs (take l w) → Blocked cs n k w l b
@@ -75,19 +92,22 @@ module _ (cs : List ℕ) (n k : ℕ) (w : List ℕ) (l b : ℕ) (inside : l < n)
   -- the shade is barred
   pub blocked-barred : (rem : List ℕ) → length cs ≡ k → Remains cs (take l w) rem → Barred (take l w) b rem → Blocked cs n k w l b
   blocked-barred rem many r barred v ring agree e =
-      barred (drop (suc l) v) (λ x. sym (ap (λ a. occurs x (a ∷ drop (suc l) v)) e) ∙ counts x)
+      barred (drop (suc l) v) (λ x. sym (ap (λ a. occurs x (a ∷ drop (suc l) v)) e) ∙ left-occurs cs n k v ring w l inside room agree rem many r x)
       (subst (λ u. necklace u ≡ true) (split-ring cs n k v ring w l inside room agree ∙ ap (λ a. take l w ++ a ∷ drop (suc l) v) e) (ring-necklace cs n k v ring))
-    where
-      past : (x : ℕ) → length cs ≤ x → occurs x (sec v l ∷ drop (suc l) v) ≡ getD rem x 0
-      past x h = omega (arith, r .past x h, ring-past cs n k v ring many x h, split-occurs cs n k v ring w l inside room agree x)
 
-      counts : (x : ℕ) → occurs x (sec v l ∷ drop (suc l) v) ≡ getD rem x 0
-      counts x =
-          elim (tri x (length cs)) [
-            | lt h ↦ omega (arith, r .left x h, ring-known cs n k v ring x h, split-occurs cs n k v ring w l inside room agree x)
-            | eq h ↦ past x (omega arith)
-            | gt h ↦ past x (omega arith)
-          ]
+  -- no necklace begins with the first p sectors and ends with what the counts leave beside the first m
+  pub blocked-hopeless : (p m : ℕ) (rem : List ℕ) → p ≤ m → m ≤ l → length cs ≡ k → Remains cs (take m w) rem → Hopeless (take p w) rem → Blocked cs n k w l b
+  blocked-hopeless p m rem h q many r hopeless v ring agree e =
+      hopeless (drop p (take m w)) (sec v m ∷ drop (suc m) v) (left-occurs cs n k v ring w m (omega arith) (omega arith) before rem many r)
+      (subst (λ u. necklace u ≡ true) (split-ring cs n k v ring w m (omega arith) (omega arith) before ∙ parted) (ring-necklace cs n k v ring))
+    where
+      before : (i : ℕ) → i < m → sec v i ≡ sec w i
+      before i z = agree i (omega arith)
+
+      parted : take m w ++ sec v m ∷ drop (suc m) v ≡ take p w ++ (drop p (take m w) ++ sec v m ∷ drop (suc m) v)
+      parted =
+          ap (λ u. u ++ sec v m ∷ drop (suc m) v) (sym (take-append-drop p (take m w)) ∙ ap (λ u. u ++ drop p (take m w)) (take-take p m w h))
+          ∙ append-assoc (take p w) (drop p (take m w)) (sec v m ∷ drop (suc m) v)
 
 -- ---- where a ring goes on
 
@@ -133,40 +153,54 @@ begun-fitting cs k w l b rem room many known r f = record {
 
 -- ---- one place after the other, from the last on
 
--- each place from i on is blocked to each greater shade
-pub record Past (w : List ℕ) (n k : ℕ) (cs : List ℕ) (i : ℕ) : Type 0 where
-  pub within : i ≤ n
-  pub blocked : (l b : ℕ) → i ≤ l → l < n → sec w l < b → b < k → Blocked cs n k w l b
-
--- each place behind i is blocked, and rem is what the counts leave beside the sectors before i
-pub record Seeking (w : List ℕ) (n k : ℕ) (cs : List ℕ) (i : ℕ) (rem : List ℕ) : Type 0 where
-  pub inside : i < n
-  pub remains : Remains cs (take i w) rem
-  pub past : Past w n k cs (suc i)
-
 module _ (w : List ℕ) (n k : ℕ) (cs : List ℕ) (size : length w ≡ 64) (p : Opening w n k cs) where
   -- each sector is a shade
   known-shade : (m : ℕ) → m < n → sec w m < k
   known-shade m h = rw (getD-take n w m 0 h) at (p .ready .reading .shades m h)
 
-  -- all sectors but the last
-  pub find-part : n - 1 ≤ length w
-  find-part = omega (arith, p .ready .size)
+  -- a shade that is counted
+  counted-shade : (m : ℕ) → m < n → sec w m < length cs
+  counted-shade m h = rw (p .ready .many) (known-shade m h)
 
-  front-long : length (take (n - 1) w) ≡ n - 1
-  front-long = length-take-le (n - 1) w find-part
+  few-counts : length cs ≤ 16
+  few-counts = omega (arith, p .ready .many, p .ready .shades)
 
-  -- each of them has a count
-  pub find-fits : Fittable cs (take (n - 1) w)
-  find-fits = record { few = omega (arith, p .ready .many, p .ready .shades); known = λ i h. let b : i < n - 1 = omega (arith, front-long) in rw (getD-take (n - 1) w i 0 b, p .ready .many) (known-shade i (omega arith)) }
+  -- the first sectors, of which there are fewer than n
+  module _ (q : ℕ) (short : q < n) where
+    pub find-part : q ≤ length w
+    find-part = omega (arith, p .ready .size)
 
-  -- where they no longer fit, no place behind is looked at
-  pub find-start : (r : Fit) → Fitted cs (take (n - 1) w) r → Seeking w n k cs (r .end) (r .rem)
-  find-start r f = record {
-    inside = omega (arith, f .within, front-long, p .ready .pos);
-    remains = subst (λ u. Remains cs u (r .rem)) (take-take (r .end) (n - 1) w (omega (arith, f .within, front-long))) (f .remains);
-    past = record { within = omega (arith, f .within, front-long, p .ready .pos); blocked = λ l b h m q t. blocked-exceeds cs n k w l b m (omega (arith, p .ready .size)) (exceeds-longer cs w (suc (r .end)) l h (subst (Exceeds cs) (take-take (suc (r .end)) (n - 1) w (omega arith)) (f .exceeds (omega (arith, front-long))))) };
-  }
+    front-long : length (take q w) ≡ q
+    front-long = length-take-le q w find-part
+
+    -- each of them has a count
+    pub find-fits : Fittable cs (take q w)
+    find-fits = record { few = few-counts; known = λ i h. let b : i < q = omega (arith, front-long) in rw (getD-take q w i 0 b) (counted-shade i (omega arith)) }
+
+    module _ (r : Fit) (f : Fitted cs (take q w) r) where
+      fit-remains : Remains cs (take (r .end) w) (r .rem)
+      fit-remains = subst (λ u. Remains cs u (r .rem)) (take-take (r .end) q w (omega (arith, f .within, front-long))) (f .remains)
+
+      -- where they no longer fit, or no sector but one follows them, no place behind is looked at
+      pub find-start : (r .end ≡ q → suc q ≡ n) → Seeking w n k cs (r .end) (r .rem)
+      find-start last = record {
+        inside = omega (arith, f .within, front-long);
+        remains = fit-remains;
+        past = record {
+          within = omega (arith, f .within, front-long);
+          blocked = λ l b h m c t. elim (tri (r .end) q) [
+            | lt x ↦ blocked-exceeds cs n k w l b m (omega (arith, p .ready .size)) (exceeds-longer cs w (suc (r .end)) l h (subst (Exceeds cs) (take-take (suc (r .end)) q w (omega arith)) (f .exceeds (omega (arith, front-long)))))
+            | eq x ↦ absurd (omega (arith, last x))
+            | gt x ↦ absurd (omega (arith, f .within, front-long))
+          ];
+        };
+      }
+
+      -- they all fit
+      pub reach-start : (r .end < q → ⊥) → Remains cs (take q w) (r .rem)
+      reach-start h = subst (λ x. Remains cs (take x w) (r .rem)) (let e : r .end ≡ q = omega (arith, f .within, front-long) in e) fit-remains
+
+  -- ---- one place after the other, from there back
 
   module _ (i : ℕ) (rem : List ℕ) (at : Seeking w n k cs i rem) where
     -- what is asked of the shades at the place
@@ -232,3 +266,87 @@ module _ (w : List ℕ) (n k : ℕ) (cs : List ℕ) (size : length w ≡ 64) (p 
 
       pub find-count : (b : ℕ) → getD rem b 0 ≤ 64
       find-count b = omega (arith, remains-le cs (take i w) rem b (at .remains), p .ready .whole, p .ready .size)
+
+-- ---- following the sectors from place q on
+
+-- the first i sectors fit into the counts, and the first q of them are a Lyndon word
+pub record Ahead (w : List ℕ) (n k : ℕ) (cs : List ℕ) (q i : ℕ) (rem : List ℕ) : Type 0 where
+  pub size : length w ≡ 64
+  pub opening : Opening w n k cs
+  pub head : Headed w n q
+  pub short : q < n
+  pub from : q ≤ i
+  pub inside : i < n
+  pub left : Remains cs (take i w) rem
+
+module _ {w : List ℕ} {n k : ℕ} {cs : List ℕ} {q i : ℕ} {rem : List ℕ} (a : Ahead w n k cs q i rem) where
+  abbrev ready : Ready w n k cs
+  ready = a .opening .ready
+
+  known : sec w i < length cs
+  known = counted-shade w n k cs (a .size) (a .opening) i (a .inside)
+
+  few : length cs ≤ 16
+  few = few-counts w n k cs (a .size) (a .opening)
+
+  abbrev shade : ℕ
+  shade = sec w i
+
+  in-array : i < length w
+  in-array = omega (arith, ready .size, a .size, a .inside)
+
+  -- none is left of the sector
+  pub reach-none : getD rem shade 0 ≡ 0 → Seeking w n k cs i rem
+  reach-none z = record {
+    inside = a .inside;
+    remains = a .left;
+    past = record { within = omega (arith, a .inside); blocked = λ l b h m c t. blocked-exceeds cs n k w l b m (omega (arith, ready .size, a .size)) (exceeds-longer cs w (suc i) l h (exceeds-one cs w rem i in-array known few (a .left) z)) };
+  }
+
+  -- none follows it
+  pub reach-end : (i + 1 < n → ⊥) → Seeking w n k cs i rem
+  reach-end z = record { inside = a .inside; remains = a .left; past = record { within = omega (arith, a .inside); blocked = λ l b h m. absurd (omega arith) } }
+
+  pub reach-shade : sec w i < 16
+  reach-shade = omega (arith, known, few)
+
+  -- one is left, and it is taken
+  module _ (z : getD rem shade 0 ≡ 0 → ⊥) where
+    abbrev taken : List ℕ
+    taken = lessOne rem shade
+
+    more : Remains cs (take (i + 1) w) taken
+    more = remains-more cs w rem i in-array known few (a .left) z
+
+    told : (x : ℕ) → getD (take k taken) x 0 ≡ getD taken x 0
+    told = first-tell k taken (omega (arith, more .size, ready .shades)) (λ x h. more .past x (omega (arith, ready .many)))
+
+    -- what is asked of the pool
+    pub reach-asks : Completing (take q w) (take k taken)
+    reach-asks = record {
+      lyndon-al = lyndon-of (take q w) (omega (arith, long, a .head .some (a .short))) (rw long (lyn-through (sec w) (sec (take q w)) q (λ m h. sym (getD-take q w m 0 h)) (a .head .lyn (a .short))));
+      small = omega (arith, long, ready .size, a .short);
+      shades = omega (arith, length-take-le k taken (omega (arith, more .size, ready .shades)), ready .shades);
+      room = omega (arith, sum-le (take k taken) taken (λ x. omega (arith, told x)), remains-sum cs (take (i + 1) w) taken more, ready .whole, ready .size);
+    }
+      where
+        long : length (take q w) ≡ q
+        long = length-take-le q w (omega (arith, ready .size, a .size, a .short))
+
+    -- it leaves none: no place behind can be raised
+    pub reach-stop : Decides (take q w) (take k taken) false → Seeking w n k cs i (set taken shade (getD taken shade 0 + 1))
+    reach-stop d = record {
+      inside = a .inside;
+      remains = remains-less cs w taken i in-array known few more;
+      past = record {
+        within = omega (arith, a .inside);
+        blocked = λ l b h m c t. blocked-hopeless cs n k w l b m (omega (arith, ready .size, a .size)) q (i + 1) taken (omega (arith, a .from)) (omega arith) (ready .many) more (λ u v e y. d .no refl u v (λ x. e x ∙ sym (told x)) y);
+      };
+    }
+
+    -- it leaves some, and another sector follows
+    pub reach-more : i + 1 < n → Ahead w n k cs q (i + 1) taken
+    reach-more h = record { size = a .size; opening = a .opening; head = a .head; short = a .short; from = omega (arith, a .from); inside = h; left = more }
+
+    pub reach-count : (x : ℕ) → getD taken x 0 ≤ 64
+    reach-count x = omega (arith, remains-le cs (take (i + 1) w) taken x more, ready .whole, ready .size)

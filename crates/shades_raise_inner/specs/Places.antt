@@ -5,7 +5,9 @@
 --     Barred u b rem           no word of exactly the letters that rem counts, of which b is the first, completes u to a necklace
 --     Fitting u b rem          some such word does
 --     Allows u b rem r         r is yes exactly where some such word does
---     Possible, LeftFrom, Liftable, Lifted, LiftedTo, PlaceFound    what `possible`, `left_from`, `lift` and `find` ask and promise
+--     Past, Seeking            the places behind one are blocked, and what the counts leave beside the sectors before it
+--     Headed w n p             where p is less than n, the first p sectors are a Lyndon word
+--     Possible, LeftFrom, Liftable, Lifted, LiftedTo, PlaceFound    what `possible`, `left_from`, `lift`, `reach` and `find` ask and promise
 -- What the counts leave beside some sectors: `shades_tally_inner`, specs/Remaining.
 use Prim.Native.Nat.{ℕ, suc, _+_, _-_, _<_, _≤_}
 use mathlib.Core.Path.{_≡_}
@@ -18,6 +20,8 @@ use Rattle.rings.specs.Necklace.{necklace, lyndon}
 use Rattle.rings.specs.Prenecklace.{prenecklace}
 use Rattle.rings.specs.Counts.{occurs, countedNecklace}
 use Rattle.words.specs.Sum.{sumOf}
+use Rattle.ring_laws.proofs.Run.{Lyn}
+use Rattle.shades_tally_inner.specs.Remaining.{Remains}
 use Rattle.shades_raise_inner.specs.declared.Place.{Place}
 
 -- v is a ring of n and k with the counts cs
@@ -86,6 +90,22 @@ pub record Lifted (w : List ℕ) (l k : ℕ) (rem : List ℕ) (r : ℕ) : Type 0
 pub record LiftedTo (w : List ℕ) (l k : ℕ) (rem : List ℕ) (r : ℕ) : Type 0 where
   pub lifted : Lifted w l k rem r
   pub fitting : r < k → Fitting (take l w) r rem
+
+-- each place from i on is blocked to each greater shade
+pub record Past (w : List ℕ) (n k : ℕ) (cs : List ℕ) (i : ℕ) : Type 0 where
+  pub within : i ≤ n
+  pub blocked : (l b : ℕ) → i ≤ l → l < n → sec w l < b → b < k → Blocked cs n k w l b
+
+-- each place behind i is blocked, and rem is what the counts leave beside the sectors before i
+pub record Seeking (w : List ℕ) (n k : ℕ) (cs : List ℕ) (i : ℕ) (rem : List ℕ) : Type 0 where
+  pub inside : i < n
+  pub remains : Remains cs (take i w) rem
+  pub past : Past w n k cs (suc i)
+
+-- where p is less than n, the first p sectors are a Lyndon word
+pub record Headed (w : List ℕ) (n p : ℕ) : Type 0 where
+  pub some : p < n → 0 < p
+  pub lyn : p < n → Lyn (sec w) p
 
 -- each place from `end` on is blocked to each greater shade, and that before it up to the shade of the answer, with which some ring goes on
 pub record PlaceFound (w : List ℕ) (n k : ℕ) (cs : List ℕ) (r : Place) : Type 0 where

@@ -1,7 +1,8 @@
 // The last place of a prenecklace that can be raised so that the pool leaves a completion (`shades_completable_inner`). No public calls.
+use shades_tally_inner::Fit;
 ghost use Prim.Native.Nat.{_≤_};
 ghost use lib.ListN.{take};
-ghost use Rattle.shades_raise_inner.specs.Places.{Possible, Allows, LeftFrom, Liftable, LiftedTo, PlaceFound};
+ghost use Rattle.shades_raise_inner.specs.Places.{Possible, Allows, LeftFrom, Liftable, LiftedTo, Seeking, Headed, PlaceFound};
 ghost use Rattle.shades_raise_inner.specs.Ready.{Opening};
 
 // Whether letters can complete the first l sectors with the shade b behind them to a necklace, where rem counts what is left beside those l.
@@ -55,12 +56,42 @@ pub struct Place {
     pub shade: usize,
 }
 
-// The last place that can be raised so that a ring of these counts begins so. No place is looked at before which the sectors are more than the counts allow.
-pub fn find(w: [u8; 64], n: usize, k: usize, counts: &[usize]) -> Place
-    requires { ⌜ Opening w n k (now counts) ⌝ }
+// How far a ring of these counts may follow w, and what the counts leave beside that: no place behind can be raised. Where p is less than n the first p sectors are a Lyndon
+// word, and where no letters like those that are left can end a necklace that begins with it, none of these counts goes on so far.
+fn reach(w: [u8; 64], n: usize, k: usize, p: usize, counts: &[usize]) -> Fit
+    requires { ⌜ Opening w n k (now counts) × Headed w n p ⌝ }
+    ensures { λ r. ⌜ Seeking w n k (now (counts .entry)) (r .end) (r .rem) ⌝ }
+{
+    if n <= p {
+        return shades_tally_inner::fitting(counts, &w[..n - 1]);
+    }
+    let fit = shades_tally_inner::fitting(counts, &w[..p]);
+    if fit.end < p {
+        return fit;
+    }
+    let mut i = p;
+    let mut rem = fit.rem;
+    while i + 1 < n {
+        let x = w[i] as usize;
+        if rem[x] == 0 {
+            return Fit { end: i, rem: rem };
+        }
+        rem[x] -= 1;
+        if !shades_completable_inner::completable(&w[..p], &rem[..k]) {
+            rem[x] += 1;
+            return Fit { end: i, rem: rem };
+        }
+        i += 1;
+    }
+    Fit { end: i, rem: rem }
+}
+
+// The last place that can be raised so that a ring of these counts begins so.
+pub fn find(w: [u8; 64], n: usize, k: usize, p: usize, counts: &[usize]) -> Place
+    requires { ⌜ Opening w n k (now counts) × Headed w n p ⌝ }
     ensures { λ r. ⌜ PlaceFound w n k (now (counts .entry)) r ⌝ }
 {
-    let fit = shades_tally_inner::fitting(counts, &w[..n - 1]);
+    let fit = reach(w, n, k, p, counts);
     let mut i = fit.end;
     let mut rem = fit.rem;
     loop {

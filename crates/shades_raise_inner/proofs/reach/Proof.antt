@@ -1,0 +1,122 @@
+-- `shades_raise_inner::reach` meets its contract. The loop: the first i sectors fit into the counts, and the first p of them are a Lyndon word.
+use Prim.Native.Nat.{_+_, _-_}
+use mathlib.Core.Path.{sym}
+use native.Mathlib.Omega.{arith}
+use lib.ListN.{getD, length-set}
+use lib.Seq.{length-take-le}
+use borrow.Author.Tests.{not-true}
+use Rattle.shades_raise_inner.proofs.Blocking.{Ahead, find-part, find-fits, find-start, reach-start, reach-none, reach-end, reach-shade, reach-asks, reach-stop, reach-more, reach-count}
+use borrow.Author.Needs.{needs}
+use Rattle.shades_raise_inner.proofs.reach.Statement.{statement}
+use Rattle.shades_raise_inner.proofs.reach.Tie as tie
+
+abbrev Inv-loop : tie.InvT-loop
+Inv-loop n k p counts w i₀ rem₀ i rem = Ahead w n k counts p i rem
+
+abbrev μ-loop : tie.MeasureT-loop
+μ-loop n k p counts w i₀ rem₀ i rem = n - i
+
+sub-w : tie.Need-sub-w Inv-loop μ-loop
+sub-w c = omega (arith, c .before .before .pre .0 .ready .pos)
+
+array-share-prefix-w : tie.Need-array-share-prefix-w Inv-loop μ-loop
+array-share-prefix-w c = find-part _ _ _ _ (search needs) (c .before .before .pre .0) (c .before .before .args .n - 1) (omega (arith, c .before .before .pre .0 .ready .pos))
+
+slice-aggregate-fitting : tie.Need-slice-aggregate-fitting Inv-loop μ-loop
+slice-aggregate-fitting c = sym (length-take-le _ _ (find-part _ _ _ _ (search needs) (c .before .before .before .pre .0) (c .before .before .before .args .n - 1) (omega (arith, c .before .before .before .pre .0 .ready .pos))))
+
+fitting-requires : tie.Need-fitting-requires Inv-loop μ-loop
+fitting-requires c κs = find-fits _ _ _ _ (search needs) (c .before .before .before .pre .0) (c .before .before .before .args .n - 1) (omega (arith, c .before .before .before .pre .0 .ready .pos))
+
+returns : tie.Need-returns Inv-loop μ-loop
+returns c = find-start _ _ _ _ (search needs) (c .before .before .before .before .pre .0) (c .before .before .before .before .args .n - 1) (omega (arith, c .before .before .before .before .pre .0 .ready .pos)) _ (c .fitting .ensures) (λ e. omega (arith, c .before .before .before .before .pre .0 .ready .pos))
+
+array-share-prefix-w-2 : tie.Need-array-share-prefix-w-2 Inv-loop μ-loop
+array-share-prefix-w-2 c = find-part _ _ _ _ (search needs) (c .before .before .pre .0) (c .before .before .args .p) (omega (arith, c .if1 .left))
+
+slice-aggregate-fitting-2 : tie.Need-slice-aggregate-fitting-2 Inv-loop μ-loop
+slice-aggregate-fitting-2 c = sym (length-take-le _ _ (find-part _ _ _ _ (search needs) (c .before .before .before .pre .0) (c .before .before .before .args .p) (omega (arith, c .before .if1 .left))))
+
+fitting-requires-2 : tie.Need-fitting-requires-2 Inv-loop μ-loop
+fitting-requires-2 c κs = find-fits _ _ _ _ (search needs) (c .before .before .before .pre .0) (c .before .before .before .args .p) (omega (arith, c .before .if1 .left))
+
+returns-2 : tie.Need-returns-2 Inv-loop μ-loop
+returns-2 c = find-start _ _ _ _ (search needs) (c .before .before .before .before .before .before .pre .0) (c .before .before .before .before .before .before .args .p) (omega (arith, c .before .before .before .before .if1 .left)) (c .before .before .fitting2 .result) (c .before .before .fitting2 .ensures) (λ e. absurd (omega (arith, c .if2 .taken)))
+
+loop-holds : tie.Need-loop-holds Inv-loop μ-loop
+loop-holds c = record { size = search needs; opening = c .before .before .before .before .before .before .before .pre .0; head = c .before .before .before .before .before .before .before .pre .1; short = omega (arith, c .before .before .before .before .before .if1 .left); from = omega arith; inside = omega (arith, c .before .before .before .before .before .if1 .left); left = reach-start _ _ _ _ (search needs) (c .before .before .before .before .before .before .before .pre .0) (c .before .before .before .before .before .before .before .args .p) (omega (arith, c .before .before .before .before .before .if1 .left)) (c .before .before .before .fitting2 .result) (c .before .before .before .fitting2 .ensures) (λ h. omega (arith, c .before .if2 .left)) }
+
+add-loop : tie.Need-add-loop Inv-loop μ-loop
+add-loop c = omega (arith, c .loop .inv .inside, c .before .before .before .before .before .before .before .before .pre .0 .ready .size)
+
+array-read-x : tie.Need-array-read-x Inv-loop μ-loop
+array-read-x c = omega (arith, c .before .loop .inv .inside, c .before .loop .inv .size, c .before .before .before .before .before .before .before .before .before .pre .0 .ready .size)
+
+cast-x : tie.Need-cast-x Inv-loop μ-loop
+cast-x c = omega (arith, reach-shade (c .before .loop .inv))
+
+mul-if3 : tie.Need-mul-if3 Inv-loop μ-loop
+mul-if3 c = omega (arith, reach-shade (c .before .loop .inv))
+
+array-read-if3 : tie.Need-array-read-if3 Inv-loop μ-loop
+array-read-if3 c = omega (arith, reach-shade (c .before .loop .inv), c .before .loop .inv .left .size)
+
+returns-3 : tie.Need-returns-3 Inv-loop μ-loop
+returns-3 c = reach-none (c .before .before .loop .inv) (c .if3 .taken)
+
+mul-rem : tie.Need-mul-rem Inv-loop μ-loop
+mul-rem c = omega (arith, reach-shade (c .before .before .loop .inv))
+
+array-read-rem : tie.Need-array-read-rem Inv-loop μ-loop
+array-read-rem c = omega (arith, reach-shade (c .before .before .loop .inv), c .before .before .loop .inv .left .size)
+
+sub-rem : tie.Need-sub-rem Inv-loop μ-loop
+sub-rem c = search needs
+
+array-write-rem : tie.Need-array-write-rem Inv-loop μ-loop
+array-write-rem c = omega (arith, reach-shade (c .before .before .loop .inv), c .before .before .loop .inv .left .size)
+
+array-share-prefix-w-3 : tie.Need-array-share-prefix-w-3 Inv-loop μ-loop
+array-share-prefix-w-3 c = omega (arith, c .before .before .loop .inv .short, c .before .before .loop .inv .size, c .before .before .before .before .before .before .before .before .before .before .pre .0 .ready .size)
+
+slice-aggregate-completable : tie.Need-slice-aggregate-completable Inv-loop μ-loop
+slice-aggregate-completable c = sym (length-take-le _ _ (omega (arith, c .before .before .before .loop .inv .short, c .before .before .before .loop .inv .size, c .before .before .before .before .before .before .before .before .before .before .before .pre .0 .ready .size)))
+
+array-share-prefix-rem : tie.Need-array-share-prefix-rem Inv-loop μ-loop
+array-share-prefix-rem c = simp length-set (omega (arith, c .before .before .before .loop .inv .left .size, c .before .before .before .before .before .before .before .before .before .before .before .pre .0 .ready .shades))
+
+slice-aggregate-completable-2 : tie.Need-slice-aggregate-completable-2 Inv-loop μ-loop
+slice-aggregate-completable-2 c = sym (length-take-le _ _ (simp length-set (omega (arith, c .before .before .before .before .loop .inv .left .size, c .before .before .before .before .before .before .before .before .before .before .before .before .pre .0 .ready .shades))))
+
+completable-requires : tie.Need-completable-requires Inv-loop μ-loop
+completable-requires c κs = reach-asks (c .before .before .before .before .loop .inv) (c .before .before .if3 .left)
+
+mul-rem-2 : tie.Need-mul-rem-2 Inv-loop μ-loop
+mul-rem-2 c = omega (arith, reach-shade (c .before .before .before .before .before .before .loop .inv))
+
+array-read-rem-2 : tie.Need-array-read-rem-2 Inv-loop μ-loop
+array-read-rem-2 c = omega (arith, reach-shade (c .before .before .before .before .before .before .loop .inv))
+
+add-rem : tie.Need-add-rem Inv-loop μ-loop
+add-rem c = omega (arith, reach-count (c .before .before .before .before .before .before .loop .inv) (c .before .before .before .before .if3 .left) (getD (c .before .before .before .before .before .before .before .before .before .before .before .before .before .before .args .t1) (c .before .before .before .before .before .before .loop .i) 0))
+
+array-write-rem-2 : tie.Need-array-write-rem-2 Inv-loop μ-loop
+array-write-rem-2 c = omega (arith, reach-shade (c .before .before .before .before .before .before .loop .inv))
+
+returns-4 : tie.Need-returns-4 Inv-loop μ-loop
+returns-4 c = reach-stop (c .before .before .before .before .before .before .loop .inv) (c .before .before .before .before .if3 .left) (rw (not-true (c .before .completable .result) (c .if4 .taken)) at (c .before .completable .ensures))
+
+add-i : tie.Need-add-i Inv-loop μ-loop
+add-i c = omega (arith, c .before .before .before .before .before .before .loop .inv .inside, c .before .before .before .before .before .before .before .before .before .before .before .before .before .before .pre .0 .ready .size)
+
+loop-less : tie.Need-loop-less Inv-loop μ-loop
+loop-less c = omega (arith, c .before .before .before .before .before .before .loop .inv .inside)
+
+loop-again : tie.Need-loop-again Inv-loop μ-loop
+loop-again c = reach-more (c .before .before .before .before .before .before .loop .inv) (c .before .before .before .before .if3 .left) (c .before .before .before .before .before .loop-test .taken)
+
+returns-5 : tie.Need-returns-5 Inv-loop μ-loop
+returns-5 c = reach-end (c .before .loop .inv) (λ h. omega (arith, c .loop-test .left))
+
+pub reach-spec : {M : Type 1} → statement M
+reach-spec = tie.close (tie.spec Inv-loop μ-loop sub-w array-share-prefix-w slice-aggregate-fitting fitting-requires returns array-share-prefix-w-2 slice-aggregate-fitting-2 fitting-requires-2 returns-2 loop-holds add-loop array-read-x cast-x mul-if3 array-read-if3 returns-3 mul-rem array-read-rem sub-rem array-write-rem array-share-prefix-w-3 slice-aggregate-completable array-share-prefix-rem slice-aggregate-completable-2 completable-requires mul-rem-2 array-read-rem-2 add-rem array-write-rem-2 returns-4 add-i loop-less loop-again returns-5)
