@@ -2,7 +2,7 @@
 --     ring-refused, ring-decided          whether sectors are a necklace of k shades, by what classifying them says
 --     good-numbers, good-decided          whether a state is good, by its numbers and its ring
 use Prim.Native.Nat.{ℕ, _<_, _≤_}
-use mathlib.Core.Path.{_≡_, refl, sym, ap, _∙_}
+use mathlib.Core.Path.{_≡_, refl, sym, _∙_}
 use mathlib.Core.Bool.{Bool, true, false}
 use mathlib.Core.List.{List}
 use native.Mathlib.Omega.{arith}

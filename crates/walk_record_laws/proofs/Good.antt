@@ -16,10 +16,10 @@ use native.Mathlib.Omega.{arith}
 use lib.ListN.{length, getD, take, drop, replicate, List·getD-append, length-drop, length-replicate, getD-replicate}
 use lib.Seq.{take-append-seam, getD-append-add, ext-getD, getD-take, getD-drop, length-take-le, take-all}
 use lib.Dec.{eqb}
-use borrow.Author.Tests.{eq-eqb, ne-eqb, eqb-true, lt-ltb, le-ltb}
+use borrow.Author.Tests.{eq-eqb, ne-eqb, lt-ltb, le-ltb}
 use Rattle.words.specs.Order.{same}
 use Rattle.words.specs.Readings.{Sized, Shaded, Reading}
-use Rattle.words.proofs.Split.{lt, eq, gt, tri, both, both-left, both-right, not-left, not-right, clash}
+use Rattle.words.proofs.Split.{lt, eq, gt, tri, both, both-left, not-left, not-right, clash}
 use Rattle.words.proofs.Lex.{same-refl}
 use Rattle.rings.specs.declared.Class.{Class}
 use Rattle.rings.specs.Necklace.{necklace, period}

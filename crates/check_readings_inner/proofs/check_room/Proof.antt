@@ -2,7 +2,6 @@
 use mathlib.Core.Path.{refl}
 use mathlib.Core.Logic.{inl, inr}
 use borrow.Author.Needs.{needs}
-use Rattle.refusal.specs.Calls.{withRoom}
 use Rattle.refusal.proofs.More.{more-room}
 use Rattle.check_readings_inner.proofs.check_room.Statement.{statement}
 use Rattle.check_readings_inner.proofs.check_room.Tie as tie

@@ -5,7 +5,6 @@ use mathlib.Core.List.{List, _++_}
 use native.Mathlib.Omega.{arith}
 use lib.ListN.{drop, length-take}
 use Rattle.packing_laws.proofs.Width.{narrow}
-use Rattle.record_spec.specs.declared.Kind.the-variants.{Packed}
 use Rattle.record_spec.specs.Layout.{nOf}
 use Rattle.record_packed_inner.proofs.Behind.{length-told, few, whole-told, unpack-asks, unpacked-ring, follows-told}
 use borrow.Author.Needs.{needs}
