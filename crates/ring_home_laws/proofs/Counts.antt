@@ -20,6 +20,7 @@ use Rattle.words.proofs.Turn.{length-turn}
 use Rattle.rings.specs.Home.{home, shift}
 use Rattle.rings.specs.Counts.{occurs}
 use Rattle.rings.specs.Alike.{differing, apart, mirrored}
+unfoldable pub use Rattle.ring_home_laws.specs.Counts.{surplus}
 use Rattle.ring_home_laws.proofs.Home.{home-turn-of, shift-lt}
 use Rattle.ring_home_laws.proofs.Alike.{differing-le, apart-at}
 
@@ -52,11 +53,6 @@ unfolding mirrored
 occurs-mirrored b w = occurs-home b (reverse w) ∙ occurs-reverse b w
 
 -- ---- the lower bound
-
--- how many more f has of the shades below k than g
-unfoldable pub surplus : ℕ → (ℕ → ℕ) → (ℕ → ℕ) → ℕ
-surplus zero f g = 0
-surplus (suc k) f g = surplus k f g + (f k - g k)
 
 -- equal counts have one surplus
 pub surplus-cong : (k : ℕ) (f g p q : ℕ → ℕ) → ((b : ℕ) → b < k → f b ≡ p b) → ((b : ℕ) → b < k → g b ≡ q b) → surplus k f g ≡ surplus k p q

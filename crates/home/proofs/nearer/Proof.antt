@@ -1,6 +1,6 @@
 -- `home::nearer` meets its contract: what the check answers, or else whether a turn is near enough.
 use mathlib.Core.Path.{_∙_, sym}
-use Rattle.refusal.specs.Calls.{twoReadings}
+use Rattle.refusal.specs.Calls.{askTwo}
 use Rattle.home.proofs.Answers.{passed-pos, passed-pair}
 use borrow.Author.Needs.{needs}
 use Rattle.home.proofs.nearer.Statement.{statement}
@@ -19,7 +19,7 @@ is-nearer-requires : tie.Need-is-nearer-requires
 is-nearer-requires c κs =
     let a = c .before .before .before .before .before .args in
     let g = rw (c .enum-told .given .1) at (c .before .before .check-pair .ensures) in
-    (passed-pos (twoReadings (a .a .now) (a .b .now) (a .k)) g, passed-pair (a .a .now) (a .b .now) (a .k) g)
+    (passed-pos (askTwo (a .a .now) (a .b .now) (a .k)) g, passed-pair (a .a .now) (a .b .now) (a .k) g)
 
 returns : tie.Need-returns
 returns c = (
