@@ -1,2 +1,2 @@
--- Counting all shades at once, and comparing counts, over plain lists (Counting).
+-- Counting all bytes at once, taking the shades among them, and comparing counts, over plain lists (Counting).
 pub mod Counting
