@@ -1,5 +1,6 @@
-# What the scripts of this folder share; they read it with '.', after setting `top` to the repository's folder. It finds the toolchain's parts and makes a room
-# for what is built, which is removed at the end. Then: build_c, build_list and build_calls build, run runs, count counts instructions.
+# What the scripts of this folder share, and .ci/door and .ci/stack with them; they read it with '.', after setting `top` to the repository's folder. It finds the
+# toolchain's parts and makes a room for what is built, which is removed at the end. Then: build_c, build_list and build_calls build, compile compiles without a proof,
+# keep_objects and frames tell the stack, run runs, count counts instructions.
 # Nothing but the toolchain is needed. Every path may have spaces.
 
 say() { printf '%s: %s\n' "$(basename "$0")" "$*" >&2; }
@@ -22,13 +23,28 @@ trap 'exit 1' HUP INT TERM
 
 # ---- building
 
-# build_c NAME [FILE..]: room/NAME from NAME.c of this folder and what it links besides, by the toolchain's own compiler.
-build_c() {
-    program=$room/$1
-    "$bin/clang" --target=x86_64-unknown-linux-gnu -O3 -fPIE -c "$top/bench/$1.c" -o "$program.o"
+# link OUT FILE..: a program of objects and archives, by the toolchain's own linker and C library.
+link() {
+    to=$1
     shift
-    "$bin/ld.lld" -pie --dynamic-linker /lib64/ld-linux-x86-64.so.2 -o "$program" "$lib/Scrt1.o" "$lib/crti.o" "$lib/crtbeginS.o" "$program.o" "$@" \
+    "$bin/ld.lld" -pie --dynamic-linker /lib64/ld-linux-x86-64.so.2 -o "$to" "$lib/Scrt1.o" "$lib/crti.o" "$lib/crtbeginS.o" "$@" \
         "$lib/libc.so.6" "$lib/libc_nonshared.a" "$lib/libgcc.a" "$lib/crtendS.o" "$lib/crtn.o"
+}
+
+# object NAME [WORD..]: room/NAME.o from the C source on standard input, by the toolchain's own compiler.
+object() {
+    name=$1
+    shift
+    cat >"$room/$name.c"
+    "$bin/clang" --target=x86_64-unknown-linux-gnu "$@" -c "$room/$name.c" -o "$room/$name.o"
+}
+
+# build_c NAME [FILE..]: room/NAME from NAME.c of this folder and what it links besides.
+build_c() {
+    program=$1
+    shift
+    object "$program" -O3 -fPIE <"$top/bench/$program.c"
+    link "$room/$program" "$room/$program.o" "$@"
 }
 
 # build_list: the listing program, where it is not built yet.
@@ -141,6 +157,51 @@ build_calls() {
         die "the library for C was not built (see above)"
     fi
     mv "$room/repository/target/staticlib/libcalls.a" "$room/libcalls.a"
+}
+
+# compile NAME [KIT]: room/NAME.a, the static library of the Rattle source on standard input, over every library of the toolchain and of the repository as source,
+# and without a proof, in seconds: for those who look at how compiled code behaves, where another run proves the same sources. KIT is as above.
+compile() {
+    name=$1 by=${2:-$kit}
+    mkdir "$room/$name"
+    cat >"$room/$name/lib.rt"
+    set -- "$room/$name/lib.rt" --crate-name "$name"
+    for source in "$kit"/libs/*/src/lib.rt "$top"/crates/*/src/lib.rt; do
+        of=${source%/src/lib.rt}
+        set -- "$@" --lib "${of##*/}=$source"
+    done
+    "$kit/on/$machine/bin/rattle-cases" --toolchain "$by/on/$machine/toolchain" --staticlib "$room/$name.a" "$@"
+}
+
+# ---- the stack
+
+# keep_objects: room/kit, the toolchain once more, in links, but for the compiler, which also leaves two objects in room/kit: built.o as the code is built, and apart.o
+# with no function laid into another. Both carry the compiler's own record of each function's frame.
+keep_objects() {
+    own=on/$machine
+    mkdir -p "$room/kit/$own/toolchain/bin"
+    for part in "$kit"/* "$kit/$own"/* "$kit/$own/toolchain"/* "$kit/$own/toolchain/bin"/*; do
+        [ -e "$room/kit${part#"$kit"}" ] || ln -s "$part" "$room/kit${part#"$kit"}"
+    done
+    mv "$room/kit/$own/toolchain/bin/clang" "$room/kit/$own/toolchain/bin/own-clang"
+    cat >"$room/kit/$own/toolchain/bin/clang" <<'COMPILER'
+#!/bin/sh
+here=$(dirname "$0") to=$(dirname "$0")/../../../..
+"$here/own-clang" "$@" -fstack-size-section -o "$to/built.o" || exit
+"$here/own-clang" "$@" -fstack-size-section -mllvm -inline-threshold=-1000000 -o "$to/apart.o" || exit
+exec "$here/own-clang" "$@"
+COMPILER
+    chmod +x "$room/kit/$own/toolchain/bin/clang"
+    ln -s "$bin/clang" "$room/llvm-readelf"
+    ln -s "$bin/clang" "$room/llvm-objdump"
+}
+
+# frames OBJECT: a line 'frame BYTES FUNCTION' for each function, then a line 'call CALLER CALLED' for each call
+frames() {
+    "$room/llvm-readelf" --stack-sizes "$1" | awk '$1 ~ /^[0-9]+$/ { print "frame", $1, $2 }'
+    "$room/llvm-objdump" -d -r --no-show-raw-insn "$1" | awk '
+        /^[0-9a-f]+ <.*>:$/ { caller = $2; gsub(/^<|>:$/, "", caller) }
+        $2 == "R_X86_64_PLT32" { called = $3; sub(/^\.text\./, "", called); sub(/-0x[0-9a-f]+$/, "", called); print "call", caller, called }'
 }
 
 # ---- running and counting
