@@ -20,7 +20,7 @@ use Rattle.rings.specs.Necklace.{necklace, lyndon}
 use Rattle.rings.specs.Prenecklace.{prenecklace}
 use Rattle.rings.specs.Counts.{occurs, countedNecklace}
 use Rattle.words.specs.Sum.{sumOf}
-use Rattle.ring_laws.proofs.Run.{Lyn}
+use Rattle.ring_laws.specs.Run.{Lyn}
 use Rattle.shades_tally_inner.specs.Remaining.{Remains}
 use Rattle.shades_raise_inner.specs.declared.Place.{Place}
 
