@@ -7,17 +7,17 @@ use Prim.Native.Nat.{ℕ, _+_, _<_, _≤_}
 use mathlib.Core.Path.{_≡_, refl, sym, ap, _∙_, subst}
 use mathlib.Core.List.{List, [], _++_, append-assoc}
 use native.Mathlib.Omega.{arith}
+use mathlib.Core.Logic.{inl, inr}
 use lib.ListN.{length, getD, take, drop, length-append, length-drop, List·getD-append}
 use lib.Seq.{take-append-le, drop-append-le}
 use Rattle.refusal.specs.declared.Refusal.{Refusal}
 use Rattle.refusal.specs.declared.Refusal.the-variants.{Cut}
 use Rattle.record_spec.specs.declared.Kind.the-variants.{Front}
 use Rattle.record_spec.specs.Layout.{nOf, kOf, sectorsOf, bodyOf}
-use Rattle.record_spec.specs.Order.{AfterHead, After2, After7, After9, Faulty}
-use Rattle.record_spec.specs.Order.Faulty.{size, shades, body, unfit}
+use Rattle.refusal.specs.Order.{Given}
+use Rattle.record_spec.specs.Order.{After9, behindOrder}
 use Rattle.converter_spec.specs.Sides.{Side, SideMarked, frontRing}
-use Rattle.converter_spec.specs.Reads.{OldBroken}
-use Rattle.converter_spec.specs.Reads.OldBroken.{head, mark, spoilt}
+use Rattle.converter_spec.specs.Reads.{oldOrder}
 use Rattle.converter_spec.specs.Converts.{Sound, Turned, Damaged, FrontOf}
 use Rattle.converter_spec.specs.Converts.Sound.{ended, more}
 use Rattle.converter_spec.specs.Converts.Turned.{done, replaced}
@@ -54,31 +54,33 @@ module _ (a b : List ℕ) (l : 4 ≤ length a) where
 
   pub good-joined : After9 a → After9 (a ++ b)
   good-joined g =
-      let q = same-body (g .0 .0 .1) in
-      ((((rw same-n (g .0 .0 .0 .0), rw same-k (g .0 .0 .0 .1)), omega (arith, same-n, longer, g .0 .0 .1)), rw (q, same-k) (g .0 .1)), rw q (g .1))
+      let q = same-body (g .0 .1) in
+      (((rw same-n (g .0 .0 .0), rw same-k (g .0 .0 .1)), omega (arith, same-n, longer, g .0 .1)), ((rw (q, same-k) (g .1 .0 .0), refl), rw q (g .1 .1)))
 
-  faulty-joined : (s : ℕ) (r : Refusal) → Lasting r → Faulty Front a s r → Faulty Front (a ++ b) s r
-  faulty-joined s r k (size e f) = size e (rw same-n f)
-  faulty-joined s r k (shades e g f) = shades e (rw same-n g) (rw same-k f)
-  faulty-joined s r k (body e g f) = absurd (k s e)
-  faulty-joined s r k (unfit g f) = unfit ((rw same-n (g .0 .0), rw same-k (g .0 .1)), omega (arith, same-n, longer, g .1)) (let q = same-body (g .1) in rw (q, same-n, same-k) f)
+  behind-joined : (s : ℕ) (r : Refusal) → Lasting r → Given (behindOrder Front a s) r → Given (behindOrder Front (a ++ b) s) r
+  behind-joined s r k (inl (inl (inl (e, f)))) = inl (inl (inl (e, rw same-n f)))
+  behind-joined s r k (inl (inl (inr (g, (e, f))))) = inl (inl (inr (rw same-n g, (e, rw same-k f))))
+  behind-joined s r k (inl (inr (g, (e, f)))) = absurd (k s e)
+  behind-joined s r k (inr (g, f)) =
+      let q = same-body (g .1) in
+      inr (((rw same-n (g .0 .0), rw same-k (g .0 .1)), omega (arith, same-n, longer, g .1)), rw (q, same-n, same-k) f)
 
 -- a record that is refused otherwise than with Cut is refused so
-pub broken-joined : (a b : List ℕ) (s : ℕ) (r : Refusal) → Lasting r → OldBroken a s r → OldBroken (a ++ b) s r
-broken-joined a b s r k (head e l) = absurd (k s e)
-broken-joined a b s r k (mark e l f) = mark e (omega (arith, longer a b l)) (λ x m. f x (marked-here a b l x m))
-broken-joined a b s r k (spoilt x l m f) = spoilt x (omega (arith, longer a b l)) (marked-joined a b l x m) (faulty-joined a b l s r k f)
+pub broken-joined : (a b : List ℕ) (s : ℕ) (r : Refusal) → Lasting r → Given (oldOrder a s) r → Given (oldOrder (a ++ b) s) r
+broken-joined a b s r k (inl (inl (e, l))) = absurd (k s e)
+broken-joined a b s r k (inl (inr (l, (e, f)))) = inl (inr (omega (arith, longer a b l), (e, λ m. f (m .0, marked-here a b l (m .0) (m .1)))))
+broken-joined a b s r k (inr ((l, (x, m)), f)) = inr ((omega (arith, longer a b l), (x, marked-joined a b l x m)), behind-joined a b l s r k f)
 
 -- ---- good records
 
 -- a head is there
 pub long : (a : List ℕ) → After9 a → 4 ≤ length a
-long a g = omega (arith, g .0 .0 .1)
+long a g = omega (arith, g .0 .1)
 
 pub sound-joined : (a b : List ℕ) → Sound a → Sound b → Sound (a ++ b)
 sound-joined a b (ended e) h = rw e h
 sound-joined a b (more x m g r) h =
-    more {t = a ++ b} x (marked-joined a b (long a g) x m) (good-joined a b (long a g) g) (rw (behind a b (long a g) (g .0 .0 .1)) (sound-joined (drop (4 + nOf a) a) b r h))
+    more {t = a ++ b} x (marked-joined a b (long a g) x m) (good-joined a b (long a g) g) (rw (behind a b (long a g) (g .0 .1)) (sound-joined (drop (4 + nOf a) a) b r h))
 
 pub damage-joined : (a b : List ℕ) (s : ℕ) (r : Refusal) → Sound a → Damaged b (s + length a) r → Damaged (a ++ b) s r
 damage-joined a b s r (ended e) h =
@@ -86,15 +88,15 @@ damage-joined a b s r (ended e) h =
     let q : Damaged b s r = rw k at h in
     rw e q
 damage-joined a b s r (more x m g q) h =
-    let k : s + length a ≡ s + 4 + nOf a + length (drop (4 + nOf a) a) = omega (arith, length-drop (4 + nOf a) a, g .0 .0 .1) in
+    let k : s + length a ≡ s + 4 + nOf a + length (drop (4 + nOf a) a) = omega (arith, length-drop (4 + nOf a) a, g .0 .1) in
     later {t = a ++ b} {s = s} {r = r} x (marked-joined a b (long a g) x m) (good-joined a b (long a g) g)
-    (rw (behind a b (long a g) (g .0 .0 .1), same-n a b (long a g)) (damage-joined (drop (4 + nOf a) a) b (s + 4 + nOf a) r q (rw k at h)))
+    (rw (behind a b (long a g) (g .0 .1), same-n a b (long a g)) (damage-joined (drop (4 + nOf a) a) b (s + 4 + nOf a) r q (rw k at h)))
 
 pub damage-lasts : (a b : List ℕ) (s : ℕ) (r : Refusal) → Lasting r → Damaged a s r → Damaged (a ++ b) s r
 damage-lasts a b s r k (here l h) = here {t = a ++ b} (omega (arith, length-append a b)) (broken-joined a b s r k h)
 damage-lasts a b s r k (later x m g d) =
     later {t = a ++ b} {s = s} {r = r} x (marked-joined a b (long a g) x m) (good-joined a b (long a g) g)
-    (rw (behind a b (long a g) (g .0 .0 .1), same-n a b (long a g)) (damage-lasts (drop (4 + nOf a) a) b (s + 4 + nOf a) r k d))
+    (rw (behind a b (long a g) (g .0 .1), same-n a b (long a g)) (damage-lasts (drop (4 + nOf a) a) b (s + 4 + nOf a) r k d))
 
 -- ---- the new catalogue
 
@@ -105,7 +107,7 @@ front-joined a b u v x g f =
       marked = rw (byte u v z 0 (omega arith), byte u v z 1 (omega arith)) (f .marked);
       sectors = same-n a b w ∙ f .sectors ∙ sym (same-n u v z);
       shades = same-k a b w ∙ f .shades ∙ sym (same-k u v z);
-      ring = ap (frontRing x) (same-body a b w (g .0 .0 .1)) ∙ f .ring ∙ sym (same-body u v z (omega (arith, front-long a g x u f, f .sectors)));
+      ring = ap (frontRing x) (same-body a b w (g .0 .1)) ∙ f .ring ∙ sym (same-body u v z (omega (arith, front-long a g x u f, f .sectors)));
     }
   where
     w : 4 ≤ length a
@@ -118,4 +120,4 @@ pub turned-joined : (a b u v : List ℕ) → Turned a u → Turned b v → Turne
 turned-joined a b u v (done e f) h = rw (e, f) h
 turned-joined a b u v (replaced x m g f r) h =
     replaced {t = a ++ b} {u = u ++ v} x (marked-joined a b (long a g) x m) (good-joined a b (long a g) g) (front-joined a b u v x g f)
-    (rw (behind a b (long a g) (g .0 .0 .1), same-n a b (long a g), drop-append-le (4 + nOf a) u v (front-long a g x u f)) (turned-joined (drop (4 + nOf a) a) b (drop (4 + nOf a) u) v r h))
+    (rw (behind a b (long a g) (g .0 .1), same-n a b (long a g), drop-append-le (4 + nOf a) u v (front-long a g x u f)) (turned-joined (drop (4 + nOf a) a) b (drop (4 + nOf a) u) v r h))

@@ -7,25 +7,24 @@
 --     begun-short                  the beginning of a record has less than 68 bytes
 use Prim.Native.Nat.{ℕ, _+_, _-_, _<_, _≤_}
 use mathlib.Core.Path.{_≡_, refl, sym, ap, _∙_}
-use mathlib.Core.Bool.{true≢false}
+use mathlib.Core.Logic.{inl, inr}
 use mathlib.Core.List.{List, [], _++_}
 use native.Mathlib.Omega.{arith}
 use lib.ListN.{length, getD, take, drop, length-drop, length-take}
 use lib.Seq.{getD-take, take-take, drop-drop}
+use Rattle.words.proofs.Split.{lt, eq, gt, tri}
 use Rattle.refusal.specs.declared.Refusal.{Refusal}
 use Rattle.refusal.specs.declared.Refusal.the-variants as R
 use Rattle.refusal.specs.Numbers.{numberOf, placeOf}
 use Rattle.record_spec.specs.declared.Kind.the-variants.{Front}
 use Rattle.record_spec.specs.Layout.{nOf, kOf, bodyOf, sectorsOf}
-use Rattle.record_spec.specs.Order.{After7, After9, Unfit, Faulty}
-use Rattle.record_spec.specs.Order.Faulty.{size, shades, body, unfit}
-use Rattle.record_spec.specs.Order.Unfit.{sector, padding, notHome}
+use Rattle.refusal.specs.Order.{Given}
+use Rattle.record_spec.specs.Order.{After7, After9, bodyOrder, behindOrder}
 use Rattle.ring_laws.proofs.Classes.{look-within}
 use Rattle.record_spec.proofs.Only.{drop-take}
 use Rattle.record_spec.proofs.Laws.{length-sectors}
 use Rattle.converter_spec.specs.Sides.{Side, SideMarked}
-use Rattle.converter_spec.specs.Reads.{OldBroken}
-use Rattle.converter_spec.specs.Reads.OldBroken.{head, mark, spoilt}
+use Rattle.converter_spec.specs.Reads.{oldOrder}
 use Rattle.converter_spec.specs.Converts.{Sound, Damaged}
 use Rattle.converter_spec.specs.Converts.Sound.{ended, more}
 use Rattle.converter_spec.specs.Converts.Damaged.{here, later}
@@ -59,21 +58,21 @@ at p s i = omega arith
 further : (p s i j : ℕ) → p + (s + i + j) ≡ p + s + i + j
 further p s i j = omega arith
 
-unfit-moved : (n k : ℕ) (b : List ℕ) (s p : ℕ) (r : Refusal) → Unfit Front n k b s r → Unfit Front n k b (p + s) (moved p r)
-unfit-moved n k b s p r (sector i e f) = sector i (ap (moved p) e ∙ ap R.Sector (further p s 4 i)) f
-unfit-moved n k b s p r (padding e f g) = padding (ap (moved p) e ∙ ap R.Padding (further p s 4 (n - 1))) f g
-unfit-moved n k b s p r (notHome e f g h) = notHome (ap (moved p) e ∙ ap R.NotHome (further p s 4 _)) f g h
+body-moved : (n k : ℕ) (b : List ℕ) (s p : ℕ) (r : Refusal) → Given (bodyOrder Front n k b s) r → Given (bodyOrder Front n k b (p + s)) (moved p r)
+body-moved n k b s p r (inl (inl (i, e, f))) = inl (inl (i, ap (moved p) e ∙ ap R.Sector (further p s 4 i), f))
+body-moved n k b s p r (inl (inr (f, (e, g)))) = inl (inr (f, (ap (moved p) e ∙ ap R.Padding (further p s 4 (n - 1)), g)))
+body-moved n k b s p r (inr (f, (e, h))) = inr (f, (ap (moved p) e ∙ ap R.NotHome (further p s 4 _), h))
 
-faulty-moved : (t : List ℕ) (s p : ℕ) (r : Refusal) → Faulty Front t s r → Faulty Front t (p + s) (moved p r)
-faulty-moved t s p r (size e f) = size (ap (moved p) e ∙ ap R.Length (at p s 2)) f
-faulty-moved t s p r (shades e l f) = shades (ap (moved p) e ∙ ap R.Shades (at p s 3)) l f
-faulty-moved t s p r (body e l f) = body (ap (moved p) e) l f
-faulty-moved t s p r (unfit l f) = unfit l (unfit-moved _ _ _ s p r f)
+behind-moved : (t : List ℕ) (s p : ℕ) (r : Refusal) → Given (behindOrder Front t s) r → Given (behindOrder Front t (p + s)) (moved p r)
+behind-moved t s p r (inl (inl (inl (e, f)))) = inl (inl (inl (ap (moved p) e ∙ ap R.Length (at p s 2), f)))
+behind-moved t s p r (inl (inl (inr (l, (e, f))))) = inl (inl (inr (l, (ap (moved p) e ∙ ap R.Shades (at p s 3), f))))
+behind-moved t s p r (inl (inr (l, (e, f)))) = inl (inr (l, (ap (moved p) e, f)))
+behind-moved t s p r (inr (l, f)) = inr (l, body-moved _ _ _ s p r f)
 
-pub broken-moved : (t : List ℕ) (s p : ℕ) (r : Refusal) → OldBroken t s r → OldBroken t (p + s) (moved p r)
-broken-moved t s p r (head e l) = head (ap (moved p) e) l
-broken-moved t s p r (mark e l f) = mark (ap (moved p) e) l f
-broken-moved t s p r (spoilt x l m f) = spoilt x l m (faulty-moved t s p r f)
+pub broken-moved : (t : List ℕ) (s p : ℕ) (r : Refusal) → Given (oldOrder t s) r → Given (oldOrder t (p + s)) (moved p r)
+broken-moved t s p r (inl (inl (e, l))) = inl (inl (ap (moved p) e, l))
+broken-moved t s p r (inl (inr (l, (e, f)))) = inl (inr (l, (ap (moved p) e, f)))
+broken-moved t s p r (inr (l, f)) = inr (l, behind-moved t s p r f)
 
 pub damage-moved : (t : List ℕ) (s p : ℕ) (r : Refusal) → Damaged t s r → Damaged t (p + s) (moved p r)
 damage-moved t s p r (here l b) = here l (broken-moved t s p r b)
@@ -87,29 +86,29 @@ damage-moved t s p r (later x m a d) =
 abbrev pub Placed : List ℕ → ℕ → Refusal → Type 0
 Placed t s r = (placeOf r < s + length t) × ((p : ℕ) → placeOf (moved p r) ≡ p + placeOf r)
 
-unfit-placed : (t : List ℕ) (s : ℕ) (r : Refusal) → After7 Front t → Unfit Front (nOf t) (kOf t) (bodyOf Front t) s r → Placed t s r
-unfit-placed t s r l (sector i e f) = rw e (omega (arith, f .within, length-sectors t (l .1), l .1), λ p. refl)
-unfit-placed t s r l (padding e f g) = absurd (true≢false g)
-unfit-placed t s r l (notHome e f g h) =
+body-placed : (t : List ℕ) (s : ℕ) (r : Refusal) → After7 Front t → Given (bodyOrder Front (nOf t) (kOf t) (bodyOf Front t) s) r → Placed t s r
+body-placed t s r l (inl (inl (i, e, f))) = rw e (omega (arith, f .within, length-sectors t (l .1), l .1), λ p. refl)
+body-placed t s r l (inl (inr (f, (e, g)))) = absurd (g refl)
+body-placed t s r l (inr (f, (e, h))) =
     let q = length-sectors t (l .1) in
     rw e (omega (arith, look-within (sectorsOf t) (omega (arith, q, l .0 .0 .0)), q, l .1), λ p. refl)
 
-faulty-placed : (t : List ℕ) (s : ℕ) (r : Refusal) → 4 ≤ length t → Faulty Front t s r → Placed t s r
-faulty-placed t s r l (size e f) = rw e (omega arith, λ p. refl)
-faulty-placed t s r l (shades e g f) = rw e (omega arith, λ p. refl)
-faulty-placed t s r l (body e g f) = rw e (omega arith, λ p. refl)
-faulty-placed t s r l (unfit g f) = unfit-placed t s r g f
+behind-placed : (t : List ℕ) (s : ℕ) (r : Refusal) → 4 ≤ length t → Given (behindOrder Front t s) r → Placed t s r
+behind-placed t s r l (inl (inl (inl (e, f)))) = rw e (omega arith, λ p. refl)
+behind-placed t s r l (inl (inl (inr (g, (e, f))))) = rw e (omega arith, λ p. refl)
+behind-placed t s r l (inl (inr (g, (e, f)))) = rw e (omega arith, λ p. refl)
+behind-placed t s r l (inr (g, f)) = body-placed t s r g f
 
-broken-placed : (t : List ℕ) (s : ℕ) (r : Refusal) → 0 < length t → OldBroken t s r → Placed t s r
-broken-placed t s r z (head e l) = rw e (omega arith, λ p. refl)
-broken-placed t s r z (mark e l f) = rw e (omega arith, λ p. refl)
-broken-placed t s r z (spoilt x l m f) = faulty-placed t s r l f
+broken-placed : (t : List ℕ) (s : ℕ) (r : Refusal) → 0 < length t → Given (oldOrder t s) r → Placed t s r
+broken-placed t s r z (inl (inl (e, l))) = rw e (omega arith, λ p. refl)
+broken-placed t s r z (inl (inr (l, (e, f)))) = rw e (omega arith, λ p. refl)
+broken-placed t s r z (inr ((l, m), f)) = behind-placed t s r l f
 
 pub damage-placed : (t : List ℕ) (s : ℕ) (r : Refusal) → Damaged t s r → Placed t s r
 damage-placed t s r (here l b) = broken-placed t s r l b
 damage-placed t s r (later x m a d) =
     let q = damage-placed (drop (4 + nOf t) t) (s + 4 + nOf t) r d in
-    (omega (arith, q .0, length-drop (4 + nOf t) t, a .0 .0 .1), q .1)
+    (omega (arith, q .0, length-drop (4 + nOf t) t, a .0 .1), q .1)
 
 -- ---- Cut
 
@@ -117,21 +116,25 @@ damage-placed t s r (later x m a d) =
 other : (r : Refusal) (q n : ℕ) → r ≡ R.Cut q → numberOf r ≡ n → (n ≡ 7 → ⊥) → ⊥
 other r q n e f g = g (sym f ∙ ap numberOf e)
 
+-- a number that is not above another is below it
+below-of : (a b : ℕ) → (b ≤ a → ⊥) → a < b
+below-of a b f = elim (tri a b) [ lt h ↦ h | eq h ↦ absurd (f (omega arith)) | gt h ↦ absurd (f (omega arith)) ]
+
 -- a record that is cut
-cut-faulty : (t : List ℕ) (s q : ℕ) (r : Refusal) → r ≡ R.Cut q → Faulty Front t s r → (q ≡ s) × Faulty Front t 0 (R.Cut 0) × (length t < 68)
-cut-faulty t s q r e (size f g) = absurd (other r q 1 e (ap numberOf f) (λ z. omega arith))
-cut-faulty t s q r e (shades f l g) = absurd (other r q 2 e (ap numberOf f) (λ z. omega arith))
-cut-faulty t s q r e (body f l g) = (ap placeOf (sym e ∙ f), body refl l g, omega (arith, g, l .0 .1))
-cut-faulty t s q r e (unfit l (sector i f g)) = absurd (other r q 3 e (ap numberOf f) (λ z. omega arith))
-cut-faulty t s q r e (unfit l (padding f g h)) = absurd (other r q 17 e (ap numberOf f) (λ z. omega arith))
-cut-faulty t s q r e (unfit l (notHome f g h k)) = absurd (other r q 9 e (ap numberOf f) (λ z. omega arith))
+cut-behind : (t : List ℕ) (s q : ℕ) (r : Refusal) → r ≡ R.Cut q → Given (behindOrder Front t s) r → (q ≡ s) × Given (behindOrder Front t 0) (R.Cut 0) × (length t < 68)
+cut-behind t s q r e (inl (inl (inl (f, g)))) = absurd (other r q 1 e (ap numberOf f) (λ z. omega arith))
+cut-behind t s q r e (inl (inl (inr (l, (f, g))))) = absurd (other r q 2 e (ap numberOf f) (λ z. omega arith))
+cut-behind t s q r e (inl (inr (l, (f, g)))) = (ap placeOf (sym e ∙ f), inl (inr (l, (refl, g))), omega (arith, below-of (length t) (4 + nOf t) g, l .0 .1))
+cut-behind t s q r e (inr (l, inl (inl (i, f, g)))) = absurd (other r q 3 e (ap numberOf f) (λ z. omega arith))
+cut-behind t s q r e (inr (l, inl (inr (g, (f, h))))) = absurd (other r q 17 e (ap numberOf f) (λ z. omega arith))
+cut-behind t s q r e (inr (l, inr (g, (f, h)))) = absurd (other r q 9 e (ap numberOf f) (λ z. omega arith))
 
-pub cut-broken : (t : List ℕ) (s q : ℕ) (r : Refusal) → r ≡ R.Cut q → OldBroken t s r → (q ≡ s) × OldBroken t 0 (R.Cut 0) × (length t < 68)
-cut-broken t s q r e (head f l) = (ap placeOf (sym e ∙ f), head refl l, omega arith)
-cut-broken t s q r e (mark f l g) = absurd (other r q 8 e (ap numberOf f) (λ z. omega arith))
-cut-broken t s q r e (spoilt x l m f) = let w = cut-faulty t s q r e f in (w .0, spoilt x l m (w .1), w .2)
+pub cut-broken : (t : List ℕ) (s q : ℕ) (r : Refusal) → r ≡ R.Cut q → Given (oldOrder t s) r → (q ≡ s) × Given (oldOrder t 0) (R.Cut 0) × (length t < 68)
+cut-broken t s q r e (inl (inl (f, l))) = (ap placeOf (sym e ∙ f), inl (inl (refl, l)), omega (arith, below-of (length t) 4 l))
+cut-broken t s q r e (inl (inr (l, (f, g)))) = absurd (other r q 8 e (ap numberOf f) (λ z. omega arith))
+cut-broken t s q r e (inr (l, f)) = let w = cut-behind t s q r e f in (w .0, inr (l, w .1), w .2)
 
-pub begun-short : (t : List ℕ) → OldBroken t 0 (R.Cut 0) → length t < 68
+pub begun-short : (t : List ℕ) → Given (oldOrder t 0) (R.Cut 0) → length t < 68
 begun-short t h = cut-broken t 0 0 (R.Cut 0) refl h .2
 
 -- the bytes of a that a good record takes, and any that follow
@@ -157,8 +160,10 @@ module _ (a : List ℕ) (g : After9 a) (f : ℕ) where
   marked-taken x m = rw (byte 0 (omega arith), byte 1 (omega arith)) m
 
   good-taken : After9 t
-  good-taken =
-      ((((rw same-n (g .0 .0 .0 .0), rw same-k (g .0 .0 .0 .1)), omega (arith, same-n, length-take (4 + nOf a + f) a, g .0 .0 .1)), rw (same-body, same-k) (g .0 .1)), rw same-body (g .1))
+  good-taken = (
+    ((rw same-n (g .0 .0 .0), rw same-k (g .0 .0 .1)), omega (arith, same-n, length-take (4 + nOf a + f) a, g .0 .1)),
+    ((rw (same-body, same-k) (g .1 .0 .0), refl), rw same-body (g .1 .1)),
+  )
 
   behind : drop (4 + nOf t) t ≡ take f (drop (4 + nOf a) a)
   behind = rw same-n (drop-take (4 + nOf a) f a)
@@ -169,7 +174,7 @@ pub record Torn (a : List ℕ) (s q : ℕ) : Type 0 where
   pub place : q ≡ s + from
   pub inside : from < length a
   pub sound : Sound (take from a)
-  pub rest : OldBroken (drop from a) 0 (R.Cut 0)
+  pub rest : Given (oldOrder (drop from a) 0) (R.Cut 0)
 
 pub damage-torn : (a : List ℕ) (s q : ℕ) (r : Refusal) → r ≡ R.Cut q → Damaged a s r → Torn a s q
 damage-torn a s q r e (here l b) =

@@ -12,8 +12,8 @@ use lib.ListN.{length, take, drop, length-drop, length-take, take-append-drop, d
 use Rattle.refusal.specs.declared.Refusal.{Refusal}
 use Rattle.refusal.specs.declared.Refusal.the-variants.{Cut}
 use Rattle.refusal.specs.Numbers.{placeOf}
-use Rattle.converter_spec.specs.Reads.{OldBroken}
-use Rattle.converter_spec.specs.Reads.OldBroken.{head, mark, spoilt}
+use Rattle.refusal.specs.Order.{Given}
+use Rattle.converter_spec.specs.Reads.{oldOrder}
 use Rattle.converter_spec.specs.Converts.{Sound, Turned, Damaged}
 use Rattle.converter_spec.specs.Converts.Sound.{ended, more}
 use Rattle.converter_spec.specs.Converts.Damaged.{here, later}
@@ -26,11 +26,11 @@ use Rattle.converter_blocks_spec.proofs.Joined.{damage-joined}
 use Rattle.converter_blocks_spec.proofs.Places.{broken-moved}
 
 -- good records, and the beginning of one more
-pub torn-damage : (b : List ℕ) (m : ℕ) → m ≤ length b → Sound (take m b) → 0 < length (drop m b) → OldBroken (drop m b) 0 (Cut 0) → Damaged b 0 (Cut m)
+pub torn-damage : (b : List ℕ) (m : ℕ) → m ≤ length b → Sound (take m b) → 0 < length (drop m b) → Given (oldOrder (drop m b) 0) (Cut 0) → Damaged b 0 (Cut m)
 torn-damage b m l s z h =
     let e : m + 0 ≡ m = omega arith in
     let f : 0 + length (take m b) ≡ m = omega (arith, length-take m b) in
-    let k : OldBroken (drop m b) m (Cut m) = rw e at (broken-moved (drop m b) 0 m (Cut 0) h) in
+    let k : Given (oldOrder (drop m b) m) (Cut m) = rw e at (broken-moved (drop m b) 0 m (Cut 0) h) in
     rw (take-append-drop m b) at (damage-joined (take m b) (drop m b) 0 (Cut m) s (rw f (here z k)))
 
 -- all of it

@@ -14,7 +14,8 @@ use mathlib.Core.List.{List, []}
 use lib.ListN.{length, take, drop}
 use Rattle.refusal.specs.declared.Refusal.{Refusal}
 use Rattle.refusal.specs.declared.Refusal.the-variants.{Room, Cut}
-use Rattle.converter_spec.specs.Reads.{OldBroken}
+use Rattle.refusal.specs.Order.{Given}
+use Rattle.converter_spec.specs.Reads.{oldOrder}
 use Rattle.converter_spec.specs.Converts.{Sound, Turned, Damaged}
 use Rattle.converter_blocks_spec.specs.declared.Stretch.{Stretch}
 use Rattle.converter_blocks_spec.specs.declared.Stretch.the-variants.{Records, Refused}
@@ -24,7 +25,7 @@ Lasting r = (p : ℕ) → r ≡ Cut p → ⊥
 
 pub data Unfinished (t : List ℕ) : Type 0 where
   nothing : t ≡ [] → Unfinished t
-  begun : OldBroken t 0 (Cut 0) → Unfinished t
+  begun : Given (oldOrder t 0) (Cut 0) → Unfinished t
 
 -- what is left behind m bytes of whole records
 abbrev pub Rest : Bool → List ℕ → Type 0

@@ -27,7 +27,7 @@ use Rattle.listing_spec.specs.State.{stateRing, GoodState, emptyState, startSta
 use Rattle.listing_spec.specs.Paging.{lineRoom, Goes, FirstPage, small, refused, listed, Next, bad, good, Paged, Pages, last, page}
 use Rattle.listing_laws.proofs.Counting.{ringsTo, rings-start, rings-next, rings-end}
 use Rattle.listing_laws.proofs.Following.{Follows, follows-walk, Behind, goes-follows}
-use Rattle.listing_laws.proofs.Leaving.{Counted, counted-start, Left, goes-true, goes-some, Stands, stands-good, stands-behind, empty-bad}
+use Rattle.listing_laws.proofs.Leaving.{CountedSoFar, counted-start, Left, goes-true, goes-some, Stands, stands-good, stands-behind, empty-bad}
 
 -- ---- the last line
 

@@ -52,7 +52,7 @@ fn step(c: &[u8], p: Places, kind: Kind, out: &mut [u8]) -> Places {
 // Moves every record; how many bytes they are.
 fn moved(c: &[u8], kind: Kind, out: &mut [u8]) -> usize {
     let mut p = Places { from: 0, to: 0 };
-    for _ in 0..cases::MANY {
+    for _ in 0..test_cases::MANY {
         let q = step(c, p, kind, out);
         if q.from == p.from {
             break;
@@ -104,7 +104,7 @@ fn run(line: &[u8]) {
 
 fn main() {
     let mut line = [0u8; 512];
-    for _ in 0..cases::MANY {
+    for _ in 0..test_cases::MANY {
         let n = test_cases::next(&mut line);
         if n == 0 {
             break;

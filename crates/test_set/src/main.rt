@@ -20,7 +20,7 @@ fn ends() {
 fn main() {
     let mut line = [0u8; 64];
     let mut buf = [0u8; 818];
-    for _ in 0..cases::MANY {
+    for _ in 0..test_cases::MANY {
         let n = test_cases::next(&mut line);
         if n == 0 {
             break;
