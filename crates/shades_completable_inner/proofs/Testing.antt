@@ -28,7 +28,7 @@ use Rattle.shades_laws.proofs.Made.{Completed, made-none}
 use Rattle.shades_laws.proofs.Letters.{letters, occurs-letters, length-letters}
 use Rattle.shades_laws.proofs.Groups.{Grouped, spread, group-start, group-dropped, group-few, group-pushed, group-taken, group-stuck, group-low, group-yes}
 use Rattle.shades_pool_inner.specs.Chain.{Spelled, Chained, Ranked, Compares}
-use Rattle.shades_completable_inner.specs.Completion.{Completing, Hopeless, Decides, Least, Numbered, LastSome, Opened}
+use Rattle.shades_completable_inner.specs.Completion.{Completing, Hopeless, Decides, Least, Numbered, Opened}
 
 -- ---- the least letter that is left
 
@@ -401,14 +401,6 @@ module _ {al rem : List ℕ} {first q a f e : ℕ} {num pre next : List ℕ} (t 
             word-long : 0 < length (t .word g)
             word-long = Rattle.shades_laws.proofs.Groups.beyond-long (more .beyond g g (omega (arith, g-at)) (omega (arith, g-at)) (omega arith))
 
--- groups without copies at the end go
-pub test-skipped : {al rem : List ℕ} {first q a f e : ℕ} {num pre next : List ℕ} → Testing al rem first q a f e num pre next → (r : ℕ) → LastSome num f e r → Testing al rem first q a f r num pre next
-test-skipped {al} {rem} {first} {q} {a} {f} {e} {num} {pre} {next} t r l = go (e - r) e t (omega (arith, l .upto)) (λ i h k. l .none i h k)
-  where
-    go : (d e : ℕ) → Testing al rem first q a f e num pre next → e ≡ r + d → ((i : ℕ) → r ≤ i → i < e → getD num i 0 ≡ 0) → Testing al rem first q a f r num pre next
-    go zero e t k none = subst (λ x. Testing al rem first q a f x num pre next) (let z : e ≡ r = omega arith in z) t
-    go (suc d) e t k none = go d (e - 1) (test-dropped t (λ x. omega (arith, l .from)) (none (e - 1) (omega arith) (omega arith))) (omega arith) (λ i h m. none i h (omega arith))
-
 -- what the loop's numbers are bounded by, where there is a last group and x is its number
 pub record Bounds (al : List ℕ) (first q a f e x : ℕ) (num pre next : List ℕ) : Type 0 where
   pub size : length num ≡ 80
@@ -433,24 +425,3 @@ test-bounds {f = f} {e = e} t other = record {
   within = t .within;
   small = t .small;
 }
-
--- ---- the last group that has a copy
-
--- each group from r on has none
-pub record Dropping (num : List ℕ) (f e r : ℕ) : Type 0 where
-  pub from : f ≤ r
-  pub upto : r ≤ e
-  pub none : (i : ℕ) → r ≤ i → i < e → getD num i 0 ≡ 0
-
-pub drop-start : (num : List ℕ) (f e : ℕ) → f ≤ e → Dropping num f e e
-drop-start num f e h = record { from = h; upto = omega arith; none = λ i p q. absurd (omega arith) }
-
-pub drop-more : (num : List ℕ) (f e r : ℕ) → Dropping num f e r → f < r → getD num (r - 1) 0 ≡ 0 → Dropping num f e (r - 1)
-drop-more num f e r p h z = record {
-  from = omega arith;
-  upto = omega (arith, p .upto);
-  none = λ i k l. elim (tri i (r - 1)) [ lt x ↦ absurd (omega arith) | eq x ↦ rw x z | gt x ↦ p .none i (omega arith) l ];
-}
-
-pub drop-end : (num : List ℕ) (f e r : ℕ) → Dropping num f e r → (f < r → getD num (r - 1) 0 ≡ 0 → ⊥) → LastSome num f e r
-drop-end num f e r p h = record { from = p .from; upto = p .upto; none = p .none; some = h }

@@ -5,9 +5,8 @@
 --     Decides al rem r     r is yes exactly where there is such a word
 --     Least rem r          r is the least letter of which some is left, or how many counts there are
 --     Numbered rem r       letter b is counted at place 64 + b
---     LastSome num f e r   r is where the last group from f up to e ends that has a copy, or f
 --     Opened al rem b      b is the least letter that is left, and al begins with it and goes on
-use Prim.Native.Nat.{ℕ, _+_, _-_, _<_, _≤_}
+use Prim.Native.Nat.{ℕ, _+_, _<_, _≤_}
 use mathlib.Core.Path.{_≡_}
 use mathlib.Core.Bool.{Bool, true, false}
 use mathlib.Core.List.{List, _++_}
@@ -47,13 +46,6 @@ pub record Least (rem : List ℕ) (r : ℕ) : Type 0 where
 -- letter b is counted at place 64 + b
 abbrev pub Numbered : List ℕ → List ℕ → Type 0
 Numbered rem r = (b : ℕ) → b < length rem → getD r (64 + b) 0 ≡ getD rem b 0
-
--- r is where the last group from f up to e ends that has a copy, or f
-pub record LastSome (num : List ℕ) (f e r : ℕ) : Type 0 where
-  pub from : f ≤ r
-  pub upto : r ≤ e
-  pub none : (i : ℕ) → r ≤ i → i < e → getD num i 0 ≡ 0
-  pub some : f < r → getD num (r - 1) 0 ≡ 0 → ⊥
 
 -- b is the least letter that is left, and al begins with it and goes on
 pub record Opened (al rem : List ℕ) (b : ℕ) : Type 0 where

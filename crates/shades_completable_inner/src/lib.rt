@@ -4,7 +4,7 @@ ghost use mathlib.Core.Path.{_≡_};
 ghost use Prim.Native.Nat.{_≤_};
 ghost use lib.ListN.{length};
 ghost use Rattle.words.specs.Sum.{sumOf};
-ghost use Rattle.shades_completable_inner.specs.Completion.{Completing, Decides, Least, Numbered, LastSome, Opened};
+ghost use Rattle.shades_completable_inner.specs.Completion.{Completing, Decides, Least, Numbered, Opened};
 
 // The least letter of which some is left, or how many counts there are.
 fn least_left(rem: &[usize]) -> usize
@@ -34,21 +34,6 @@ fn numbers(rem: &[usize]) -> [u8; 80]
     num
 }
 
-// Where the last group from f up to e ends that has a copy, or f.
-fn last_some(num: &[u8], f: usize, e: usize) -> usize
-    requires { ⌜ (f ≤ e) × (e ≤ length (now num)) ⌝ }
-    ensures { λ r. ⌜ LastSome (now (num .entry)) f e r ⌝ }
-{
-    let mut r = e;
-    while f < r {
-        if num[r - 1] != 0 {
-            return r;
-        }
-        r -= 1;
-    }
-    r
-}
-
 // The pool, where b is the least letter that is left and al begins with it. Its least word is the first a sectors of al, q times; the other words are groups, from node f up to
 // node e, of which the last is the greatest.
 fn decide(al: &[u8], rem: &[usize], b: usize) -> bool
@@ -64,13 +49,14 @@ fn decide(al: &[u8], rem: &[usize], b: usize) -> bool
     let mut f = first;
     let mut e = rem.len() + 64;
     loop {
-        e = last_some(&num, f, e);
         if e == f {
             return false; // only copies of the least word are left
         }
         let g = e - 1;
         let x = num[g] as usize;
-        if x < q {
+        if x == 0 {
+            e = g;
+        } else if x < q {
             // each word of the last group takes a copy of the least word in front
             f -= 1;
             num[f] = x as u8;

@@ -57,7 +57,7 @@ pub struct Place {
 }
 
 // How far a ring of these counts may follow w, and what the counts leave beside that: no place behind can be raised. Where p is less than n the first p sectors are a Lyndon
-// word, and where no letters like those that are left can end a necklace that begins with it, none of these counts goes on so far.
+// word, and where no letters like those that are left can end a necklace that begins with it, no ring goes on so far: that is looked at behind each fourth place.
 fn reach(w: [u8; 64], n: usize, k: usize, p: usize, counts: &[usize]) -> Fit
     requires { ⌜ Opening w n k (now counts) × Headed w n p ⌝ }
     ensures { λ r. ⌜ Seeking w n k (now (counts .entry)) (r .end) (r .rem) ⌝ }
@@ -77,6 +77,10 @@ fn reach(w: [u8; 64], n: usize, k: usize, p: usize, counts: &[usize]) -> Fit
             return Fit { end: i, rem: rem };
         }
         rem[x] -= 1;
+        if i % 4 != 3 {
+            i += 1;
+            continue;
+        }
         if !shades_completable_inner::completable(&w[..p], &rem[..k]) {
             rem[x] += 1;
             return Fit { end: i, rem: rem };

@@ -3,7 +3,7 @@ use Prim.Native.Nat.{_+_, _-_}
 use mathlib.Core.Path.{sym}
 use native.Mathlib.Omega.{arith}
 use lib.ListN.{length}
-use Rattle.shades_completable_inner.proofs.Testing.{Testing, test-start, test-stuck, test-order, test-skipped, test-bounds, test-pushed, test-chained, test-under, test-over, test-on, test-longer}
+use Rattle.shades_completable_inner.proofs.Testing.{Testing, test-start, test-stuck, test-order, test-bounds, test-dropped, test-pushed, test-chained, test-under, test-over, test-on, test-longer}
 use borrow.Author.Needs.{needs}
 use Rattle.shades_completable_inner.proofs.decide.Statement.{statement}
 use Rattle.shades_completable_inner.proofs.decide.Tie as tie
@@ -32,80 +32,80 @@ add-e c = omega (arith, c .before .before .before .before .pre .completing .shad
 loop-holds : tie.Need-loop-holds Inv-loop μ-loop
 loop-holds c = test-start _ _ _ _ (c .before .before .before .before .pre) (search needs) (c .before .numbers .ensures)
 
-slice-aggregate-last-some : tie.Need-slice-aggregate-last-some Inv-loop μ-loop
-slice-aggregate-last-some c = sym (c .before .loop .inv .size)
-
-last-some-requires : tie.Need-last-some-requires Inv-loop μ-loop
-last-some-requires c κs = (test-order (c .before .loop .inv), omega (arith, c .before .loop .inv .size, c .before .loop .inv .top))
-
 returns : tie.Need-returns Inv-loop μ-loop
-returns c = let t = test-skipped (c .before .before .before .loop .inv) _ (c .before .last-some .ensures) in test-stuck t (c .if1 .taken)
+returns c = let t = c .before .loop .inv in test-stuck t (c .if1 .taken)
 
 sub-g : tie.Need-sub-g Inv-loop μ-loop
-sub-g c = let t = test-skipped (c .before .before .before .loop .inv) _ (c .before .last-some .ensures) in let k = test-bounds t (c .if1 .left) in omega arith
+sub-g c = let t = c .before .loop .inv in let k = test-bounds t (c .if1 .left) in omega arith
 
 array-read-x : tie.Need-array-read-x Inv-loop μ-loop
-array-read-x c = let t = test-skipped (c .before .before .before .loop .inv) _ (c .before .last-some .ensures) in let k = test-bounds t (c .if1 .left) in omega arith
+array-read-x c = let t = c .before .loop .inv in let k = test-bounds t (c .if1 .left) in omega arith
 
 cast-x : tie.Need-cast-x Inv-loop μ-loop
-cast-x c = let t = test-skipped (c .before .before .before .loop .inv) _ (c .before .last-some .ensures) in let k = test-bounds t (c .if1 .left) in omega arith
-
-sub-f : tie.Need-sub-f Inv-loop μ-loop
-sub-f c = let t = test-skipped (c .before .before .before .before .loop .inv) _ (c .before .before .last-some .ensures) in let k = test-bounds t (c .before .if1 .left) in omega arith
-
-cast-num : tie.Need-cast-num Inv-loop μ-loop
-cast-num c = let t = test-skipped (c .before .before .before .before .loop .inv) _ (c .before .before .last-some .ensures) in let k = test-bounds t (c .before .if1 .left) in omega arith
-
-array-write-num : tie.Need-array-write-num Inv-loop μ-loop
-array-write-num c = let t = test-skipped (c .before .before .before .before .loop .inv) _ (c .before .before .last-some .ensures) in let k = test-bounds t (c .before .if1 .left) in omega arith
-
-cast-pre : tie.Need-cast-pre Inv-loop μ-loop
-cast-pre c = let t = test-skipped (c .before .before .before .before .loop .inv) _ (c .before .before .last-some .ensures) in let k = test-bounds t (c .before .if1 .left) in omega arith
-
-array-write-pre : tie.Need-array-write-pre Inv-loop μ-loop
-array-write-pre c = let t = test-skipped (c .before .before .before .before .loop .inv) _ (c .before .before .last-some .ensures) in let k = test-bounds t (c .before .if1 .left) in omega arith
-
-cast-next : tie.Need-cast-next Inv-loop μ-loop
-cast-next c = let t = test-skipped (c .before .before .before .before .loop .inv) _ (c .before .before .last-some .ensures) in let k = test-bounds t (c .before .if1 .left) in omega arith
-
-array-write-next : tie.Need-array-write-next Inv-loop μ-loop
-array-write-next c = let t = test-skipped (c .before .before .before .before .loop .inv) _ (c .before .before .last-some .ensures) in let k = test-bounds t (c .before .if1 .left) in omega arith
-
-sub-q : tie.Need-sub-q Inv-loop μ-loop
-sub-q c = omega (arith, c .if2 .taken)
+cast-x c = let t = c .before .loop .inv in let k = test-bounds t (c .if1 .left) in omega arith
 
 loop-less : tie.Need-loop-less Inv-loop μ-loop
-loop-less c = let t = test-skipped (c .before .before .before .before .loop .inv) _ (c .before .before .last-some .ensures) in let k = test-bounds t (c .before .if1 .left) in omega (arith, c .before .before .last-some .ensures .upto)
+loop-less c = let t = c .before .before .loop .inv in let k = test-bounds t (c .before .if1 .left) in omega arith
 
 loop-again : tie.Need-loop-again Inv-loop μ-loop
-loop-again c = let t = test-skipped (c .before .before .before .before .loop .inv) _ (c .before .before .last-some .ensures) in let k = test-bounds t (c .before .if1 .left) in test-pushed t (c .before .if1 .left) (c .before .before .last-some .ensures .some (k .order)) (c .if2 .taken)
+loop-again c = let t = c .before .before .loop .inv in test-dropped t (c .before .if1 .left) (c .if2 .taken)
 
-cast-num-2 : tie.Need-cast-num-2 Inv-loop μ-loop
-cast-num-2 c = let t = test-skipped (c .before .before .before .before .loop .inv) _ (c .before .before .last-some .ensures) in let k = test-bounds t (c .before .if1 .left) in omega arith
+sub-f : tie.Need-sub-f Inv-loop μ-loop
+sub-f c = let t = c .before .before .before .loop .inv in let k = test-bounds t (c .before .before .if1 .left) in omega arith
 
-array-write-num-2 : tie.Need-array-write-num-2 Inv-loop μ-loop
-array-write-num-2 c = let t = test-skipped (c .before .before .before .before .loop .inv) _ (c .before .before .last-some .ensures) in let k = test-bounds t (c .before .if1 .left) in omega arith
+cast-num : tie.Need-cast-num Inv-loop μ-loop
+cast-num c = let t = c .before .before .before .loop .inv in let k = test-bounds t (c .before .before .if1 .left) in omega arith
 
-slice-aggregate-against : tie.Need-slice-aggregate-against Inv-loop μ-loop
-slice-aggregate-against c = sym (c .before .before .before .before .before .loop .inv .slots)
+array-write-num : tie.Need-array-write-num Inv-loop μ-loop
+array-write-num c = let t = c .before .before .before .loop .inv in let k = test-bounds t (c .before .before .if1 .left) in omega arith
 
-slice-aggregate-against-2 : tie.Need-slice-aggregate-against-2 Inv-loop μ-loop
-slice-aggregate-against-2 c = sym (c .before .before .before .before .before .before .loop .inv .links)
+cast-pre : tie.Need-cast-pre Inv-loop μ-loop
+cast-pre c = let t = c .before .before .before .loop .inv in let k = test-bounds t (c .before .before .if1 .left) in omega arith
 
-against-requires : tie.Need-against-requires Inv-loop μ-loop
-against-requires c κs = let t = test-skipped (c .before .before .before .before .before .before .loop .inv) _ (c .before .before .before .before .last-some .ensures) in test-chained t (c .before .before .before .if1 .left) (omega (arith, c .before .before .if2 .left))
+array-write-pre : tie.Need-array-write-pre Inv-loop μ-loop
+array-write-pre c = let t = c .before .before .before .loop .inv in let k = test-bounds t (c .before .before .if1 .left) in omega arith
 
-returns-2 : tie.Need-returns-2 Inv-loop μ-loop
-returns-2 c = let t = test-skipped (c .before .before .before .before .before .before .before .before .loop .inv) _ (c .before .before .before .before .before .before .last-some .ensures) in test-under t (c .before .before .before .before .before .if1 .left) (omega (arith, c .before .before .before .before .if2 .left)) _ (c .before .against .ensures) (c .if3 .taken)
+cast-next : tie.Need-cast-next Inv-loop μ-loop
+cast-next c = let t = c .before .before .before .loop .inv in let k = test-bounds t (c .before .before .if1 .left) in omega arith
 
-returns-3 : tie.Need-returns-3 Inv-loop μ-loop
-returns-3 c = let t = test-skipped (c .before .before .before .before .before .before .before .before .before .loop .inv) _ (c .before .before .before .before .before .before .before .last-some .ensures) in test-over t (c .before .before .before .before .before .before .if1 .left) (omega (arith, c .before .before .before .before .before .if2 .left)) _ (c .before .before .against .ensures) (c .if4 .taken)
+array-write-next : tie.Need-array-write-next Inv-loop μ-loop
+array-write-next c = let t = c .before .before .before .loop .inv in let k = test-bounds t (c .before .before .if1 .left) in omega arith
+
+sub-q : tie.Need-sub-q Inv-loop μ-loop
+sub-q c = omega (arith, c .if3 .taken)
 
 loop-less-2 : tie.Need-loop-less-2 Inv-loop μ-loop
-loop-less-2 c = let t = test-skipped (c .before .before .before .before .before .before .before .before .before .loop .inv) _ (c .before .before .before .before .before .before .before .last-some .ensures) in omega (arith, test-longer t (c .before .before .before .before .before .before .if1 .left) (omega (arith, c .before .before .before .before .before .if2 .left)) _ (c .before .before .against .ensures) (c .before .if3 .left) (omega (arith, c .if4 .left)), c .before .before .before .before .before .before .before .last-some .ensures .upto, c .if4 .left)
+loop-less-2 c = let t = c .before .before .before .loop .inv in let k = test-bounds t (c .before .before .if1 .left) in omega arith
 
 loop-again-2 : tie.Need-loop-again-2 Inv-loop μ-loop
-loop-again-2 c = let t = test-skipped (c .before .before .before .before .before .before .before .before .before .loop .inv) _ (c .before .before .before .before .before .before .before .last-some .ensures) in test-on t (c .before .before .before .before .before .before .if1 .left) (omega (arith, c .before .before .before .before .before .if2 .left)) _ (c .before .before .against .ensures) (c .before .if3 .left) (omega (arith, c .if4 .left))
+loop-again-2 c = let t = c .before .before .before .loop .inv in test-pushed t (c .before .before .if1 .left) (c .before .if2 .left) (c .if3 .taken)
+
+cast-num-2 : tie.Need-cast-num-2 Inv-loop μ-loop
+cast-num-2 c = let t = c .before .before .before .loop .inv in let k = test-bounds t (c .before .before .if1 .left) in omega arith
+
+array-write-num-2 : tie.Need-array-write-num-2 Inv-loop μ-loop
+array-write-num-2 c = let t = c .before .before .before .loop .inv in let k = test-bounds t (c .before .before .if1 .left) in omega arith
+
+slice-aggregate-against : tie.Need-slice-aggregate-against Inv-loop μ-loop
+slice-aggregate-against c = sym (c .before .before .before .before .loop .inv .slots)
+
+slice-aggregate-against-2 : tie.Need-slice-aggregate-against-2 Inv-loop μ-loop
+slice-aggregate-against-2 c = sym (c .before .before .before .before .before .loop .inv .links)
+
+against-requires : tie.Need-against-requires Inv-loop μ-loop
+against-requires c κs = let t = c .before .before .before .before .before .loop .inv in test-chained t (c .before .before .before .before .if1 .left) (omega (arith, c .before .before .if3 .left))
+
+returns-2 : tie.Need-returns-2 Inv-loop μ-loop
+returns-2 c = let t = c .before .before .before .before .before .before .before .loop .inv in test-under t (c .before .before .before .before .before .before .if1 .left) (omega (arith, c .before .before .before .before .if3 .left)) _ (c .before .against .ensures) (c .if4 .taken)
+
+returns-3 : tie.Need-returns-3 Inv-loop μ-loop
+returns-3 c = let t = c .before .before .before .before .before .before .before .before .loop .inv in test-over t (c .before .before .before .before .before .before .before .if1 .left) (omega (arith, c .before .before .before .before .before .if3 .left)) _ (c .before .before .against .ensures) (c .if5 .taken)
+
+loop-less-3 : tie.Need-loop-less-3 Inv-loop μ-loop
+loop-less-3 c = let t = c .before .before .before .before .before .before .before .before .loop .inv in omega (arith, test-longer t (c .before .before .before .before .before .before .before .if1 .left) (omega (arith, c .before .before .before .before .before .if3 .left)) _ (c .before .before .against .ensures) (c .before .if4 .left) (omega (arith, c .if5 .left)), c .if5 .left)
+
+loop-again-3 : tie.Need-loop-again-3 Inv-loop μ-loop
+loop-again-3 c = let t = c .before .before .before .before .before .before .before .before .loop .inv in test-on t (c .before .before .before .before .before .before .before .if1 .left) (omega (arith, c .before .before .before .before .before .if3 .left)) _ (c .before .before .against .ensures) (c .before .if4 .left) (omega (arith, c .if5 .left))
 
 pub decide-spec : {M : Type 1} → statement M
-decide-spec = tie.close (tie.spec Inv-loop μ-loop numbers-requires add-first mul-q shared-slice-read-q add-e loop-holds slice-aggregate-last-some last-some-requires returns sub-g array-read-x cast-x sub-f cast-num array-write-num cast-pre array-write-pre cast-next array-write-next sub-q loop-less loop-again cast-num-2 array-write-num-2 slice-aggregate-against slice-aggregate-against-2 against-requires returns-2 returns-3 loop-less-2 loop-again-2)
+decide-spec = tie.close (tie.spec Inv-loop μ-loop numbers-requires add-first mul-q shared-slice-read-q add-e loop-holds returns sub-g array-read-x cast-x loop-less loop-again sub-f cast-num array-write-num cast-pre array-write-pre cast-next array-write-next sub-q loop-less-2 loop-again-2 cast-num-2 array-write-num-2 slice-aggregate-against slice-aggregate-against-2 against-requires returns-2 returns-3 loop-less-3 loop-again-3)

@@ -76,47 +76,56 @@ sub-rem c = search needs
 array-write-rem : tie.Need-array-write-rem Inv-loop μ-loop
 array-write-rem c = omega (arith, reach-shade (c .before .before .loop .inv), c .before .before .loop .inv .left .size)
 
-array-share-prefix-w-3 : tie.Need-array-share-prefix-w-3 Inv-loop μ-loop
-array-share-prefix-w-3 c = omega (arith, c .before .before .loop .inv .short, c .before .before .loop .inv .size, c .before .before .before .before .before .before .before .before .before .before .pre .0 .ready .size)
-
-slice-aggregate-completable : tie.Need-slice-aggregate-completable Inv-loop μ-loop
-slice-aggregate-completable c = sym (length-take-le _ _ (omega (arith, c .before .before .before .loop .inv .short, c .before .before .before .loop .inv .size, c .before .before .before .before .before .before .before .before .before .before .before .pre .0 .ready .size)))
-
-array-share-prefix-rem : tie.Need-array-share-prefix-rem Inv-loop μ-loop
-array-share-prefix-rem c = simp length-set (omega (arith, c .before .before .before .loop .inv .left .size, c .before .before .before .before .before .before .before .before .before .before .before .pre .0 .ready .shades))
-
-slice-aggregate-completable-2 : tie.Need-slice-aggregate-completable-2 Inv-loop μ-loop
-slice-aggregate-completable-2 c = sym (length-take-le _ _ (simp length-set (omega (arith, c .before .before .before .before .loop .inv .left .size, c .before .before .before .before .before .before .before .before .before .before .before .before .pre .0 .ready .shades))))
-
-completable-requires : tie.Need-completable-requires Inv-loop μ-loop
-completable-requires c κs = reach-asks (c .before .before .before .before .loop .inv) (c .before .before .if3 .left)
-
-mul-rem-2 : tie.Need-mul-rem-2 Inv-loop μ-loop
-mul-rem-2 c = omega (arith, reach-shade (c .before .before .before .before .before .before .loop .inv))
-
-array-read-rem-2 : tie.Need-array-read-rem-2 Inv-loop μ-loop
-array-read-rem-2 c = omega (arith, reach-shade (c .before .before .before .before .before .before .loop .inv))
-
-add-rem : tie.Need-add-rem Inv-loop μ-loop
-add-rem c = omega (arith, reach-count (c .before .before .before .before .before .before .loop .inv) (c .before .before .before .before .if3 .left) (getD (c .before .before .before .before .before .before .before .before .before .before .before .before .before .before .args .t1) (c .before .before .before .before .before .before .loop .i) 0))
-
-array-write-rem-2 : tie.Need-array-write-rem-2 Inv-loop μ-loop
-array-write-rem-2 c = omega (arith, reach-shade (c .before .before .before .before .before .before .loop .inv))
-
-returns-4 : tie.Need-returns-4 Inv-loop μ-loop
-returns-4 c = reach-stop (c .before .before .before .before .before .before .loop .inv) (c .before .before .before .before .if3 .left) (rw (not-true (c .before .completable .result) (c .if4 .taken)) at (c .before .completable .ensures))
-
 add-i : tie.Need-add-i Inv-loop μ-loop
-add-i c = omega (arith, c .before .before .before .before .before .before .loop .inv .inside, c .before .before .before .before .before .before .before .before .before .before .before .before .before .before .pre .0 .ready .size)
+add-i c = omega (arith, c .before .before .before .loop .inv .inside, c .before .before .before .before .before .before .before .before .before .before .before .pre .0 .ready .size)
 
 loop-less : tie.Need-loop-less Inv-loop μ-loop
-loop-less c = omega (arith, c .before .before .before .before .before .before .loop .inv .inside)
+loop-less c = omega (arith, c .before .before .before .loop .inv .inside)
 
 loop-again : tie.Need-loop-again Inv-loop μ-loop
-loop-again c = reach-more (c .before .before .before .before .before .before .loop .inv) (c .before .before .before .before .if3 .left) (c .before .before .before .before .before .loop-test .taken)
+loop-again c = reach-more (c .before .before .before .loop .inv) (c .before .if3 .left) (c .before .before .loop-test .taken)
+
+array-share-prefix-w-3 : tie.Need-array-share-prefix-w-3 Inv-loop μ-loop
+array-share-prefix-w-3 c = omega (arith, c .before .before .before .loop .inv .short, c .before .before .before .loop .inv .size, c .before .before .before .before .before .before .before .before .before .before .before .pre .0 .ready .size)
+
+slice-aggregate-completable : tie.Need-slice-aggregate-completable Inv-loop μ-loop
+slice-aggregate-completable c = sym (length-take-le _ _ (omega (arith, c .before .before .before .before .loop .inv .short, c .before .before .before .before .loop .inv .size, c .before .before .before .before .before .before .before .before .before .before .before .before .pre .0 .ready .size)))
+
+array-share-prefix-rem : tie.Need-array-share-prefix-rem Inv-loop μ-loop
+array-share-prefix-rem c = simp length-set (omega (arith, c .before .before .before .before .loop .inv .left .size, c .before .before .before .before .before .before .before .before .before .before .before .before .pre .0 .ready .shades))
+
+slice-aggregate-completable-2 : tie.Need-slice-aggregate-completable-2 Inv-loop μ-loop
+slice-aggregate-completable-2 c = sym (length-take-le _ _ (simp length-set (omega (arith, c .before .before .before .before .before .loop .inv .left .size, c .before .before .before .before .before .before .before .before .before .before .before .before .before .pre .0 .ready .shades))))
+
+completable-requires : tie.Need-completable-requires Inv-loop μ-loop
+completable-requires c κs = reach-asks (c .before .before .before .before .before .loop .inv) (c .before .before .before .if3 .left)
+
+mul-rem-2 : tie.Need-mul-rem-2 Inv-loop μ-loop
+mul-rem-2 c = omega (arith, reach-shade (c .before .before .before .before .before .before .before .loop .inv))
+
+array-read-rem-2 : tie.Need-array-read-rem-2 Inv-loop μ-loop
+array-read-rem-2 c = omega (arith, reach-shade (c .before .before .before .before .before .before .before .loop .inv))
+
+add-rem : tie.Need-add-rem Inv-loop μ-loop
+add-rem c = omega (arith, reach-count (c .before .before .before .before .before .before .before .loop .inv) (c .before .before .before .before .before .if3 .left) (getD (c .before .before .before .before .before .before .before .before .before .before .before .before .before .before .before .args .t1) (c .before .before .before .before .before .before .before .loop .i) 0))
+
+array-write-rem-2 : tie.Need-array-write-rem-2 Inv-loop μ-loop
+array-write-rem-2 c = omega (arith, reach-shade (c .before .before .before .before .before .before .before .loop .inv))
+
+returns-4 : tie.Need-returns-4 Inv-loop μ-loop
+returns-4 c = reach-stop (c .before .before .before .before .before .before .before .loop .inv) (c .before .before .before .before .before .if3 .left) (rw (not-true (c .before .completable .result) (c .if5 .taken)) at (c .before .completable .ensures))
+
+add-i-2 : tie.Need-add-i-2 Inv-loop μ-loop
+add-i-2 c = omega (arith, c .before .before .before .before .before .before .before .loop .inv .inside, c .before .before .before .before .before .before .before .before .before .before .before .before .before .before .before .pre .0 .ready .size)
+
+loop-less-2 : tie.Need-loop-less-2 Inv-loop μ-loop
+loop-less-2 c = omega (arith, c .before .before .before .before .before .before .before .loop .inv .inside)
+
+loop-again-2 : tie.Need-loop-again-2 Inv-loop μ-loop
+loop-again-2 c = reach-more (c .before .before .before .before .before .before .before .loop .inv) (c .before .before .before .before .before .if3 .left) (c .before .before .before .before .before .before .loop-test .taken)
 
 returns-5 : tie.Need-returns-5 Inv-loop μ-loop
 returns-5 c = reach-end (c .before .loop .inv) (λ h. omega (arith, c .loop-test .left))
 
 pub reach-spec : {M : Type 1} → statement M
-reach-spec = tie.close (tie.spec Inv-loop μ-loop sub-w array-share-prefix-w slice-aggregate-fitting fitting-requires returns array-share-prefix-w-2 slice-aggregate-fitting-2 fitting-requires-2 returns-2 loop-holds add-loop array-read-x cast-x mul-if3 array-read-if3 returns-3 mul-rem array-read-rem sub-rem array-write-rem array-share-prefix-w-3 slice-aggregate-completable array-share-prefix-rem slice-aggregate-completable-2 completable-requires mul-rem-2 array-read-rem-2 add-rem array-write-rem-2 returns-4 add-i loop-less loop-again returns-5)
+reach-spec = tie.close (tie.spec Inv-loop μ-loop sub-w array-share-prefix-w slice-aggregate-fitting fitting-requires returns array-share-prefix-w-2 slice-aggregate-fitting-2 fitting-requires-2 returns-2 loop-holds add-loop array-read-x cast-x mul-if3 array-read-if3 returns-3 mul-rem array-read-rem sub-rem array-write-rem add-i loop-less loop-again array-share-prefix-w-3 slice-aggregate-completable array-share-prefix-rem slice-aggregate-completable-2 completable-requires mul-rem-2 array-read-rem-2 add-rem array-write-rem-2 returns-4 add-i-2 loop-less-2 loop-again-2 returns-5)
