@@ -132,11 +132,11 @@ less-sum rem b = sum-le (lessOne rem b) rem (λ x. elim (tri x b) [ lt e ↦ oth
         ]
 
 -- what the pool asks
-pub completing : (w : List ℕ) (l b k : ℕ) (rem : List ℕ) → length w ≡ 64 → length rem ≡ 16 → Possible w l b k rem → Completing (take (l + 1) (set w l b)) (take k (lessOne rem b))
-completing w l b k rem size few p = record {
-  lyndon-al = rw (add-one l, take-suc-set w l b (omega (arith, p .inside))) (p .lyndon-al);
-  small = omega (arith, length-take-le (l + 1) (set w l b) (omega (arith, length-set w l b, p .inside)), p .inside);
-  shades = omega (arith, length-take-le k (lessOne rem b) (omega (arith, length-set rem b (getD rem b 0 - 1), p .shades)), p .shades);
+pub completing : (w : List ℕ) (l b k : ℕ) (rem : List ℕ) → Possible w l b k rem → Completing (take (l + 1) (set w l b)) (take k (lessOne rem b))
+completing w l b k rem p = record {
+  lyndon-al = rw (add-one l, take-suc-set w l b (omega (arith, p .inside, p .size))) (p .lyndon-al);
+  small = omega (arith, length-take-le (l + 1) (set w l b) (omega (arith, length-set w l b, p .inside, p .size)), p .inside);
+  shades = omega (arith, length-take-le k (lessOne rem b) (omega (arith, length-set rem b (getD rem b 0 - 1), p .shades, p .slots)), p .shades);
   room = omega (arith, sum-le (take k (lessOne rem b)) (lessOne rem b) part, less-sum rem b, p .room);
 }
   where
@@ -144,7 +144,7 @@ completing w l b k rem size few p = record {
     part x = elim (tri x k) [ lt h ↦ omega (arith, getD-take k (lessOne rem b) x 0 h) | eq h ↦ none (omega arith) | gt h ↦ none (omega arith) ]
       where
         none : k ≤ x → getD (take k (lessOne rem b)) x 0 ≤ getD (lessOne rem b) x 0
-        none h = omega (arith, List·getD-eq-default (take k (lessOne rem b)) 0 {n = x} (omega (arith, length-take-le k (lessOne rem b) (omega (arith, length-set rem b (getD rem b 0 - 1), p .shades)))))
+        none h = omega (arith, List·getD-eq-default (take k (lessOne rem b)) 0 {n = x} (omega (arith, length-take-le k (lessOne rem b) (omega (arith, length-set rem b (getD rem b 0 - 1), p .shades, p .slots)))))
 
 -- raising a sector of a prenecklace and cutting behind it gives a Lyndon word
 pub raised-lyndon : (w : List ℕ) (l b : ℕ) → l < length w → prenecklace (take (suc l) w) ≡ true → sec w l < b → lyndon (take l w ++ b ∷ []) ≡ true
@@ -187,7 +187,7 @@ left-end rem b k x p h = record { from = p .from; most = p .most; none = p .none
 
 -- ---- the shades above that at place l
 
-module _ (w : List ℕ) (l k : ℕ) (rem : List ℕ) (r : ℕ) (size : length w ≡ 64) (p : Liftable w l k rem) (left : LeftFrom rem (sec w l + 1) k r) where
+module _ (w : List ℕ) (l k : ℕ) (rem : List ℕ) (r : ℕ) (p : Liftable w l k rem) (left : LeftFrom rem (sec w l + 1) k r) where
   -- each below the least that is left is barred
   below-barred : (b : ℕ) → sec w l < b → b < r → Barred (take l w) b rem
   below-barred b h m = barred-none (take l w) b rem (left .none b (omega arith) m)
@@ -200,12 +200,14 @@ module _ (w : List ℕ) (l k : ℕ) (rem : List ℕ) (r : ℕ) (size : length w 
     -- what is asked of the least that is left
     pub lift-asks : Possible w l r k rem
     lift-asks = record {
+      size = p .size;
+      slots = p .slots;
       inside = p .inside;
       shades = p .shades;
       shade = omega (arith, left .most);
       past = p .past;
       room = p .room;
-      lyndon-al = raised-lyndon w l r (omega (arith, p .inside)) (p .pre) (omega (arith, left .from));
+      lyndon-al = raised-lyndon w l r (omega (arith, p .inside, p .size)) (p .pre) (omega (arith, left .from));
     }
 
     -- some word goes on with it
@@ -217,4 +219,4 @@ module _ (w : List ℕ) (l k : ℕ) (rem : List ℕ) (r : ℕ) (size : length w 
     lift-not x = record { lifted = record { above = p .low; most = omega arith; barred = λ b h m. elim (tri b r) [ lt e ↦ below-barred b h e | eq e ↦ subst (λ y. Barred (take l w) y rem) (sym e) x | gt e ↦ barred-above (take l w) r b rem e (raised r (omega (arith, left .from))) (raised b h) (left .some (omega (arith, left .most))) x ] }; fitting = λ h. absurd (omega arith) }
       where
         raised : (b : ℕ) → sec w l < b → lyndon (take l w ++ b ∷ []) ≡ true
-        raised b h = raised-lyndon w l b (omega (arith, p .inside)) (p .pre) h
+        raised b h = raised-lyndon w l b (omega (arith, p .inside, p .size)) (p .pre) h

@@ -206,6 +206,8 @@ module _ (w : List ℕ) (n k : ℕ) (cs : List ℕ) (size : length w ≡ 64) (p 
     -- what is asked of the shades at the place
     pub find-asks : Liftable w i k rem
     find-asks = record {
+      size = size;
+      slots = at .remains .size;
       inside = omega (arith, at .inside, p .ready .size);
       shades = p .ready .shades;
       past = λ x h. at .remains .past x (omega (arith, p .ready .many));

@@ -57,6 +57,8 @@ pub record Allows (u : List ℕ) (b : ℕ) (rem : List ℕ) (r : Bool) : Type 0 
 
 -- the first l sectors of w with the shade b behind them are a Lyndon word
 pub record Possible (w : List ℕ) (l b k : ℕ) (rem : List ℕ) : Type 0 where
+  pub size : length w ≡ 64
+  pub slots : length rem ≡ 16
   pub inside : l < 64
   pub shades : k ≤ 16
   pub shade : b < k
@@ -73,6 +75,8 @@ pub record LeftFrom (rem : List ℕ) (b k r : ℕ) : Type 0 where
 
 -- place l of w ends a prenecklace
 pub record Liftable (w : List ℕ) (l k : ℕ) (rem : List ℕ) : Type 0 where
+  pub size : length w ≡ 64
+  pub slots : length rem ≡ 16
   pub inside : l < 64
   pub shades : k ≤ 16
   pub past : (x : ℕ) → k ≤ x → getD rem x 0 ≡ 0

@@ -6,24 +6,24 @@ ghost use Rattle.shades_raise_inner.specs.Places.{Possible, Allows, Left
 ghost use Rattle.shades_raise_inner.specs.Ready.{Opening};
 
 // Whether letters can complete the first l sectors with the shade b behind them to a necklace, where rem counts what is left beside those l.
-fn possible(w: [u8; 64], l: usize, b: usize, k: usize, rem: [usize; 16]) -> bool
-    requires { ⌜ Possible w l b k rem ⌝ }
-    ensures { λ r. ⌜ Allows (take l w) b rem r ⌝ }
+fn possible(w: &[u8; 64], l: usize, b: usize, k: usize, rem: &[usize; 16]) -> bool
+    requires { ⌜ Possible (now w) l b k (now rem) ⌝ }
+    ensures { λ r. ⌜ Allows (take l (now (w .entry))) b (now (rem .entry)) r ⌝ }
 {
     if rem[b] == 0 {
         return false;
     }
-    let mut al = w;
+    let mut al = *w;
     al[l] = b as u8;
-    let mut left = rem;
+    let mut left = *rem;
     left[b] -= 1;
     shades_completable_inner::completable(&al[..l + 1], &left[..k])
 }
 
 // The least shade from b on of which some is left, or k.
-fn left_from(rem: [usize; 16], b: usize, k: usize) -> usize
+fn left_from(rem: &[usize; 16], b: usize, k: usize) -> usize
     requires { ⌜ (b ≤ k) × (k ≤ 16) ⌝ }
-    ensures { λ r. ⌜ LeftFrom rem b k r ⌝ }
+    ensures { λ r. ⌜ LeftFrom (now (rem .entry)) b k r ⌝ }
 {
     let mut x = b;
     while x < k {
@@ -36,9 +36,9 @@ fn left_from(rem: [usize; 16], b: usize, k: usize) -> usize
 }
 
 // The least shade above that at place l to which letters leave a completion, or k: where the least that is left is barred, each is.
-fn lift(w: [u8; 64], l: usize, k: usize, rem: [usize; 16]) -> usize
-    requires { ⌜ Liftable w l k rem ⌝ }
-    ensures { λ r. ⌜ LiftedTo w l k rem r ⌝ }
+fn lift(w: &[u8; 64], l: usize, k: usize, rem: &[usize; 16]) -> usize
+    requires { ⌜ Liftable (now w) l k (now rem) ⌝ }
+    ensures { λ r. ⌜ LiftedTo (now (w .entry)) l k (now (rem .entry)) r ⌝ }
 {
     let b = left_from(rem, (w[l] as usize) + 1, k);
     if b == k {
@@ -99,7 +99,7 @@ pub fn find(w: [u8; 64], n: usize, k: usize, p: usize, counts: &[usize]) -> Plac
     let mut i = fit.end;
     let mut rem = fit.rem;
     loop {
-        let b = lift(w, i, k, rem);
+        let b = lift(&w, i, k, &rem);
         if b < k {
             return Place {
                 end: i + 1,

@@ -1,16 +1,16 @@
 -- `shades_raise_inner::left_from` meets its contract. The loop: no shade from b up to x is left.
 use Prim.Native.Nat.{_-_}
 use native.Mathlib.Omega.{arith}
-use borrow.Author.Needs.{needs}
 use Rattle.shades_raise_inner.proofs.Barring.{Leftless, left-start, left-more, left-end}
+use borrow.Author.Needs.{needs}
 use Rattle.shades_raise_inner.proofs.left_from.Statement.{statement}
 use Rattle.shades_raise_inner.proofs.left_from.Tie as tie
 
 abbrev Inv-loop : tie.InvT-loop
-Inv-loop b k rem x₀ x = Leftless rem b k x
+Inv-loop rem b k x₀ x = Leftless rem b k x
 
 abbrev μ-loop : tie.MeasureT-loop
-μ-loop b k rem x₀ x = k - x
+μ-loop rem b k x₀ x = k - x
 
 loop-holds : tie.Need-loop-holds Inv-loop μ-loop
 loop-holds c = left-start _ _ _ (c .pre .0)
@@ -18,11 +18,11 @@ loop-holds c = left-start _ _ _ (c .pre .0)
 mul-if1 : tie.Need-mul-if1 Inv-loop μ-loop
 mul-if1 c = search needs
 
-array-read-if1 : tie.Need-array-read-if1 Inv-loop μ-loop
-array-read-if1 c = search needs
+element-copy-out-if1 : tie.Need-element-copy-out-if1 Inv-loop μ-loop
+element-copy-out-if1 c = omega (arith, c .loop-test .taken, c .before .before .pre .1)
 
 returns : tie.Need-returns Inv-loop μ-loop
-returns c = left-end _ _ _ _ (c .before .before .loop .inv) (λ h e. c .if1 .taken e)
+returns c = left-end _ _ _ _ (c .before .before .before .loop .inv) (λ h e. c .if1 .taken e)
 
 add-x : tie.Need-add-x Inv-loop μ-loop
 add-x c = search needs
@@ -31,22 +31,10 @@ loop-less : tie.Need-loop-less Inv-loop μ-loop
 loop-less c = search needs
 
 loop-again : tie.Need-loop-again Inv-loop μ-loop
-loop-again c = left-more _ _ _ _ (c .before .before .loop .inv) (c .before .loop-test .taken) (c .if1 .left)
+loop-again c = left-more _ _ _ _ (c .before .before .before .loop .inv) (c .before .before .loop-test .taken) (c .if1 .left)
 
 returns-2 : tie.Need-returns-2 Inv-loop μ-loop
 returns-2 c = left-end _ _ _ _ (c .before .loop .inv) (λ h. absurd (omega (arith, c .loop-test .left)))
 
 pub left-from-spec : {M : Type 1} → statement M
-left-from-spec =
-    tie.close
-    (tie.spec
-    Inv-loop
-    μ-loop
-    loop-holds
-    mul-if1
-    array-read-if1
-    returns
-    add-x
-    loop-less
-    loop-again
-    returns-2)
+left-from-spec = tie.close (tie.spec Inv-loop μ-loop loop-holds mul-if1 element-copy-out-if1 returns add-x loop-less loop-again returns-2)
