@@ -7,7 +7,8 @@ use lib.Seq.{length-take-le}
 use Rattle.words.specs.Order.{before}
 use Rattle.words.specs.Readings.{readings, count}
 use Rattle.walk_spec.specs.Record.{ringOf}
-use Rattle.set_choose_inner.proofs.Along.{Along, zeros-part, taken-few, started, along-start, came, stops, along-ended, along-full, came-size, along-size, along-room, came-fit, came-reads, came-counts, came-stock, along-less, along-on}
+use Rattle.set_choose_inner.proofs.Along.{Along, zeros-part, taken-few, started, along-start, along-ended, along-full, along-size, along-room, along-less, along-on}
+use Rattle.set_choose_inner.proofs.Along.{came, stops, came-size, came-fit, came-reads, came-counts, came-stock}
 use borrow.Author.Needs.{needs}
 use Rattle.set_choose_inner.proofs.choose.Statement.{statement}
 use Rattle.set_choose_inner.proofs.choose.Tie as tie
