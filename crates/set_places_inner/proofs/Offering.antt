@@ -12,9 +12,9 @@ use lib.Seq.{ext-getD, getD-take, getD-drop, length-take-le, drop-drop}
 use Rattle.words.specs.Search.{allBelow}
 use Rattle.words.specs.Readings.{Reading}
 use Rattle.words.proofs.Split.{lt, eq, gt, tri}
-use Rattle.words.proofs.Search.{length-tab}
 use Rattle.word_copy_laws.proofs.Copy.{copied}
-use Rattle.rings.specs.Counts.{occurs, countsOf}
+use Rattle.rings.specs.Counts.{countsOf}
+use Rattle.set_far_inner.proofs.Far.{counts-sixteen}
 use Rattle.set_spec.specs.Greedy.{farFrom, clear}
 use Rattle.set_spec.specs.Places.{laid, placeAt}
 use Rattle.set_laws.proofs.Lists.{length-more, at-old, at-new}
@@ -64,11 +64,6 @@ module _ (q c : List ℕ) (t : ℕ) (size : length q ≡ 512) (most : t < 32) (m
       ext-getD 0 (tallyAt (over q (16 * t) c) t) c (l ∙ sym many)
       (λ i b. tally-at (over q (16 * t) c) t i (omega (arith, l)) ∙ over-inside q (16 * t) c room (16 * t + i) i refl (omega (arith, l)))
 
--- there are 16 shades
-pub counts-many : (w c : List ℕ) → c ≡ countsOf 16 w → length c ≡ 16
-unfolding countsOf
-counts-many w c e = rw e (length-tab 16 (λ j. occurs j w))
-
 -- ---- the offer
 
 -- what offering the ring w to places that hold t promises
@@ -88,10 +83,10 @@ module _ (k d : ℕ) (p q w : List ℕ) (t : ℕ) (s : length w ≤ 24) (most : 
           | eq l ↦ rw (l, at-new ts w) r
           | gt l ↦ absurd (omega (arith, length-more ts w))
         ];
-        room = put-length q c t (h .room) most (counts-many w c m);
+        room = put-length q c t (h .room) most (counts-sixteen w c m);
         tallies = λ j b. elim (tri j (length ts)) [
-          | lt l ↦ rw (at-old ts w j l) (tally-old q c t (h .room) most (counts-many w c m) j (omega (arith, h .number)) ∙ h .tallies j l)
-          | eq l ↦ rw (l, at-new ts w, ← h .number) (tally-new q c t (h .room) most (counts-many w c m) ∙ m)
+          | lt l ↦ rw (at-old ts w j l) (tally-old q c t (h .room) most (counts-sixteen w c m) j (omega (arith, h .number)) ∙ h .tallies j l)
+          | eq l ↦ rw (l, at-new ts w, ← h .number) (tally-new q c t (h .room) most (counts-sixteen w c m) ∙ m)
           | gt l ↦ absurd (omega (arith, length-more ts w))
         ];
       })

@@ -4,8 +4,9 @@ use mathlib.Core.Path.{_∙_, sym, refl}
 use native.Mathlib.Omega.{arith}
 use lib.ListN.{length}
 use borrow.Author.Tests.{not-true, not-false}
+use Rattle.set_far_inner.proofs.Far.{counts-sixteen}
 use Rattle.set_places_inner.proofs.Clear.{stock-length}
-use Rattle.set_places_inner.proofs.Offering.{counts-many, offer-no, offer-yes, copied-over}
+use Rattle.set_places_inner.proofs.Offering.{offer-no, offer-yes, copied-over}
 use borrow.Author.Needs.{needs}
 use Rattle.set_places_inner.proofs.offer.Statement.{statement}
 use Rattle.set_places_inner.proofs.offer.Tie as tie
@@ -79,7 +80,7 @@ copy-requires-2 : tie.Need-copy-requires-2
 copy-requires-2 c κs =
     let a = c .before .before .before .before .before .before .before .before .before .before .before .before .before .args in
     let q = c .before .before .before .before .before .before .before .before .before .before .before .before .before .pre in
-    omega (arith, counts-many (a .ring .now) (a .counts .now) (q .1 .1 .0), c .copy-arg2 .given)
+    omega (arith, counts-sixteen (a .ring .now) (a .counts .now) (q .1 .1 .0), c .copy-arg2 .given)
 
 add-result : tie.Need-add-result
 add-result c = search needs
@@ -96,7 +97,7 @@ returns-2 c =
     let q = c .before .before .before .before .before .before .before .before .before .before .before .before .before .before .before .before .pre in
     let z = stock-length (length (a .ring .now)) (a .k) (a .places .now) (a .tallies .now) (a .taken) (q .1 .1 .1 .0) in
     let s = q .1 .1 .1 .0 .holds .room in
-    let m = counts-many (a .ring .now) (a .counts .now) (q .1 .1 .0) in
+    let m = counts-sixteen (a .ring .now) (a .counts .now) (q .1 .1 .0) in
     offer-yes (a .k) (a .d) (a .places .now) (a .tallies .now) (a .ring .now) (a .taken) (q .0 .short) (q .1 .1 .1 .1) _ _ (a .counts .now) (q .1 .0)
     (sym (c .before .before .before .before .before .before .before .before .before .is-clear .ensures) ∙ not-false _
     (c .before .before .before .before .before .before .before .before .if1 .left)) (q .1 .1 .0) (copied-over (a .places .now) (a .ring .now) _ (24 * a .taken)
