@@ -1,9 +1,10 @@
 -- The test by the pool, turn by turn: the laws of `shades_laws`, Groups, for arrays of 80.
---     least-start, least-more, least-found, least-end        the least letter that is left
+--     least-start, least-more, least-end                     the least letter that is left
 --     Counting, count-start, count-more, count-end           the letters' numbers
 --     test-none, test-low, test-high, test-letter            what the least letter alone decides
 --     Testing al rem first q a f e num pre next              the arrays hold the groups of a pool for al and the letters that rem counts
---     test-start, test-stuck, test-dropped, test-pushed, test-chained, test-under, test-over, test-on      the loop
+--     test-start, test-stuck, test-dropped, test-pushed, test-chained, test-under, test-over, test-on, test-longer      the loop
+--     Bounds, test-bounds                                    what its numbers are bounded by
 use Prim.Native.Nat.{ℕ, zero, suc, _+_, _-_, _<_, _≤_}
 use mathlib.Core.Path.{_≡_, refl, sym, ap, _∙_, subst}
 use mathlib.Core.Bool.{Bool, true, false, true≢false}
@@ -160,6 +161,11 @@ pub record Testing (al rem : List ℕ) (first q a f e : ℕ) (num pre next : Lis
   pub groups : ℕ
   pub ends : f + groups ≡ e
   pub grouped : Grouped al (letters rem) (take a al) q word (sec num) f groups
+
+-- a number that is not 0
+positive : (n : ℕ) → (n ≡ 0 → ⊥) → 0 < n
+positive zero k = absurd (k refl)
+positive (suc n) k = omega arith
 
 -- one of two words
 pick : Bool → List ℕ → List ℕ → List ℕ
@@ -333,10 +339,6 @@ module _ {al rem : List ℕ} {first q a f e : ℕ} {num pre next : List ℕ} (t 
             group-pushed g (omega (arith, f-is, g-at)) (subst (λ x. Grouped al (letters rem) (take a al) q (t .word) (sec num) x (suc c)) (sym f-is) more) (opens al a (t .within)) (positive (getD num g 0) z) h word′ (sec num′) (word-here f′ refl)
             (getD-set-same num f′ (getD num g 0) 0 (omega (arith, t .size, inside))) (λ i k l. word-other i (λ q. omega arith)) (λ i k l. getD-set-other num f′ i (getD num g 0) 0 (λ q. omega arith));
       }
-        where
-          positive : (n : ℕ) → (n ≡ 0 → ⊥) → 0 < n
-          positive zero k = absurd (k refl)
-          positive (suc n) k = omega arith
 
     -- each copy of the least word takes one of its words behind it
     module _ (h : q ≤ getD num g 0) where
@@ -385,19 +387,11 @@ module _ {al rem : List ℕ} {first q a f e : ℕ} {num pre next : List ℕ} (t 
           ends = omega (arith, g-at, test-order);
           grouped = subst (λ s. Grouped al (letters rem) s q (t .word) (sec num″) f (suc c)) (ranked .begins (positive r z) k) taken;
         }
-          where
-            positive : (n : ℕ) → (n ≡ 0 → ⊥) → 0 < n
-            positive zero x = absurd (x refl)
-            positive (suc n) x = omega arith
 
         -- and longer than the one before
         pub test-longer : (r ≡ 0 → ⊥) → r < length al → a < r
         test-longer z k = omega (arith, ap length (ranked .begins (positive r z) k), lib.ListN.length-append (take a al) (t .word g), length-take-le a al (omega (arith, t .within)), length-take-le r al (omega arith), word-long)
           where
-            positive : (n : ℕ) → (n ≡ 0 → ⊥) → 0 < n
-            positive zero x = absurd (x refl)
-            positive (suc n) x = omega arith
-
             word-long : 0 < length (t .word g)
             word-long = Rattle.shades_laws.proofs.Groups.beyond-long (more .beyond g g (omega (arith, g-at)) (omega (arith, g-at)) (omega arith))
 

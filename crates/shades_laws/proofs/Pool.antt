@@ -24,7 +24,7 @@ use Rattle.words.proofs.Readings.{All, nothing, also, all-weaken, all-append}
 use Rattle.shades_laws.proofs.Copies.{each-replicate, each-rearranged, copies, copies-none, copies-cons, copies-append, copies-first, Rearranged, singles, singles-rearranged}
 use Rattle.shades_laws.proofs.Clear.{read, Clear, over, onto, short-last, letters-clear}
 use Rattle.shades_laws.proofs.Exchange.{over-not, Exchanged, exchange}
-use Rattle.shades_laws.proofs.Shape.{Rising, flat, step, Shape, settle, Ladder, ladder-top, ladder-stands, shape-first, shape-later, Topped, topped}
+use Rattle.shades_laws.proofs.Shape.{Rising, flat, step, Shape, settle, Ladder, ladder-top, ladder-stands, shape-first, shape-later}
 use Rattle.shades_laws.proofs.Made.{Made, over-short, made-start, made-join, Completed, made-whole}
 
 -- the letters of w do not fall

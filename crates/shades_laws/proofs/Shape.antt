@@ -39,12 +39,6 @@ unfoldable pub final : List ℕ → List (List ℕ) → List ℕ
 final x [] = x
 final x (y ∷ xs) = final y xs
 
--- the last word is the one put behind
-pub final-append : (x : List ℕ) (xs : List (List ℕ)) (g : List ℕ) → final x (xs ++ g ∷ []) ≡ g
-unfolding final
-final-append x [] g = refl
-final-append x (y ∷ xs) g = final-append y xs g
-
 -- what holds of each word holds of the last
 pub final-each : {P : List ℕ → Type 0} (x : List ℕ) {xs : List (List ℕ)} → P x → All P xs → P (final x xs)
 unfolding final
@@ -108,13 +102,6 @@ pub record Ladder (s g : List ℕ) (xs : List (List ℕ)) : Type 0 where
   pub above : All (Over s g) (xs ++ g ∷ [])
   pub rising : Rising (xs ++ g ∷ [])
 
--- a shape that is more than copies of s has a last word
-pub record Topped (s : List ℕ) (n : ℕ) (xs : List (List ℕ)) : Type 0 where
-  pub last : List ℕ
-  pub between : List (List ℕ)
-  pub whole : xs ≡ replicate (suc n) s ++ (between ++ last ∷ [])
-  pub ladder : Ladder s last between
-
 module _ {s g : List ℕ} {xs : List (List ℕ)} (l : Ladder s g xs) where
   -- the last word is above s
   pub ladder-top : Over s g g
@@ -149,33 +136,3 @@ module _ {s g : List ℕ} {xs : List (List ℕ)} (l : Ladder s g xs) where
     where
       lower : final s ((s ++ g) ∷ xs) ≼ g
       lower = final-each (s ++ g) (under (joined-under (l .long) ladder-top)) (rising-top xs g (l .rising))
-
--- a list that is not empty has a last word
-record Ended (xs : List (List ℕ)) : Type 0 where
-  last : List ℕ
-  front : List (List ℕ)
-  whole : xs ≡ front ++ last ∷ []
-
--- the last word is found by going there
-ended : (x : List ℕ) (xs : List (List ℕ)) → Ended (x ∷ xs)
-ended x [] = record { last = x; front = []; whole = refl }
-ended x (y ∷ xs) = onward (ended y xs)
-  where
-    onward : Ended (y ∷ xs) → Ended (x ∷ y ∷ xs)
-    onward e = record { last = e .last; front = x ∷ e .front; whole = ap (λ r. x ∷ r) (e .whole) }
-
--- its last word, and the ladder to it
-pub topped : {s : List ℕ} {xs : List (List ℕ)} (p : Shape s xs) → 0 < length (p .rest) → Topped s (p .extra) xs
-topped {s} {xs} p = go (p .rest) (p .whole) (p .above) (p .rising)
-  where
-    go : (r : List (List ℕ)) → xs ≡ replicate (suc (p .extra)) s ++ r → All (Over s (final s r)) r → Rising r → 0 < length r → Topped s (p .extra) xs
-    go [] e a m z = absurd (omega arith)
-    go (x ∷ r) e a m z = at (ended x r)
-      where
-        at : Ended (x ∷ r) → Topped s (p .extra) xs
-        at d = record {
-          last = d .last;
-          between = d .front;
-          whole = rw (d .whole) at e;
-          ladder = record { long = p .long; above = rw (d .whole, final-append s (d .front) (d .last)) at a; rising = rw (d .whole) at m };
-        }
