@@ -60,7 +60,11 @@ count-start rem num e = record { size = e; done = λ x h. absurd (omega arith) }
 pub count-more : (rem num : List ℕ) (b : ℕ) → Counting rem num b → b < 16 → Counting rem (set num (64 + b) (getD rem b 0)) (b + 1)
 count-more rem num b p h = record {
   size = length-set num (64 + b) (getD rem b 0) ∙ p .size;
-  done = λ x k. elim (tri x b) [ lt e ↦ getD-set-other num (64 + b) (64 + x) (getD rem b 0) 0 (λ q. omega arith) ∙ p .done x e | eq e ↦ rw e (getD-set-same num (64 + b) (getD rem b 0) 0 (omega (arith, p .size))) | gt e ↦ absurd (omega arith) ];
+  done = λ x k. elim (tri x b) [
+    | lt e ↦ getD-set-other num (64 + b) (64 + x) (getD rem b 0) 0 (λ q. omega arith) ∙ p .done x e
+    | eq e ↦ rw e (getD-set-same num (64 + b) (getD rem b 0) 0 (omega (arith, p .size)))
+    | gt e ↦ absurd (omega arith)
+  ];
 }
 
 -- a count is at most the sum
@@ -103,7 +107,9 @@ module _ (al rem : List ℕ) (c : Completing al rem) where
   -- where the letters stand, for the words that are one letter
   module _ (b : ℕ) (p : Least rem b) (inside : b < length rem) where
     -- the letters' groups, wherever they are
-    letter-groups : (w : ℕ → List ℕ) (m : ℕ → ℕ) → ((i : ℕ) → i < length rem → w (64 + i) ≡ i ∷ []) → ((i : ℕ) → i < length rem → m (64 + i) ≡ getD rem i 0) → Grouped al (letters rem) (b ∷ []) (getD rem b 0) w m (suc (64 + b)) (length rem - suc b)
+    letter-groups : (w : ℕ → List ℕ) (m : ℕ → ℕ) → ((i : ℕ) → i < length rem → w (64 + i) ≡ i ∷ []) →
+        ((i : ℕ) → i < length rem → m (64 + i) ≡ getD rem i 0) →
+        Grouped al (letters rem) (b ∷ []) (getD rem b 0) w m (suc (64 + b)) (length rem - suc b)
     letter-groups w m words numbers = group-start al rem 64 b w m lyn-al inside (p .none) (omega (arith, positive)) (c .room) words numbers
       where
         positive : 0 < getD rem b 0
@@ -111,7 +117,9 @@ module _ (al rem : List ℕ) (c : Completing al rem) where
 
     -- each by its place
     plain : Grouped al (letters rem) (b ∷ []) (getD rem b 0) (λ i. (i - 64) ∷ []) (λ i. getD rem (i - 64) 0) (suc (64 + b)) (length rem - suc b)
-    plain = letter-groups (λ i. (i - 64) ∷ []) (λ i. getD rem (i - 64) 0) (λ i h. ap (λ x. x ∷ []) (let e : 64 + i - 64 ≡ i = omega arith in e)) (λ i h. ap (λ x. getD rem x 0) (let e : 64 + i - 64 ≡ i = omega arith in e))
+    plain =
+        letter-groups (λ i. (i - 64) ∷ []) (λ i. getD rem (i - 64) 0) (λ i h. ap (λ x. x ∷ []) (let e : 64 + i - 64 ≡ i = omega arith in e))
+        (λ i h. ap (λ x. getD rem x 0) (let e : 64 + i - 64 ≡ i = omega arith in e))
 
     -- the first sector of al is greater
     pub test-low : b < getD al 0 0 → Decides al rem false
@@ -177,10 +185,13 @@ pub opens : (al : List ℕ) (a : ℕ) → a < length al → Short (take a al) al
 opens al a h = opening (drop a al) (sym (take-append-drop a al)) (omega (arith, length-drop a al))
 
 opens-before : (al : List ℕ) (a : ℕ) → a < length al → before (take a al) al ≡ true
-opens-before al a h = before-place (take a al) al a h (omega (arith, length-take-le a al (omega arith))) (λ m k. lib.Seq.getD-take a al m 0 k) (λ k. absurd (omega (arith, length-take-le a al (omega arith))))
+opens-before al a h =
+    before-place (take a al) al a h (omega (arith, length-take-le a al (omega arith))) (λ m k. lib.Seq.getD-take a al m 0 k)
+    (λ k. absurd (omega (arith, length-take-le a al (omega arith))))
 
 -- the letters' groups
-pub test-start : (al rem : List ℕ) (b : ℕ) (num : List ℕ) → Opened al rem b → length num ≡ 80 → Numbered rem num → Testing al rem (b + 65) (getD rem b 0) 1 (b + 65) (length rem + 64) num (replicate 80 0) (replicate 80 0)
+pub test-start : (al rem : List ℕ) (b : ℕ) (num : List ℕ) → Opened al rem b → length num ≡ 80 → Numbered rem num →
+    Testing al rem (b + 65) (getD rem b 0) 1 (b + 65) (length rem + 64) num (replicate 80 0) (replicate 80 0)
 test-start al rem b num p size numbered = record {
   size = size;
   slots = length-replicate {A = ℕ} 80 0;
@@ -193,7 +204,8 @@ test-start al rem b num p size numbered = record {
   within = p .long;
   small = p .completing .small;
   word = λ i. (i - 64) ∷ [];
-  spelled = record { letter = λ i h k. refl; node = λ i h k. absurd (omega arith); onward = λ i h k. absurd (omega arith); inside = λ i h k. absurd (omega arith); short = λ i h k. absurd (omega arith) };
+  spelled =
+      record { letter = λ i h k. refl; node = λ i h k. absurd (omega arith); onward = λ i h k. absurd (omega arith); inside = λ i h k. absurd (omega arith); short = λ i h k. absurd (omega arith) };
   groups = length rem - suc b;
   ends = omega (arith, p .left);
   grouped =
@@ -208,7 +220,9 @@ test-start al rem b num p size numbered = record {
 module _ {al rem : List ℕ} {first q a f e : ℕ} {num pre next : List ℕ} (t : Testing al rem first q a f e num pre next) where
   -- only copies of the least word are left
   pub test-stuck : e ≡ f → Decides al rem false
-  test-stuck h = hopeless-no al rem (group-stuck (subst (Grouped al (letters rem) (take a al) q (t .word) (sec num) f) (let z : t .groups ≡ 0 = omega (arith, t .ends) in z) (t .grouped)) (opens-before al a (t .within)))
+  test-stuck h =
+      hopeless-no al rem
+      (group-stuck (subst (Grouped al (letters rem) (take a al) q (t .word) (sec num) f) (let z : t .groups ≡ 0 = omega (arith, t .ends) in z) (t .grouped)) (opens-before al a (t .within)))
 
   -- how many words there may be
   pub test-few : q ≤ f
@@ -293,9 +307,21 @@ module _ {al rem : List ℕ} {first q a f e : ℕ} {num pre next : List ℕ} (t 
       spelled′ = record {
         letter = λ i k l. word-other i (λ q. omega (arith, f-is, t .room)) ∙ t .spelled .letter i k l;
         node = λ i k l. elim (tri f′ i) [ lt x ↦ old-node i x l | eq x ↦ new-node i (sym x) | gt x ↦ absurd (omega arith) ];
-        onward = λ i k l. elim (tri f′ i) [ lt x ↦ rw (next-other i x) (t .spelled .onward i (omega (arith, f-is)) l) | eq x ↦ rw (next-here i (sym x)) (omega (arith, f-is, g-at)) | gt x ↦ absurd (omega arith) ];
-        inside = λ i k l. elim (tri f′ i) [ lt x ↦ rw (next-other i x) (t .spelled .inside i (omega (arith, f-is)) l) | eq x ↦ rw (next-here i (sym x)) (omega (arith, t .top, g-at, t .ends, open-positive)) | gt x ↦ absurd (omega arith) ];
-        short = λ i k l. elim (tri f′ i) [ lt x ↦ rw (pre-other i x) (t .spelled .short i (omega (arith, f-is)) l) | eq x ↦ rw (pre-here i (sym x)) (omega (arith, t .within)) | gt x ↦ absurd (omega arith) ];
+        onward = λ i k l. elim (tri f′ i) [
+          | lt x ↦ rw (next-other i x) (t .spelled .onward i (omega (arith, f-is)) l)
+          | eq x ↦ rw (next-here i (sym x)) (omega (arith, f-is, g-at))
+          | gt x ↦ absurd (omega arith)
+        ];
+        inside = λ i k l. elim (tri f′ i) [
+          | lt x ↦ rw (next-other i x) (t .spelled .inside i (omega (arith, f-is)) l)
+          | eq x ↦ rw (next-here i (sym x)) (omega (arith, t .top, g-at, t .ends, open-positive))
+          | gt x ↦ absurd (omega arith)
+        ];
+        short = λ i k l. elim (tri f′ i) [
+          | lt x ↦ rw (pre-other i x) (t .spelled .short i (omega (arith, f-is)) l)
+          | eq x ↦ rw (pre-here i (sym x)) (omega (arith, t .within))
+          | gt x ↦ absurd (omega arith)
+        ];
       }
         where
           open-positive : g < e
@@ -317,7 +343,10 @@ module _ {al rem : List ℕ} {first q a f e : ℕ} {num pre next : List ℕ} (t 
           new-node i x = word-here i x ∙ rw (pre-here i x, next-here i x, word-other g (λ q. omega (arith, f-is, g-at)))
 
           old-node : (i : ℕ) → f′ < i → i < first → word′ i ≡ take (getD pre′ i 0) al ++ word′ (getD next′ i 0)
-          old-node i x l = word-other i (λ q. omega arith) ∙ t .spelled .node i (omega (arith, f-is)) l ∙ rw (pre-other i x, next-other i x, word-other (getD next i 0) (λ q. omega (arith, t .spelled .onward i (omega (arith, f-is)) l)))
+          old-node i x l =
+              word-other i (λ q. omega arith)
+              ∙ t .spelled .node i (omega (arith, f-is)) l
+              ∙ rw (pre-other i x, next-other i x, word-other (getD next i 0) (λ q. omega (arith, t .spelled .onward i (omega (arith, f-is)) l)))
 
       pub test-pushed : Testing al rem first (q - getD num g 0) a f′ g num′ pre′ next′
       test-pushed = record {
@@ -336,7 +365,9 @@ module _ {al rem : List ℕ} {first q a f e : ℕ} {num pre next : List ℕ} (t 
         groups = suc c;
         ends = omega (arith, f-is, g-at);
         grouped =
-            group-pushed g (omega (arith, f-is, g-at)) (subst (λ x. Grouped al (letters rem) (take a al) q (t .word) (sec num) x (suc c)) (sym f-is) more) (opens al a (t .within)) (positive (getD num g 0) z) h word′ (sec num′) (word-here f′ refl)
+            group-pushed g (omega (arith, f-is, g-at))
+            (subst (λ x. Grouped al (letters rem) (take a al) q (t .word) (sec num) x (suc c)) (sym f-is) more) (opens al a (t .within))
+            (positive (getD num g 0) z) h word′ (sec num′) (word-here f′ refl)
             (getD-set-same num f′ (getD num g 0) 0 (omega (arith, t .size, inside))) (λ i k l. word-other i (λ q. omega arith)) (λ i k l. getD-set-other num f′ i (getD num g 0) 0 (λ q. omega arith));
       }
 
@@ -346,14 +377,33 @@ module _ {al rem : List ℕ} {first q a f e : ℕ} {num pre next : List ℕ} (t 
       num″ = set num g (getD num g 0 - q)
 
       taken : Grouped al (letters rem) (take a al ++ t .word g) q (t .word) (sec num″) f (suc c)
-      taken = group-taken g g-at more (opens al a (t .within)) h (sec num″) (getD-set-same num g (getD num g 0 - q) 0 (omega (arith, t .size, t .top, test-order, g-at))) (λ i k. getD-set-other num g i (getD num g 0 - q) 0 k)
+      taken =
+          group-taken g g-at more (opens al a (t .within)) h (sec num″)
+          (getD-set-same num g (getD num g 0 - q) 0 (omega (arith, t .size, t .top, test-order, g-at)))
+          (λ i k. getD-set-other num g i (getD num g 0 - q) 0 k)
 
       -- what comparing asks
       pub test-chained : Chained al pre next first g a
-      test-chained = record { word = t .word; spelled = from-g; low = t .low; slots = omega (arith, t .slots, t .letters-in); links = omega (arith, t .links, t .letters-in); known = omega (arith, t .top, test-order, g-at); within = t .within }
+      test-chained =
+          record {
+            word = t .word;
+            spelled = from-g;
+            low = t .low;
+            slots = omega (arith, t .slots, t .letters-in);
+            links = omega (arith, t .links, t .letters-in);
+            known = omega (arith, t .top, test-order, g-at);
+            within = t .within;
+          }
         where
           from-g : Spelled al pre next first g (t .word)
-          from-g = record { letter = t .spelled .letter; node = λ i k l. t .spelled .node i (omega (arith, g-at)) l; onward = λ i k l. t .spelled .onward i (omega (arith, g-at)) l; inside = λ i k l. t .spelled .inside i (omega (arith, g-at)) l; short = λ i k l. t .spelled .short i (omega (arith, g-at)) l }
+          from-g =
+              record {
+                letter = t .spelled .letter;
+                node = λ i k l. t .spelled .node i (omega (arith, g-at)) l;
+                onward = λ i k l. t .spelled .onward i (omega (arith, g-at)) l;
+                inside = λ i k l. t .spelled .inside i (omega (arith, g-at)) l;
+                short = λ i k l. t .spelled .short i (omega (arith, g-at)) l;
+              }
 
       module _ (r : ℕ) (compared : Compares al pre next first g a r) where
         ranked : Ranked al (take a al ++ t .word g) r
@@ -390,7 +440,15 @@ module _ {al rem : List ℕ} {first q a f e : ℕ} {num pre next : List ℕ} (t 
 
         -- and longer than the one before
         pub test-longer : (r ≡ 0 → ⊥) → r < length al → a < r
-        test-longer z k = omega (arith, ap length (ranked .begins (positive r z) k), lib.ListN.length-append (take a al) (t .word g), length-take-le a al (omega (arith, t .within)), length-take-le r al (omega arith), word-long)
+        test-longer z k =
+            omega (
+              arith,
+              ap length (ranked .begins (positive r z) k),
+              lib.ListN.length-append (take a al) (t .word g),
+              length-take-le a al (omega (arith, t .within)),
+              length-take-le r al (omega arith),
+              word-long,
+            )
           where
             word-long : 0 < length (t .word g)
             word-long = Rattle.shades_laws.proofs.Groups.beyond-long (more .beyond g g (omega (arith, g-at)) (omega (arith, g-at)) (omega arith))

@@ -76,7 +76,11 @@ pub record Found (y : List ℕ) (xs : List (List ℕ)) : Type 0 where
 -- a list with a copy of y can be cut there
 pub found : (y : List ℕ) (xs : List (List ℕ)) → 0 < copies y xs → Found y xs
 found y [] h = absurd (let g = rw copies-none at h in omega arith)
-found y (x ∷ xs) h = elim (test (same x y)) [ passes e ↦ record { front = []; back = xs; cut = rw (same-true x y e) } | fails e ↦ onward (found y xs (let g = rw (copies-cons, e) at h in omega arith)) ]
+found y (x ∷ xs) h =
+    elim (test (same x y)) [
+      | passes e ↦ record { front = []; back = xs; cut = rw (same-true x y e) }
+      | fails e ↦ onward (found y xs (let g = rw (copies-cons, e) at h in omega arith))
+    ]
   where
     onward : Found y xs → Found y (x ∷ xs)
     onward f = record { front = x ∷ f .front; back = f .back; cut = ap (λ r. x ∷ r) (f .cut) }

@@ -103,14 +103,18 @@ module _ (al t s g : List ℕ) where
       up = step-up z (b ++ g ∷ d) (z ∷ b ++ d) p
 
       between : Clear al t (z ∷ b ++ d)
-      between = clear-above (s ++ z) (read al (b ++ g ∷ d)) (two-first z (b ++ g ∷ d) ending) (all-weaken (λ y h. over-rises p (h .above)) o) (clear-rest (clear-back (z ∷ b) (g ∷ d) (clear-rest ending)))
+      between =
+          clear-above (s ++ z) (read al (b ++ g ∷ d)) (two-first z (b ++ g ∷ d) ending) (all-weaken (λ y h. over-rises p (h .above)) o)
+          (clear-rest (clear-back (z ∷ b) (g ∷ d) (clear-rest ending)))
 
   -- g stands before s, and no copy of s before g
   back : (a b : List (List ℕ)) (z : List ℕ) (q : List (List ℕ)) → z ≪ g → All (Other s g) a → Clear al t (a ++ g ∷ (b ++ s ∷ z ∷ q)) → Exchanged al t s g (a ++ g ∷ (b ++ s ∷ z ∷ q))
   unfolding read
   back a b z q p o c = record {
     new = a ++ (b ++ (s ++ g) ∷ z ∷ q);
-    clear = clear-above (s ++ z) (read al q) (two-first z q ending) (all-weaken (λ y h. over-rises p (h .above)) o) (clear-raised b (s ∷ z ∷ q) ((s ++ g) ∷ z ∷ q) (under up) behind (onto (λ r. clear-first ending (under-trans up r)) (clear-rest ending)));
+    clear =
+        clear-above (s ++ z) (read al q) (two-first z q ending) (all-weaken (λ y h. over-rises p (h .above)) o)
+        (clear-raised b (s ∷ z ∷ q) ((s ++ g) ∷ z ∷ q) (under up) behind (onto (λ r. clear-first ending (under-trans up r)) (clear-rest ending)));
     counts = λ y. simp (copies-append, copies-cons) (omega arith);
   }
     where

@@ -40,13 +40,18 @@ spread w m f (suc c) = replicate (m f) (w f) ++ spread w m (suc f) c
 spread-last : (w : ℕ → List ℕ) (m : ℕ → ℕ) (f c g : ℕ) → f + c ≡ g → spread w m f (suc c) ≡ spread w m f c ++ replicate (m g) (w g)
 unfolding spread
 spread-last w m f zero g e = let q : f ≡ g = omega arith in rw q (append-nil (replicate (m g) (w g)))
-spread-last w m f (suc c) g e = ap (λ x. replicate (m f) (w f) ++ x) (spread-last w m (suc f) c g (omega arith)) ∙ sym (append-assoc (replicate (m f) (w f)) (spread w m (suc f) c) (replicate (m g) (w g)))
+spread-last w m f (suc c) g e =
+    ap (λ x. replicate (m f) (w f) ++ x) (spread-last w m (suc f) c g (omega arith))
+    ∙ sym (append-assoc (replicate (m f) (w f)) (spread w m (suc f) c) (replicate (m g) (w g)))
 
 -- the same words and numbers
 spread-same : (w w′ : ℕ → List ℕ) (m m′ : ℕ → ℕ) (f c : ℕ) → ((i : ℕ) → f ≤ i → i < f + c → w i ≡ w′ i) → ((i : ℕ) → f ≤ i → i < f + c → m i ≡ m′ i) → spread w m f c ≡ spread w′ m′ f c
 unfolding spread
 spread-same w w′ m m′ f zero p q = refl
-spread-same w w′ m m′ f (suc c) p q = rw (p f (omega arith) (omega arith), q f (omega arith) (omega arith)) (ap (λ x. replicate (m′ f) (w′ f) ++ x) (spread-same w w′ m m′ (suc f) c (λ i h k. p i (omega arith) (omega arith)) (λ i h k. q i (omega arith) (omega arith))))
+spread-same w w′ m m′ f (suc c) p q =
+    rw (p f (omega arith) (omega arith), q f (omega arith) (omega arith))
+    (ap (λ x. replicate (m′ f) (w′ f) ++ x)
+    (spread-same w w′ m m′ (suc f) c (λ i h k. p i (omega arith) (omega arith)) (λ i h k. q i (omega arith) (omega arith))))
 
 -- what holds of each group's word
 spread-all : {P : List ℕ → Type 0} (w : ℕ → List ℕ) (m : ℕ → ℕ) (f c : ℕ) → ((i : ℕ) → f ≤ i → i < f + c → P (w i)) → All P (spread w m f c)
@@ -58,7 +63,9 @@ spread-all w m f (suc c) h = all-append (each-replicate (m f) (w f) (h f (omega 
 spread-skip : (w : ℕ → List ℕ) (m : ℕ → ℕ) (f b c g : ℕ) → f + b ≡ g → ((i : ℕ) → f ≤ i → i < g → m i ≡ 0) → spread w m f (b + c) ≡ spread w m g c
 unfolding spread
 spread-skip w m f zero c g e h = let q : f ≡ g = omega arith in rw q (ap (spread w m g) (let z : 0 + c ≡ c = omega arith in z))
-spread-skip w m f (suc b) c g e h = ap (spread w m f) (let z : suc b + c ≡ suc (b + c) = omega arith in z) ∙ rw (h f (omega arith) (omega arith)) (spread-skip w m (suc f) b c g (omega arith) (λ i p q. h i (omega arith) q))
+spread-skip w m f (suc b) c g e h =
+    ap (spread w m f) (let z : suc b + c ≡ suc (b + c) = omega arith in z)
+    ∙ rw (h f (omega arith) (omega arith)) (spread-skip w m (suc f) b c g (omega arith) (λ i p q. h i (omega arith) q))
 
 -- ---- rising lists
 
@@ -76,7 +83,9 @@ rising-append (step k rs) r (also p h) = step (all-append k p) (rising-append rs
 spread-rising : (w : ℕ → List ℕ) (m : ℕ → ℕ) (f c : ℕ) → ((i j : ℕ) → f ≤ i → i < j → j < f + c → w i ≪ w j) → Rising (spread w m f c)
 unfolding spread
 spread-rising w m f zero h = flat
-spread-rising w m f (suc c) h = rising-copies (m f) (w f) (spread-all w m (suc f) c (λ i p q. under (h f i (omega arith) (omega arith) (omega arith)))) (spread-rising w m (suc f) c (λ i j p q r. h i j (omega arith) q (omega arith)))
+spread-rising w m f (suc c) h =
+    rising-copies (m f) (w f) (spread-all w m (suc f) c (λ i p q. under (h f i (omega arith) (omega arith) (omega arith))))
+    (spread-rising w m (suc f) c (λ i j p q r. h i j (omega arith) q (omega arith)))
 
 -- ---- joining many copies
 
@@ -89,7 +98,11 @@ module _ (al u s g : List ℕ) (xs : List (List ℕ)) (short : Short s al) (long
   ladder i b = record {
     long = long;
     above = all-append (all-append (all-append (each-replicate i sg (longer g (over-long top) refl (is refl))) above) (each-replicate b g top)) (also top nothing);
-    rising = subst Rising (sym (append-assoc (replicate i sg ++ xs) (replicate b g) (g ∷ []))) (rising-append (rising-copies i sg (all-weaken (λ y. joined-upto) above) rising) (rising-copies b g (also (is refl) nothing) (step nothing flat)) (all-weaken (λ y p. all-append (each-replicate b g p) (also p nothing)) (all-append (each-replicate i sg (under (joined-under long top))) most)));
+    rising =
+        subst Rising (sym (append-assoc (replicate i sg ++ xs) (replicate b g) (g ∷ [])))
+        (rising-append (rising-copies i sg (all-weaken (λ y. joined-upto) above) rising)
+        (rising-copies b g (also (is refl) nothing) (step nothing flat))
+        (all-weaken (λ y p. all-append (each-replicate b g p) (also p nothing)) (all-append (each-replicate i sg (under (joined-under long top))) most)));
   }
 
   -- one copy of s with one of g
@@ -100,7 +113,8 @@ module _ (al u s g : List ℕ) (xs : List (List ℕ)) (short : Short s al) (long
       parted = ap (λ x. (replicate i sg ++ xs) ++ x) (sym (append-nil (replicate (suc b) g)) ∙ replicate-shift b g []) ∙ sym (append-assoc (replicate i sg ++ xs) (replicate b g) (g ∷ []))
 
   -- x copies of s with as many of g
-  joins : (x i n m a b r : ℕ) → a ≡ x + n → b ≡ x + m → r ≡ x + i → Pool al u (replicate a s ++ ((replicate i sg ++ xs) ++ replicate b g)) → Pool al u (replicate n s ++ ((replicate r sg ++ xs) ++ replicate m g))
+  joins : (x i n m a b r : ℕ) → a ≡ x + n → b ≡ x + m → r ≡ x + i → Pool al u (replicate a s ++ ((replicate i sg ++ xs) ++ replicate b g)) →
+      Pool al u (replicate n s ++ ((replicate r sg ++ xs) ++ replicate m g))
   joins zero i n m a b r p q e h =
       let e₁ : a ≡ n = omega arith in
       let e₂ : b ≡ m = omega arith in
@@ -196,11 +210,17 @@ module _ {al u s : List ℕ} {q : ℕ} {w : ℕ → List ℕ} {m : ℕ → ℕ} 
       rising = p .rising;
       beyond = λ a j d k l. past (beyond-joined (p .beyond g j (omega arith) k (omega arith)));
       few = omega (arith, ap length becomes, length-append words (replicate (m g - q) (w g)), length-replicate (m g - q) (w g), p .few, count);
-      pool = subst (Pool al u) (append-assoc (replicate q (s ++ w g)) words (replicate (m g - q) (w g)) ∙ ap (λ x. replicate q (s ++ w g) ++ x) (sym becomes)) (joined q 0 (m g - q) (omega arith) (omega arith));
+      pool =
+          subst (Pool al u)
+          (append-assoc (replicate q (s ++ w g)) words (replicate (m g - q) (w g)) ∙ ap (λ x. replicate q (s ++ w g) ++ x) (sym becomes))
+          (joined q 0 (m g - q) (omega arith) (omega arith));
     }
       where
         becomes : spread w m′ f (suc c) ≡ words ++ replicate (m g - q) (w g)
-        becomes = spread-last w m′ f c g e ∙ ap (λ n. spread w m′ f c ++ replicate n (w g)) left ∙ ap (λ x. x ++ replicate (m g - q) (w g)) (spread-same w w m′ m f c (λ i a b. refl) (λ i a b. others i (λ d. omega arith)))
+        becomes =
+            spread-last w m′ f c g e
+            ∙ ap (λ n. spread w m′ f c ++ replicate n (w g)) left
+            ∙ ap (λ x. x ++ replicate (m g - q) (w g)) (spread-same w w m′ m f c (λ i a b. refl) (λ i a b. others i (λ d. omega arith)))
 
   -- each word of the last group takes a copy of s in front, and the group comes to the front
   pub group-pushed : {f c : ℕ} (g : ℕ) → suc f + c ≡ g → Grouped al u s q w m (suc f) (suc c) → Short s al → 0 < m g → m g < q → (w′ : ℕ → List ℕ) (m′ : ℕ → ℕ) → w′ f ≡ s ++ w g → m′ f ≡ m g →
@@ -212,11 +232,16 @@ module _ {al u s : List ℕ} {q : ℕ} {w : ℕ → List ℕ} {m : ℕ → ℕ} 
     rising = rises;
     beyond = above;
     few = omega (arith, ap length becomes, length-append (replicate (m g) (s ++ w g)) (spread w m (suc f) c), length-replicate (m g) (s ++ w g), p .few, count g e p short);
-    pool = subst (λ x. Pool al u (replicate (q - m g) s ++ x)) (append-nil (replicate (m g) (s ++ w g) ++ spread w m (suc f) c) ∙ sym becomes) (joined g e p short (m g) (q - m g) 0 (omega arith) (omega arith));
+    pool =
+        subst (λ x. Pool al u (replicate (q - m g) s ++ x)) (append-nil (replicate (m g) (s ++ w g) ++ spread w m (suc f) c) ∙ sym becomes)
+        (joined g e p short (m g) (q - m g) 0 (omega arith) (omega arith));
   }
     where
       becomes : spread w′ m′ f (suc c) ≡ replicate (m g) (s ++ w g) ++ spread w m (suc f) c
-      becomes = rw (front, number) (ap (λ x. replicate (m g) (s ++ w g) ++ x) (spread-same w′ w m′ m (suc f) c (λ i a b. words-same i (omega arith) (omega arith)) (λ i a b. numbers-same i (omega arith) (omega arith))))
+      becomes =
+          rw (front, number)
+          (ap (λ x. replicate (m g) (s ++ w g) ++ x)
+          (spread-same w′ w m′ m (suc f) c (λ i a b. words-same i (omega arith) (omega arith)) (λ i a b. numbers-same i (omega arith) (omega arith))))
 
       -- the word in front lies under each of the others
       first : (j : ℕ) → f < j → j < g → w′ f ≪ w′ j
@@ -271,13 +296,19 @@ module _ {al u s : List ℕ} {q : ℕ} {w : ℕ → List ℕ} {m : ℕ → ℕ} 
       there (suc q) z = copies-first s (replicate q s ++ spread w m f c)
 
       go : Arranged al (x ++ v) (replicate q s ++ spread w m f c) → ⊥
-      go a = let d = found s (a .list) (omega (arith, a .moved s, there q (p .some))) in clear-first (clear-back (d .front) (s ∷ d .back) (subst (Clear al (al ++ (x ++ v))) (d .cut) (a .clear))) (under-longer (read al (d .back)) (under-extended (x ++ v) low))
+      go a =
+          let d = found s (a .list) (omega (arith, a .moved s, there q (p .some))) in
+          clear-first (clear-back (d .front) (s ∷ d .back) (subst (Clear al (al ++ (x ++ v))) (d .cut) (a .clear)))
+          (under-longer (read al (d .back)) (under-extended (x ++ v) low))
 
 -- where only copies of s are left, and s stands before al, there is none
 pub group-stuck : {al u s : List ℕ} {q : ℕ} {w : ℕ → List ℕ} {m : ℕ → ℕ} {f : ℕ} → Grouped al u s q w m f 0 → before s al ≡ true →
     (x v : List ℕ) → ((b : ℕ) → occurs b v ≡ occurs b u) → necklace (al ++ (x ++ v)) ≡ true → ⊥
 unfolding spread
-group-stuck {al} {u} {s} {q} {w} {m} {f} p b = pool-stuck al u (replicate q s ++ []) (p .pool) (λ i h. each q i h ∙ sym (each q 0 (omega (arith, p .some, length-append (replicate q s) [], length-replicate q s)))) (rw (each q 0 (omega (arith, p .some, length-append (replicate q s) [], length-replicate q s))) b)
+group-stuck {al} {u} {s} {q} {w} {m} {f} p b =
+    pool-stuck al u (replicate q s ++ []) (p .pool)
+    (λ i h. each q i h ∙ sym (each q 0 (omega (arith, p .some, length-append (replicate q s) [], length-replicate q s))))
+    (rw (each q 0 (omega (arith, p .some, length-append (replicate q s) [], length-replicate q s))) b)
   where
     each : (q i : ℕ) → i < length (replicate q s ++ []) → getD (replicate q s ++ []) i [] ≡ s
     each zero i h = absurd (omega arith)
@@ -299,14 +330,16 @@ length-singles [] = refl
 length-singles (a ∷ v) = ap suc (length-singles v)
 
 -- the letters of counts, each a word, are groups
-letters-spread : (w : ℕ → List ℕ) (m : ℕ → ℕ) (d f : ℕ) (cs : List ℕ) → ((i j x : ℕ) → f + i ≡ j → d + i ≡ x → i < length cs → w j ≡ x ∷ []) → ((i j : ℕ) → f + i ≡ j → i < length cs → m j ≡ getD cs i 0) →
+letters-spread : (w : ℕ → List ℕ) (m : ℕ → ℕ) (d f : ℕ) (cs : List ℕ) → ((i j x : ℕ) → f + i ≡ j → d + i ≡ x → i < length cs → w j ≡ x ∷ []) →
+    ((i j : ℕ) → f + i ≡ j → i < length cs → m j ≡ getD cs i 0) →
     singles (lettersFrom d cs) ≡ spread w m f (length cs)
 unfolding lettersFrom spread singles
 letters-spread w m d f [] p q = refl
 letters-spread w m d f (c ∷ cs) p q =
     singles-replicate c d (lettersFrom (suc d) cs)
     ∙ rw (p 0 f d (omega arith) (omega arith) (omega arith), q 0 f (omega arith) (omega arith))
-    (ap (λ x. replicate c (d ∷ []) ++ x) (letters-spread w m (suc d) (suc f) cs (λ i j x a b h. p (suc i) j x (omega arith) (omega arith) (omega arith)) (λ i j a h. q (suc i) j (omega arith) (omega arith))))
+    (ap (λ x. replicate c (d ∷ []) ++ x)
+    (letters-spread w m (suc d) (suc f) cs (λ i j x a b h. p (suc i) j x (omega arith) (omega arith) (omega arith)) (λ i j a h. q (suc i) j (omega arith) (omega arith))))
 
 -- the least letter that is left, and the greater ones: letter b stands at place o + b
 pub group-start : (al cs : List ℕ) (o b : ℕ) (w : ℕ → List ℕ) (m : ℕ → ℕ) → Lyn (sec al) (length al) → b < length cs → ((x : ℕ) → x < b → getD cs x 0 ≡ 0) → 0 < getD cs b 0 → sumOf cs ≤ o →
@@ -318,7 +351,18 @@ group-start al cs o b w m lyn h none z room words numbers = record {
   rising = λ i j p q r. letter-under i j (omega arith) q (omega arith);
   beyond = λ g j e p q. past (subst (λ x. x ≪ w j) (words b h) (letter-under (o + b) j (omega arith) (omega arith) (omega arith)));
   few = omega (arith, sym (ap length whole), length-append (replicate (getD cs b 0) (b ∷ [])) rest, length-replicate (getD cs b 0) (b ∷ []), length-singles (letters cs), length-letters 0 cs);
-  pool = subst (Pool al (letters cs)) whole (pool-start al (letters cs) lyn (omega (arith, length-letters 0 cs, ap length whole, length-append (replicate (getD cs b 0) (b ∷ [])) rest, length-replicate (getD cs b 0) (b ∷ []), length-singles (letters cs))) (sorted-letters 0 cs));
+  pool =
+      subst (Pool al (letters cs)) whole
+      (pool-start al (letters cs) lyn
+      (omega (
+        arith,
+        length-letters 0 cs,
+        ap length whole,
+        length-append (replicate (getD cs b 0) (b ∷ [])) rest,
+        length-replicate (getD cs b 0) (b ∷ []),
+        length-singles (letters cs),
+      ))
+      (sorted-letters 0 cs));
 }
   where
     rest : List (List ℕ)
@@ -338,5 +382,6 @@ group-start al cs o b w m lyn h none z room words numbers = record {
     whole =
         all
         ∙ ap (spread w m o) (let e : length cs ≡ b + suc (length cs - suc b) = omega arith in e)
-        ∙ spread-skip w m o b (suc (length cs - suc b)) (o + b) refl (λ i p q. let e : o + (i - o) ≡ i = omega arith in subst (λ n. m n ≡ 0) e (numbers (i - o) (omega arith) ∙ none (i - o) (omega arith)))
+        ∙ spread-skip w m o b (suc (length cs - suc b)) (o + b) refl
+        (λ i p q. let e : o + (i - o) ≡ i = omega arith in subst (λ n. m n ≡ 0) e (numbers (i - o) (omega arith) ∙ none (i - o) (omega arith)))
         ∙ rw (words b h, numbers b h)

@@ -26,7 +26,9 @@ pub letters-suc : (d i b : ℕ) (cs : List ℕ) → d + i ≡ b → i < length c
 unfolding lettersFrom
 letters-suc d i b [] e h = absurd (omega arith)
 letters-suc d zero b (c ∷ cs) e h = let q : d ≡ b = omega arith in rw q (append-nil (replicate c b))
-letters-suc d (suc i) b (c ∷ cs) e h = ap (λ x. replicate c d ++ x) (letters-suc (suc d) i b cs (omega arith) (omega arith)) ∙ sym (append-assoc (replicate c d) (lettersFrom (suc d) (take i cs)) (replicate (getD cs i 0) b))
+letters-suc d (suc i) b (c ∷ cs) e h =
+    ap (λ x. replicate c d ++ x) (letters-suc (suc d) i b cs (omega arith) (omega arith))
+    ∙ sym (append-assoc (replicate c d) (lettersFrom (suc d) (take i cs)) (replicate (getD cs i 0) b))
 
 -- a letter stands in its copies
 pub occurs-replicate : (b n : ℕ) → occurs b (replicate n b) ≡ n

@@ -39,7 +39,10 @@ over-short (longer h z e q) = opening h e z
 -- a word that stands before y, as `before` has it
 short-before : {s y : List ℕ} → Short s y → before s y ≡ true
 short-before (lower r) = under-before r
-short-before {s} {y} (opening u e z) = subst (λ x. before s x ≡ true) (sym e) (before-place s (s ++ u) (length s) (rw (length-append s u) (omega arith)) (omega arith) (λ m h. sym (List·getD-append s u 0 m h)) (λ h. absurd (omega arith)))
+short-before {s} {y} (opening u e z) =
+    subst (λ x. before s x ≡ true) (sym e)
+    (before-place s (s ++ u) (length s) (rw (length-append s u) (omega arith)) (omega arith) (λ m h. sym (List·getD-append s u 0 m h))
+    (λ h. absurd (omega arith)))
 
 -- rising lowest words climb
 rising-climbs : (x : List ℕ) {ys : List (List ℕ)} → All (λ y. upTo x y ≡ true) ys → All Lowest ys → Rising ys → Climbs x ys
@@ -56,7 +59,11 @@ shape-climbs : (x s : List ℕ) (xs : List (List ℕ)) → Shape s xs → All Lo
 shape-climbs x s xs p k h = subst (Climbs x) (sym (p .whole)) (go (subst (All Lowest) (p .whole) k))
   where
     go : All Lowest (s ∷ (replicate (p .extra) s ++ p .rest)) → Climbs x (s ∷ (replicate (p .extra) s ++ p .rest))
-    go (also l ls) = up h l (copies-climb (p .extra) s l (rising-climbs s (all-weaken (λ y o. before-upTo s y (short-before (over-short o))) (p .above)) (all-right (replicate (p .extra) s) (p .rest) ls) (p .rising)))
+    go (also l ls) =
+        up h l
+        (copies-climb (p .extra) s l
+        (rising-climbs s (all-weaken (λ y o. before-upTo s y (short-before (over-short o))) (p .above))
+        (all-right (replicate (p .extra) s) (p .rest) ls) (p .rising)))
 
 -- ---- what the pool is made of
 
@@ -85,7 +92,17 @@ pub made-join : (w s g : List ℕ) (a b : List (List ℕ)) → Short s g → Mad
 unfolding read
 made-join w s g a b h m = record {
   words = go (all-right a (s ∷ b) front) (all-right (a ++ s ∷ b) (g ∷ []) (m .words));
-  letters = λ x. omega (arith, m .letters x, occurs-read x (a ++ s ∷ b) (g ∷ []), occurs-read x a (s ∷ b), occurs-read x a ((s ++ g) ∷ b), occurs-append x s (read [] b), occurs-append x (s ++ g) (read [] b), occurs-append x s g, ap (occurs x) (append-nil g));
+  letters = λ x. omega (
+    arith,
+    m .letters x,
+    occurs-read x (a ++ s ∷ b) (g ∷ []),
+    occurs-read x a (s ∷ b),
+    occurs-read x a ((s ++ g) ∷ b),
+    occurs-append x s (read [] b),
+    occurs-append x (s ++ g) (read [] b),
+    occurs-append x s g,
+    ap (occurs x) (append-nil g),
+  );
 }
   where
     front : All Lowest (a ++ s ∷ b)

@@ -95,14 +95,23 @@ join-arranged al v s g n xs lyn short l r = record { list = e .new; clear = e .c
     g-in = simp (copies-append, copies-cons, same-refl g) (omega arith)
 
     e : Exchanged al (al ++ v) s g (r .list)
-    e = exchange al (al ++ v) s g (short-last al s lyn (l .long) short v) (ladder-top l) (r .list) (each-rearranged (r .list) old (r .moved) (ladder-stands l (suc n))) (some s (copies-first s (replicate n s ++ (xs ++ g ∷ [])))) (some g g-in) (r .clear)
+    e =
+        exchange al (al ++ v) s g (short-last al s lyn (l .long) short v) (ladder-top l) (r .list)
+        (each-rearranged (r .list) old (r .moved) (ladder-stands l (suc n))) (some s (copies-first s (replicate n s ++ (xs ++ g ∷ [])))) (some g g-in)
+        (r .clear)
 
     both-counts : (y : List ℕ) → copies y (replicate n s ++ (s ++ g) ∷ xs) + copies y (s ∷ g ∷ []) ≡ copies y old + copies y ((s ++ g) ∷ [])
     both-counts y = simp (copies-append, copies-cons, copies-none) (omega arith)
 
 -- joining s with g leaves a pool
 pub join-pool : (al w s g : List ℕ) (n : ℕ) (xs : List (List ℕ)) → Short s al → Ladder s g xs → Pool al w (replicate (suc n) s ++ (xs ++ g ∷ [])) → Pool al w (replicate n s ++ (s ++ g) ∷ xs)
-join-pool al w s g n xs short l p = record { lyn = p .lyn; shape = go n; made = made-join w s g (replicate n s) xs (over-short (ladder-top l)) (subst (Made w) parted (p .made)); arranged = λ u v c h. join-arranged al (u ++ v) s g n xs (p .lyn) short l (p .arranged u v c h) }
+join-pool al w s g n xs short l p =
+    record {
+      lyn = p .lyn;
+      shape = go n;
+      made = made-join w s g (replicate n s) xs (over-short (ladder-top l)) (subst (Made w) parted (p .made));
+      arranged = λ u v c h. join-arranged al (u ++ v) s g n xs (p .lyn) short l (p .arranged u v c h);
+    }
   where
     go : (n : ℕ) → Shape (getD (replicate n s ++ (s ++ g) ∷ xs) 0 []) (replicate n s ++ (s ++ g) ∷ xs)
     go zero = shape-first l
@@ -116,7 +125,12 @@ join-pool al w s g n xs short l p = record { lyn = p .lyn; shape = go n; made = 
 -- how many copies of the least word lead, told by places
 leading : (s : List ℕ) (n : ℕ) (r : List (List ℕ)) (q : ℕ) → All (λ y. y ≡ s → ⊥) r → q ≤ suc n + length r →
     ((i : ℕ) → i < q → getD (replicate (suc n) s ++ r) i [] ≡ s) → (q < suc n + length r → getD (replicate (suc n) s ++ r) q [] ≡ s → ⊥) → q ≡ suc n
-leading s n r q e h lead stops = elim (tri q (suc n)) [ lt k ↦ absurd (stops (omega arith) (List·getD-append (replicate (suc n) s) r [] q (rw (length-replicate (suc n) s) k) ∙ getD-replicate (suc n) q s [] k)) | eq k ↦ k | gt k ↦ past k r e h lead ]
+leading s n r q e h lead stops =
+    elim (tri q (suc n)) [
+      | lt k ↦ absurd (stops (omega arith) (List·getD-append (replicate (suc n) s) r [] q (rw (length-replicate (suc n) s) k) ∙ getD-replicate (suc n) q s [] k))
+      | eq k ↦ k
+      | gt k ↦ past k r e h lead
+    ]
   where
     past : suc n < q → (r : List (List ℕ)) → All (λ y. y ≡ s → ⊥) r → q ≤ suc n + length r → ((i : ℕ) → i < q → getD (replicate (suc n) s ++ r) i [] ≡ s) → q ≡ suc n
     past k [] e h lead = absurd (omega arith)
@@ -125,7 +139,11 @@ leading s n r q e h lead stops = elim (tri q (suc n)) [ lt k ↦ absurd (stops (
 -- the same in a pool
 leading-shape : (s : List ℕ) (xs : List (List ℕ)) (p : Shape s xs) (q : ℕ) → q ≤ length xs → ((i : ℕ) → i < q → getD xs i [] ≡ s) → (q < length xs → getD xs q [] ≡ s → ⊥) →
     (q ≡ suc (p .extra)) × (length xs ≡ suc (p .extra) + length (p .rest))
-leading-shape s xs p q h lead stops = (leading s (p .extra) (p .rest) q (all-weaken (λ y. over-not) (p .above)) (omega (arith, long)) (λ i l. ap (λ x. getD x i []) (sym (p .whole)) ∙ lead i l) (λ l e. stops (omega (arith, long)) (ap (λ x. getD x q []) (p .whole) ∙ e)), long)
+leading-shape s xs p q h lead stops = (
+  leading s (p .extra) (p .rest) q (all-weaken (λ y. over-not) (p .above)) (omega (arith, long))
+      (λ i l. ap (λ x. getD x i []) (sym (p .whole)) ∙ lead i l) (λ l e. stops (omega (arith, long)) (ap (λ x. getD x q []) (p .whole) ∙ e)),
+  long,
+)
   where
     long : length xs ≡ suc (p .extra) + length (p .rest)
     long = ap length (p .whole) ∙ length-append (replicate (suc (p .extra)) s) (p .rest) ∙ ap (λ x. x + length (p .rest)) (length-replicate (suc (p .extra)) s)
@@ -155,7 +173,9 @@ pool-stuck al w xs p lead b u v c h = none-clear (p .arranged u v c h)
     only-copies = all-copies (p .shape .rest) (p .shape .whole) (let (q, l) = leading-shape s xs (p .shape) (length xs) (omega arith) lead (λ k. absurd (omega arith)) in omega arith)
 
     none-clear : Arranged al (u ++ v) xs → ⊥
-    none-clear a = ends (a .list) (each-rearranged (a .list) xs (a .moved) only-copies) (a .clear) (omega (arith, a .moved s, subst (λ x. 0 < copies s x) (sym (p .shape .whole)) (copies-first s (replicate n s ++ p .shape .rest))))
+    none-clear a =
+        ends (a .list) (each-rearranged (a .list) xs (a .moved) only-copies) (a .clear)
+        (omega (arith, a .moved s, subst (λ x. 0 < copies s x) (sym (p .shape .whole)) (copies-first s (replicate n s ++ p .shape .rest))))
       where
         ends : (ys : List (List ℕ)) → All (λ y. y ≡ s) ys → Clear al (al ++ (u ++ v)) ys → 0 < copies s ys → ⊥
         ends [] e k l = let g = rw copies-none at l in omega arith

@@ -112,7 +112,8 @@ unfolding again
 power-run q u k = record {
   pos = lowest-long k;
   fits = omega (arith, long);
-  again = λ i j e h. place (sec (u ++ again q u [])) i (length u + j) (sym e) ∙ getD-append-add u (again q u []) j 0 ∙ sym (List·getD-append (again q u []) u 0 j (omega (arith, long))) ∙ ap (λ x. getD x j 0) turned;
+  again = λ i j e h. place (sec (u ++ again q u [])) i (length u + j) (sym e) ∙ getD-append-add u (again q u []) j 0
+      ∙ sym (List·getD-append (again q u []) u 0 j (omega (arith, long))) ∙ ap (λ x. getD x j 0) turned;
   lyn = lyn-through (sec u) (sec (u ++ again q u [])) (length u) (λ m h. sym (List·getD-append u (again q u []) 0 m h)) (lowest-lyn u k);
 }
   where
@@ -124,7 +125,10 @@ power-run q u k = record {
 
 -- a power of a lowest word is a necklace
 pub powered-necklace : (w : List ℕ) → Powered w → necklace w ≡ true
-powered-necklace w p = rw (p .whole) (run-necklace (again (suc (p .times)) (p .base) []) (length (p .base)) (power-run (p .times) (p .base) (p .low)) (rw (again-long (suc (p .times)) (p .base)) (mul-mod-left (suc (p .times)) (length (p .base)))))
+powered-necklace w p =
+    rw (p .whole)
+    (run-necklace (again (suc (p .times)) (p .base) []) (length (p .base)) (power-run (p .times) (p .base) (p .low))
+    (rw (again-long (suc (p .times)) (p .base)) (mul-mod-left (suc (p .times)) (length (p .base)))))
 
 -- a lowest word and lowest words that climb from it are a necklace
 pub product : (u : List ℕ) (ys : List (List ℕ)) → Lowest u → Climbs u ys → necklace (u ++ read [] ys) ≡ true

@@ -116,7 +116,9 @@ module _ {s g : List ℕ} {xs : List (List ℕ)} (l : Ladder s g xs) where
 
   -- each word of the pool is a copy of s, or above s and at most g
   pub ladder-stands : (n : ℕ) → All (Stands s g) (replicate n s ++ (xs ++ g ∷ []))
-  ladder-stands n = all-append (each-replicate n s (copy refl)) (each-zip (λ y a m. other (record { above = a; most = m })) (l .above) (all-append (rising-top xs g (l .rising)) (also (is refl) nothing)))
+  ladder-stands n =
+      all-append (each-replicate n s (copy refl))
+      (each-zip (λ y a m. other (record { above = a; most = m })) (l .above) (all-append (rising-top xs g (l .rising)) (also (is refl) nothing)))
 
   -- the joined word is the new least one
   pub shape-first : Shape (s ++ g) ((s ++ g) ∷ xs)

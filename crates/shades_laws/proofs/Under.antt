@@ -91,7 +91,11 @@ unfolding before
 before-short [] [] h = absurd (false≢true h)
 before-short [] (b ∷ w) h = opening (b ∷ w) refl (omega arith)
 before-short (a ∷ v) [] h = absurd (false≢true h)
-before-short (a ∷ v) (b ∷ w) h = elim (either (ltb a b) (eqb a b && before v w) h) [ left e ↦ lower (here (ltb-true a b e)) | right _ e ↦ onward (eqb-true a b (both-left (eqb a b) (before v w) e)) (before-short v w (both-right (eqb a b) (before v w) e)) ]
+before-short (a ∷ v) (b ∷ w) h =
+    elim (either (ltb a b) (eqb a b && before v w) h) [
+      | left e ↦ lower (here (ltb-true a b e))
+      | right _ e ↦ onward (eqb-true a b (both-left (eqb a b) (before v w) e)) (before-short v w (both-right (eqb a b) (before v w) e))
+    ]
   where
     onward : a ≡ b → Short v w → Short (a ∷ v) (b ∷ w)
     onward e (lower r) = lower (later e r)
@@ -104,7 +108,10 @@ before-place [] [] j p q h l = absurd (omega arith)
 before-place [] (b ∷ w) j p q h l = refl
 before-place (a ∷ v) [] j p q h l = absurd (omega arith)
 before-place (a ∷ v) (b ∷ w) zero p q h l = either-left (ltb a b) (eqb a b && before v w) (lt-ltb a b (l (omega arith)))
-before-place (a ∷ v) (b ∷ w) (suc j) p q h l = either-right (ltb a b) (eqb a b && before v w) (both (eqb a b) (before v w) (eq-eqb a b (h 0 (omega arith))) (before-place v w j (omega arith) (omega arith) (λ m k. h (suc m) (omega arith)) (λ k. l (omega arith))))
+before-place (a ∷ v) (b ∷ w) (suc j) p q h l =
+    either-right (ltb a b) (eqb a b && before v w)
+    (both (eqb a b) (before v w) (eq-eqb a b (h 0 (omega arith)))
+    (before-place v w j (omega arith) (omega arith) (λ m k. h (suc m) (omega arith)) (λ k. l (omega arith))))
 
 -- ---- the first difference of sequences
 

@@ -75,7 +75,12 @@ last-none n start = rw (same-refl (take n start), lastRaised)
 -- one was
 last-some : (n : ℕ) (start ring : List ℕ) (i : ℕ) → before (take n start) (take n ring) ≡ true → Run (sec (take n ring)) (length (take n ring)) i → lastRaised n start ring ≡ i
 unfolding lastRaised
-last-some n start ring i up r = rw (same-false (take n start) (take n ring) (λ e. clash (before (take n start) (take n ring)) up (subst (λ x. before (take n start) x ≡ false) e (before-irrefl (take n start)))), lastRaised) (run-lyn (take n ring) i r)
+last-some n start ring i up r =
+    rw (
+      same-false (take n start) (take n ring) (λ e. clash (before (take n start) (take n ring)) up (subst (λ x. before (take n start) x ≡ false) e (before-irrefl (take n start)))),
+      lastRaised,
+    )
+    (run-lyn (take n ring) i r)
 
 -- the next ring above `ring` is that above `start`; p is the place, counted from 1, that was raised last, or 0
 pub record Standing (cs : List ℕ) (n k : ℕ) (start ring : List ℕ) (p : ℕ) : Type 0 where
@@ -89,7 +94,17 @@ pub record Standing (cs : List ℕ) (n k : ℕ) (start ring : List ℕ) (p : ℕ
   pub further : 0 < p → Further cs n k (take n ring) p
 
 pub seek-start : (cs : List ℕ) (n k : ℕ) (start : List ℕ) → length start ≡ 64 → Opening start n k cs → Standing cs n k start start (lastRaised n start start)
-seek-start cs n k start size p = record { size = size; opening = p; next = refl; begun = p .ready .reading .long; reached = upTo-refl (take n start); within = omega (arith, last-none n start); fresh = λ h. refl; further = λ h. absurd (omega (arith, last-none n start)) }
+seek-start cs n k start size p =
+    record {
+      size = size;
+      opening = p;
+      next = refl;
+      begun = p .ready .reading .long;
+      reached = upTo-refl (take n start);
+      within = omega (arith, last-none n start);
+      fresh = λ h. refl;
+      further = λ h. absurd (omega (arith, last-none n start));
+    }
 
 module _ (cs : List ℕ) (n k : ℕ) (start ring : List ℕ) (p : ℕ) (at : Standing cs n k start ring p) (i b : ℕ) (found : PlaceFound ring n k cs (record { end = i; shade = b })) where
   long : length (take n ring) ≡ n
@@ -218,7 +233,8 @@ module _ (cs : List ℕ) (n k : ℕ) (start ring : List ℕ) (p : ℕ) (at : Sta
         where
           more : raisedTo (take n start) t ≡ suc (raisedTo (take n start) (take n ring))
           more =
-              raised-more (take n start) (take n ring) t (i - 1) p (long ∙ sym whole) (at .begun ∙ sym whole) (at .reached) (omega (arith, inside, whole)) (subst (λ (x : ℕ). Run (sec t) x (suc (i - 1))) (sym whole) (lifts .run)) (lifts .keeps)
+              raised-more (take n start) (take n ring) t (i - 1) p (long ∙ sym whole) (at .begun ∙ sym whole) (at .reached)
+              (omega (arith, inside, whole)) (subst (λ (x : ℕ). Run (sec t) x (suc (i - 1))) (sym whole) (lifts .run)) (lifts .keeps)
               (omega (arith, lifts .here, rises)) (at .fresh) (λ h. subst (λ (x : ℕ). Run (sec (take n ring)) x p) (sym long) (at .further h .run)) (omega (arith, seek-right))
 
       -- it is a ring of the counts
@@ -232,12 +248,14 @@ module _ (cs : List ℕ) (n k : ℕ) (start ring : List ℕ) (p : ℕ) (at : Sta
       }
 
       -- it is none
-      pub seek-on : false ≡ countedNecklace cs (take n (t ++ drop n (set ring (i - 1) b))) → Standing cs n k start (t ++ drop n (set ring (i - 1) b)) (lastRaised n start (t ++ drop n (set ring (i - 1) b)))
+      pub seek-on : false ≡ countedNecklace cs (take n (t ++ drop n (set ring (i - 1) b))) →
+          Standing cs n k start (t ++ drop n (set ring (i - 1) b)) (lastRaised n start (t ++ drop n (set ring (i - 1) b)))
       seek-on h = rw seek-last (record {
         size = next-holds .size;
         opening = step-opening cs n k ring t (t ++ drop n (set ring (i - 1) b)) (at .opening .ready) step (next-holds .front);
         next = rw (next-holds .front) (sym (step-on cs n k (take n ring) long t step (sym (rw (next-holds .front) at h))) ∙ at .next);
-        further = λ y. rw (next-holds .front) (record { run = rw whole at (rep .run); other = sym (rw (next-holds .front) at h); ring = other-ring .ring; known = other-ring .known; agree = as-begun });
+        further =
+            λ y. rw (next-holds .front) (record { run = rw whole at (rep .run); other = sym (rw (next-holds .front) at h); ring = other-ring .ring; known = other-ring .known; agree = as-begun });
         reached = before-upTo (take n start) (take n (t ++ drop n (set ring (i - 1) b))) risen;
         within = found .within;
         begun = at .begun;
@@ -313,14 +331,16 @@ module _ (cs : List ℕ) (n k : ℕ) (start : List ℕ) (size : length start ≡
     -- no place was raised
     settled-unraised : raisedTo (take n start) t ≡ 0
     settled-unraised =
-        raised-settled (take n start) t e p (settled-long ∙ sym start-long) (rep .run) (settles .opening .fits) (omega (arith, settled-long, settles .inside)) (settles-keeps n (take n start) t e p settles)
+        raised-settled (take n start) t e p (settled-long ∙ sym start-long) (rep .run) (settles .opening .fits)
+        (omega (arith, settled-long, settles .inside)) (settles-keeps n (take n start) t e p settles)
 
     -- and none more on the way to a greater ring
     settled-counts : (u : List ℕ) → nextOf (countedNecklace cs) k t ≡ some u → raisedTo t u ≡ raisedTo (take n start) u
     settled-counts u q =
         let f = next-facts (countedNecklace cs) k t u q in
         sym
-        (raised-from (take n start) t e p (settled-long ∙ sym start-long) (rep .run) (settles .opening .fits) (omega (arith, settled-long, settles .inside)) (settles-keeps n (take n start) t e p settles)
+        (raised-from (take n start) t e p (settled-long ∙ sym start-long) (rep .run)
+        (settles .opening .fits) (omega (arith, settled-long, settles .inside)) (settles-keeps n (take n start) t e p settles)
         u (f .0 .long) (before-upTo t u (f .1)) (settles-rises n (take n start) t e p settles))
 
     -- it is a ring of the counts

@@ -83,7 +83,12 @@ module _ (cs : List ℕ) (n k : ℕ) (w : List ℕ) (long : length w ≡ n) wher
 
 -- a prenecklace that begins like a repetition is not below it
 repeat-floor : (t v : ℕ → ℕ) (n p : ℕ) → Run t n p → Pre v n → ((m : ℕ) → m < p → v m ≡ t m) → Less v t n → ⊥
-repeat-floor t v n p r pre same l = elim (tri (l .at) p) [ lt h ↦ omega (arith, l .less, same (l .at) h) | eq h ↦ run-floor t v n p r pre l (omega arith) | gt h ↦ run-floor t v n p r pre l (omega arith) ]
+repeat-floor t v n p r pre same l =
+    elim (tri (l .at) p) [
+      | lt h ↦ omega (arith, l .less, same (l .at) h)
+      | eq h ↦ run-floor t v n p r pre l (omega arith)
+      | gt h ↦ run-floor t v n p r pre l (omega arith)
+    ]
 
 -- a repetition has the shades of what it repeats
 repeat-shades : (t : ℕ → ℕ) (n p k : ℕ) → Run t n p → ((m : ℕ) → m < p → t m < k) → (m : ℕ) → m < n → t m < k
@@ -106,7 +111,8 @@ module _ (cs : List ℕ) (n k p : ℕ) (w t : List ℕ) (long : length w ≡ n) 
       below : (v : List ℕ) → CountedRing cs n k v → Less (sec w) (sec v) n → Less (sec v) (sec t) n → ⊥
       below v ring d l =
           elim (tri (d .at) (up .at)) [
-            | lt h ↦ less-asym (sec v) (sec t) n l (record { at = d .at; bound = d .bound; agree = λ m q. sym (up .agree m (omega arith)) ∙ d .agree m q; less = omega (arith, d .less, up .agree (d .at) h) })
+            | lt h ↦ less-asym (sec v) (sec t) n l
+                (record { at = d .at; bound = d .bound; agree = λ m q. sym (up .agree m (omega arith)) ∙ d .agree m q; less = omega (arith, d .less, up .agree (d .at) h) })
             | eq h ↦ later v ring d (omega arith) l
             | gt h ↦ later v ring d (omega arith) l
           ]

@@ -51,18 +51,30 @@ module _ (al y r : List ℕ) (c d : ℕ) (within : c ≤ length al) (same : (m :
 
   -- it is smaller at the first difference
   pub parts-under : d < length y → c + d < length al → sec y d < sec al (c + d) → whole ≪ al
-  parts-under h k less = subst (λ x. whole ≪ x) (take-append-drop c al) (under-behind (take c al) (under-longer r (difference-under y (drop c al) d h (omega (arith, length-drop c al)) (λ m l. same m l ∙ sym (getD-drop c al m 0)) (rw (getD-drop c al d 0) less))))
+  parts-under h k less =
+      subst (λ x. whole ≪ x) (take-append-drop c al)
+      (under-behind (take c al)
+      (under-longer r
+      (difference-under y (drop c al) d h (omega (arith, length-drop c al)) (λ m l. same m l ∙ sym (getD-drop c al m 0)) (rw (getD-drop c al d 0) less))))
 
   -- it is greater there
   pub parts-over : d < length y → c + d < length al → sec al (c + d) < sec y d → before whole al ≡ false
-  parts-over h k less = before-asym al whole (under-before (subst (λ x. x ≪ whole) (take-append-drop c al) (under-behind (take c al) (under-extended r (difference-under (drop c al) y d (omega (arith, length-drop c al)) h (λ m l. getD-drop c al m 0 ∙ sym (same m l)) (rw (getD-drop c al d 0) less))))))
+  parts-over h k less =
+      before-asym al whole
+      (under-before
+      (subst (λ x. x ≪ whole) (take-append-drop c al)
+      (under-behind (take c al)
+      (under-extended r
+      (difference-under (drop c al) y d (omega (arith, length-drop c al)) h (λ m l. getD-drop c al m 0 ∙ sym (same m l)) (rw (getD-drop c al d 0) less))))))
 
   -- al ends before there is one
   pub parts-whole : d ≡ length al - c → d ≤ length y → before whole al ≡ false
   parts-whole e h = subst (λ x. before x al ≡ false) (sym becomes) (before-longer al (drop d y ++ r))
     where
       front : take d y ≡ drop c al
-      front = ext-getD 0 (take d y) (drop c al) (length-take-le d y h ∙ e ∙ sym (length-drop c al)) (λ m l. let k : m < d = omega (arith, length-take-le d y h) in getD-take d y m 0 k ∙ same m k ∙ sym (getD-drop c al m 0))
+      front =
+          ext-getD 0 (take d y) (drop c al) (length-take-le d y h ∙ e ∙ sym (length-drop c al))
+          (λ m l. let k : m < d = omega (arith, length-take-le d y h) in getD-take d y m 0 k ∙ same m k ∙ sym (getD-drop c al m 0))
 
       becomes : whole ≡ al ++ (drop d y ++ r)
       becomes =
@@ -110,7 +122,9 @@ module _ (al pre next : List ℕ) (first g a i c : ℕ) (p : Following al pre ne
 
     -- al ends
     pub follow-whole : d ≡ length al - c → Compares al pre next first g a (length al)
-    follow-whole k word s = ranked-over al (take a al ++ word g) (omega (arith, p .within)) (rw (node-word word s) (parts-whole al (take l al) (word (getD next i 0)) c d (omega (arith, p .within)) same k (agree .here)))
+    follow-whole k word s =
+        ranked-over al (take a al ++ word g) (omega (arith, p .within))
+        (rw (node-word word s) (parts-whole al (take l al) (word (getD next i 0)) c d (omega (arith, p .within)) same k (agree .here)))
 
     module _ (goes-on : d ≡ length al - c → ⊥) (less : d < l) where
       pub follow-in : c + d < length al
@@ -118,7 +132,11 @@ module _ (al pre next : List ℕ) (first g a i c : ℕ) (p : Following al pre ne
 
       -- the first difference is smaller
       pub follow-under : sec al d < sec al (c + d) → Compares al pre next first g a 0
-      follow-under k word s = ranked-under al (take a al ++ word g) (omega (arith, p .within)) (rw (node-word word s) (parts-under al (take l al) (word (getD next i 0)) c d (omega (arith, p .within)) same (rw long less) follow-in (rw (getD-take l al d 0 less) k)))
+      follow-under k word s =
+          ranked-under al (take a al ++ word g) (omega (arith, p .within))
+          (rw (node-word word s)
+          (parts-under al (take l al) (word (getD next i 0)) c d (omega (arith, p .within)) same (rw long less) follow-in
+          (rw (getD-take l al d 0 less) k)))
 
       -- or it is greater
       pub follow-over : (sec al d < sec al (c + d) → ⊥) → Compares al pre next first g a (length al)
@@ -131,17 +149,32 @@ module _ (al pre next : List ℕ) (first g a i c : ℕ) (p : Following al pre ne
           k′ = elim (tri (sec al d) (sec al (c + d))) [ lt x ↦ absurd (k x) | eq x ↦ omega arith | gt x ↦ omega arith ]
 
           differs : sec al (c + d) < sec al d
-          differs = elim (tri (sec al d) (sec al (c + d))) [ lt x ↦ absurd (k x) | eq x ↦ absurd (agree .stops (rw long less) (omega (arith, follow-in, length-drop c al)) (getD-take l al d 0 less ∙ x ∙ sym (getD-drop c al d 0))) | gt x ↦ x ]
+          differs =
+              elim (tri (sec al d) (sec al (c + d))) [
+                | lt x ↦ absurd (k x)
+                | eq x ↦ absurd (agree .stops (rw long less) (omega (arith, follow-in, length-drop c al)) (getD-take l al d 0 less ∙ x ∙ sym (getD-drop c al d 0)))
+                | gt x ↦ x
+              ]
 
     -- it agrees as far as it goes
     pub follow-on : (d ≡ length al - c → ⊥) → (d < l → ⊥) → (word : ℕ → List ℕ) → Spelled al pre next first g word → Following al pre next first g a (getD next i 0) (c + l)
-    follow-on goes-on full word₀ s₀ = record { from = omega (arith, p .from, s₀ .onward i (p .from) h); known = s₀ .inside i (p .from) h; within = omega (arith, p .within, agree .there, length-drop c al, agree .here, long); follows = λ word s. node-word word s ∙ sym (append-assoc (take c al) (take l al) (word (getD next i 0))) ∙ ap (λ x. x ++ word (getD next i 0)) (ap (λ x. take c al ++ x) agreed ∙ sym (take-add c l al)) }
+    follow-on goes-on full word₀ s₀ =
+        record {
+          from = omega (arith, p .from, s₀ .onward i (p .from) h);
+          known = s₀ .inside i (p .from) h;
+          within = omega (arith, p .within, agree .there, length-drop c al, agree .here, long);
+          follows =
+              λ word s. node-word word s ∙ sym (append-assoc (take c al) (take l al) (word (getD next i 0)))
+              ∙ ap (λ x. x ++ word (getD next i 0)) (ap (λ x. take c al ++ x) agreed ∙ sym (take-add c l al));
+        }
       where
         all : d ≡ l
         all = elim (tri d l) [ lt x ↦ absurd (full x) | eq x ↦ x | gt x ↦ absurd (omega (arith, agree .here, long)) ]
 
         agreed : take l al ≡ take l (drop c al)
-        agreed = ext-getD 0 (take l al) (take l (drop c al)) (long ∙ sym (length-take-le l (drop c al) (omega (arith, all, agree .there)))) (λ m k. agree .same m (omega (arith, all, long)) ∙ sym (getD-take l (drop c al) m 0 (omega (arith, long))))
+        agreed =
+            ext-getD 0 (take l al) (take l (drop c al)) (long ∙ sym (length-take-le l (drop c al) (omega (arith, all, agree .there))))
+            (λ m k. agree .same m (omega (arith, all, long)) ∙ sym (getD-take l (drop c al) m 0 (omega (arith, long))))
 
   -- a letter
   module _ (h : first ≤ i) where
@@ -149,10 +182,18 @@ module _ (al pre next : List ℕ) (first g a i c : ℕ) (p : Following al pre ne
     letter-word word s = p .follows word s ∙ ap (λ x. take c al ++ x) (s .letter i h (p .known))
 
     pub letter-under : i - 64 < sec al c → Compares al pre next first g a 0
-    letter-under k word s = ranked-under al (take a al ++ word g) (omega (arith, p .within)) (rw (letter-word word s) (parts-under al ((i - 64) ∷ []) [] c 0 (omega (arith, p .within)) (λ m l. absurd (omega arith)) (omega arith) (omega (arith, p .within)) (omega (arith, k, place (sec al) (c + 0) c (omega arith)))))
+    letter-under k word s =
+        ranked-under al (take a al ++ word g) (omega (arith, p .within))
+        (rw (letter-word word s)
+        (parts-under al ((i - 64) ∷ []) [] c 0 (omega (arith, p .within)) (λ m l. absurd (omega arith)) (omega arith) (omega (arith, p .within))
+        (omega (arith, k, place (sec al) (c + 0) c (omega arith)))))
 
     pub letter-over : sec al c < i - 64 → Compares al pre next first g a (length al)
-    letter-over k word s = ranked-over al (take a al ++ word g) (omega (arith, p .within)) (rw (letter-word word s) (parts-over al ((i - 64) ∷ []) [] c 0 (omega (arith, p .within)) (λ m l. absurd (omega arith)) (omega arith) (omega (arith, p .within)) (omega (arith, k, place (sec al) (c + 0) c (omega arith)))))
+    letter-over k word s =
+        ranked-over al (take a al ++ word g) (omega (arith, p .within))
+        (rw (letter-word word s)
+        (parts-over al ((i - 64) ∷ []) [] c 0 (omega (arith, p .within)) (λ m l. absurd (omega arith)) (omega arith) (omega (arith, p .within))
+        (omega (arith, k, place (sec al) (c + 0) c (omega arith)))))
 
     pub letter-same : i - 64 ≡ sec al c → Compares al pre next first g a (c + 1)
     letter-same k word s = record { under = λ e. absurd (omega arith); begins = λ x y. is; over = λ x. rw (is, take-all (c + 1) al x) (before-irrefl al) }

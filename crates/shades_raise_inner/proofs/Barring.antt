@@ -88,7 +88,8 @@ first-tell k rem few past x = elim (tri x k) [ lt h ↦ getD-take k rem x 0 h | 
     none h = List·getD-eq-default (take k rem) 0 {n = x} (omega (arith, length-take-le k rem few)) ∙ sym (past x h)
 
 -- the same where nothing is left of the shades from k on, which are not told
-pub allows-part : (u : List ℕ) (b k : ℕ) (rem : List ℕ) (r : Bool) → b < k → k ≤ length rem → ((x : ℕ) → k ≤ x → getD rem x 0 ≡ 0) → (getD rem b 0 ≡ 0 → ⊥) → Decides (u ++ b ∷ []) (take k (lessOne rem b)) r → Allows u b rem r
+pub allows-part : (u : List ℕ) (b k : ℕ) (rem : List ℕ) (r : Bool) → b < k → k ≤ length rem → ((x : ℕ) → k ≤ x → getD rem x 0 ≡ 0) →
+    (getD rem b 0 ≡ 0 → ⊥) → Decides (u ++ b ∷ []) (take k (lessOne rem b)) r → Allows u b rem r
 allows-part u b k rem r l few past z d =
     allows-pool u b rem r (omega arith) z
     (record {
@@ -109,7 +110,12 @@ counts-long (a ∷ v) cs c = omega (arith, counts-long v (lessOne cs a) (less-co
     some = omega (arith, c a, occurs-here a a v refl)
 
     inside : a < length cs
-    inside = elim (tri a (length cs)) [ lt h ↦ h | eq h ↦ absurd (omega (arith, some, List·getD-eq-default cs 0 {n = a} (omega arith))) | gt h ↦ absurd (omega (arith, some, List·getD-eq-default cs 0 {n = a} (omega arith))) ]
+    inside =
+        elim (tri a (length cs)) [
+          | lt h ↦ h
+          | eq h ↦ absurd (omega (arith, some, List·getD-eq-default cs 0 {n = a} (omega arith)))
+          | gt h ↦ absurd (omega (arith, some, List·getD-eq-default cs 0 {n = a} (omega arith)))
+        ]
 
     sum-less : (cs : List ℕ) (a : ℕ) → 0 < getD cs a 0 → suc (sumOf (lessOne cs a)) ≡ sumOf cs
     sum-less [] a z = absurd (omega arith)
@@ -144,7 +150,11 @@ completing w l b k rem p = record {
     part x = elim (tri x k) [ lt h ↦ omega (arith, getD-take k (lessOne rem b) x 0 h) | eq h ↦ none (omega arith) | gt h ↦ none (omega arith) ]
       where
         none : k ≤ x → getD (take k (lessOne rem b)) x 0 ≤ getD (lessOne rem b) x 0
-        none h = omega (arith, List·getD-eq-default (take k (lessOne rem b)) 0 {n = x} (omega (arith, length-take-le k (lessOne rem b) (omega (arith, length-set rem b (getD rem b 0 - 1), p .shades, p .slots)))))
+        none h =
+            omega (
+              arith,
+              List·getD-eq-default (take k (lessOne rem b)) 0 {n = x} (omega (arith, length-take-le k (lessOne rem b) (omega (arith, length-set rem b (getD rem b 0 - 1), p .shades, p .slots)))),
+            )
 
 -- raising a sector of a prenecklace and cutting behind it gives a Lyndon word
 pub raised-lyndon : (w : List ℕ) (l b : ℕ) → l < length w → prenecklace (take (suc l) w) ≡ true → sec w l < b → lyndon (take l w ++ b ∷ []) ≡ true
@@ -216,7 +226,21 @@ module _ (w : List ℕ) (l k : ℕ) (rem : List ℕ) (r : ℕ) (p : Liftable w l
 
     -- it is barred, and so is each greater one
     pub lift-not : Barred (take l w) r rem → LiftedTo w l k rem k
-    lift-not x = record { lifted = record { above = p .low; most = omega arith; barred = λ b h m. elim (tri b r) [ lt e ↦ below-barred b h e | eq e ↦ subst (λ y. Barred (take l w) y rem) (sym e) x | gt e ↦ barred-above (take l w) r b rem e (raised r (omega (arith, left .from))) (raised b h) (left .some (omega (arith, left .most))) x ] }; fitting = λ h. absurd (omega arith) }
+    lift-not x =
+        record {
+          lifted =
+              record {
+                above = p .low;
+                most = omega arith;
+                barred =
+                    λ b h m. elim (tri b r) [
+                      | lt e ↦ below-barred b h e
+                      | eq e ↦ subst (λ y. Barred (take l w) y rem) (sym e) x
+                      | gt e ↦ barred-above (take l w) r b rem e (raised r (omega (arith, left .from))) (raised b h) (left .some (omega (arith, left .most))) x
+                    ];
+              };
+          fitting = λ h. absurd (omega arith);
+        }
       where
         raised : (b : ℕ) → sec w l < b → lyndon (take l w ++ b ∷ []) ≡ true
         raised b h = raised-lyndon w l b (omega (arith, p .inside, p .size)) (p .pre) h

@@ -38,7 +38,8 @@ pub beginning-pre : (w : List ℕ) (n m : ℕ) → m ≤ n → n ≤ length w �
 beginning-pre w n m h room pre =
     of-pre (take m w)
     (rw (length-take-le m w (omega arith))
-    (pre-through (sec (take n w)) (sec (take m w)) m (λ i k. getD-take n w i 0 (omega arith) ∙ sym (getD-take m w i 0 k)) (pre-shorter (sec (take n w)) n m h (rw (length-take-le n w room) at (pre-of (take n w) pre)))))
+    (pre-through (sec (take n w)) (sec (take m w)) m (λ i k. getD-take n w i 0 (omega arith) ∙ sym (getD-take m w i 0 k))
+    (pre-shorter (sec (take n w)) n m h (rw (length-take-le n w room) at (pre-of (take n w) pre)))))
 
 module _ (cs : List ℕ) (n k : ℕ) (v : List ℕ) (ring : CountedRing cs n k v) where
   -- a ring of counts is a necklace
@@ -112,7 +113,8 @@ module _ (cs : List ℕ) (n k : ℕ) (w : List ℕ) (l b : ℕ) (inside : l < n)
 -- ---- where a ring goes on
 
 -- the shade fits
-pub begun-fitting : (cs : List ℕ) (k : ℕ) (w : List ℕ) (l b : ℕ) (rem : List ℕ) → l ≤ length w → length cs ≡ k → ((m : ℕ) → m < l → sec w m < k) → Remains cs (take l w) rem → Fitting (take l w) b rem →
+pub begun-fitting : (cs : List ℕ) (k : ℕ) (w : List ℕ) (l b : ℕ) (rem : List ℕ) → l ≤ length w → length cs ≡ k → ((m : ℕ) → m < l → sec w m < k) →
+    Remains cs (take l w) rem → Fitting (take l w) b rem →
     Begun cs (sumOf cs) k w l b
 unfolding countedNecklace
 begun-fitting cs k w l b rem room many known r f = record {
@@ -133,7 +135,14 @@ begun-fitting cs k w l b rem room many known r f = record {
 
     past : (x : ℕ) → length cs ≤ x → occurs x v ≡ getD cs x 0
     past x h =
-        omega (arith, occurs-append x (take l w) (b ∷ f .rest), f .letters x, r .past x h, List·getD-eq-default cs 0 {n = x} h, occurs-past x k (take l w) (λ i q. let i< : i < l = omega (arith, short) in rw (getD-take l w i 0 i<) (known i i<)) (omega arith))
+        omega (
+          arith,
+          occurs-append x (take l w) (b ∷ f .rest),
+          f .letters x,
+          r .past x h,
+          List·getD-eq-default cs 0 {n = x} h,
+          occurs-past x k (take l w) (λ i q. let i< : i < l = omega (arith, short) in rw (getD-take l w i 0 i<) (known i i<)) (omega arith),
+        )
 
     counts : (x : ℕ) → occurs x v ≡ getD cs x 0
     counts x =
@@ -189,7 +198,8 @@ module _ (w : List ℕ) (n k : ℕ) (cs : List ℕ) (size : length w ≡ 64) (p 
         past = record {
           within = omega (arith, f .within, front-long);
           blocked = λ l b h m c t. elim (tri (r .end) q) [
-            | lt x ↦ blocked-exceeds cs n k w l b m (omega (arith, p .ready .size)) (exceeds-longer cs w (suc (r .end)) l h (subst (Exceeds cs) (take-take (suc (r .end)) q w (omega arith)) (f .exceeds (omega (arith, front-long)))))
+            | lt x ↦ blocked-exceeds cs n k w l b m (omega (arith, p .ready .size))
+                (exceeds-longer cs w (suc (r .end)) l h (subst (Exceeds cs) (take-take (suc (r .end)) q w (omega arith)) (f .exceeds (omega (arith, front-long)))))
             | eq x ↦ absurd (omega (arith, last x))
             | gt x ↦ absurd (omega (arith, f .within, front-long))
           ];
@@ -240,7 +250,8 @@ module _ (w : List ℕ) (n k : ℕ) (cs : List ℕ) (size : length w ≡ 64) (p 
             above = λ q. rw e (up .lifted .above);
             known = λ q. h;
             between = λ b q. rw e (blocked-here b);
-            begun = λ q. rw e (subst (λ x. Begun cs x k w i r) (p .ready .whole) (begun-fitting cs k w i r rem (omega (arith, at .inside, p .ready .size)) (p .ready .many) (λ m h. known-shade m (omega (arith, at .inside))) (at .remains) (up .fitting h)));
+            begun = λ q. rw e (subst (λ x. Begun cs x k w i r) (p .ready .whole)
+                (begun-fitting cs k w i r rem (omega (arith, at .inside, p .ready .size)) (p .ready .many) (λ m h. known-shade m (omega (arith, at .inside))) (at .remains) (up .fitting h)));
           }
 
       -- it cannot, and it is the first
@@ -258,7 +269,10 @@ module _ (w : List ℕ) (n k : ℕ) (cs : List ℕ) (size : length w ≡ 64) (p 
       pub find-more : (r < k → ⊥) → (i ≡ 0 → ⊥) → Seeking w n k cs (i - 1) (set rem (sec w (i - 1)) (getD rem (sec w (i - 1)) 0 + 1))
       find-more h z = record {
         inside = omega (arith, at .inside);
-        remains = remains-less cs w rem (i - 1) (omega (arith, at .inside, p .ready .size)) (rw (p .ready .many) (known-shade (i - 1) (omega (arith, at .inside)))) (omega (arith, p .ready .many, p .ready .shades)) (subst (λ x. Remains cs (take x w) rem) (let e : i ≡ i - 1 + 1 = omega arith in e) (at .remains));
+        remains =
+            remains-less cs w rem (i - 1) (omega (arith, at .inside, p .ready .size))
+            (rw (p .ready .many) (known-shade (i - 1) (omega (arith, at .inside)))) (omega (arith, p .ready .many, p .ready .shades))
+            (subst (λ x. Remains cs (take x w) rem) (let e : i ≡ i - 1 + 1 = omega arith in e) (at .remains));
         past = record { within = omega (arith, at .inside); blocked = λ l b m. past-here h l b (omega arith) };
       }
 
@@ -302,7 +316,12 @@ module _ {w : List ℕ} {n k : ℕ} {cs : List ℕ} {q i : ℕ} {rem : List ℕ}
   reach-none z = record {
     inside = a .inside;
     remains = a .left;
-    past = record { within = omega (arith, a .inside); blocked = λ l b h m c t. blocked-exceeds cs n k w l b m (omega (arith, ready .size, a .size)) (exceeds-longer cs w (suc i) l h (exceeds-one cs w rem i in-array known few (a .left) z)) };
+    past =
+        record {
+          within = omega (arith, a .inside);
+          blocked =
+              λ l b h m c t. blocked-exceeds cs n k w l b m (omega (arith, ready .size, a .size)) (exceeds-longer cs w (suc i) l h (exceeds-one cs w rem i in-array known few (a .left) z));
+        };
   }
 
   -- none follows it
@@ -342,7 +361,8 @@ module _ {w : List ℕ} {n k : ℕ} {cs : List ℕ} {q i : ℕ} {rem : List ℕ}
       remains = remains-less cs w taken i in-array known few more;
       past = record {
         within = omega (arith, a .inside);
-        blocked = λ l b h m c t. blocked-hopeless cs n k w l b m (omega (arith, ready .size, a .size)) q (i + 1) taken (omega (arith, a .from)) (omega arith) (ready .many) more (λ u v e y. d .no refl u v (λ x. e x ∙ sym (told x)) y);
+        blocked = λ l b h m c t. blocked-hopeless cs n k w l b m (omega (arith, ready .size, a .size)) q (i + 1)
+            taken (omega (arith, a .from)) (omega arith) (ready .many) more (λ u v e y. d .no refl u v (λ x. e x ∙ sym (told x)) y);
       };
     }
 

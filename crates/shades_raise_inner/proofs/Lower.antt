@@ -38,16 +38,25 @@ less-by f g d n b h l = elim (cmp f g (suc d)) [ below c ↦ widen f g (suc d) n
 module _ (v z : ℕ → ℕ) (n l j : ℕ) (inside : l < j) (within : j < n) (keep : (m : ℕ) → (m ≡ l → ⊥) → (m ≡ j → ⊥) → z m ≡ v m) (fall : z l < v l) (rise : v j ≤ z j) where
   -- behind place l nothing falls
   up : (m : ℕ) → l < m → v m ≤ z m
-  up m h = elim (tri m j) [ lt e ↦ omega (arith, keep m (λ q. omega arith) (λ q. omega arith)) | eq e ↦ omega (arith, rise, place v m j e, place z m j e) | gt e ↦ omega (arith, keep m (λ q. omega arith) (λ q. omega arith)) ]
+  up m h =
+      elim (tri m j) [
+        | lt e ↦ omega (arith, keep m (λ q. omega arith) (λ q. omega arith))
+        | eq e ↦ omega (arith, rise, place v m j e, place z m j e)
+        | gt e ↦ omega (arith, keep m (λ q. omega arith) (λ q. omega arith))
+      ]
 
   -- where an ending that begins behind place l does not fall short of the beginning up to place d, and is above it there
   raised : (i d : ℕ) → l < i → d < n - i → d ≤ l → ((m : ℕ) → m < d → v m ≤ v (i + m)) → z d < v (i + d) → Less z (from i z) (n - i)
-  raised i d q b k e s = less-by z (from i z) d (n - i) b (λ m x. omega (arith, keep m (λ y. omega arith) (λ y. omega arith), e m x, up (i + m) (omega arith))) (omega (arith, s, up (i + d) (omega arith)))
+  raised i d q b k e s =
+      less-by z (from i z) d (n - i) b (λ m x. omega (arith, keep m (λ y. omega arith) (λ y. omega arith), e m x, up (i + m) (omega arith)))
+      (omega (arith, s, up (i + d) (omega arith)))
 
   module _ (t : ℕ → ℕ → ℕ) (turns : (i : ℕ) → i < n → Turned v n i (t i)) (neck : Neck v n) (lv : Lyn v (suc l)) where
     -- no ending of at most l sectors is a beginning
     border : (i : ℕ) → i < n → n - i ≤ l → ((m : ℕ) → m < n - i → v m ≡ v (i + m)) → ⊥
-    border i h k e = neck i (t i) h u (record { at = c + d .at; bound = omega (arith, d .bound); agree = same; less = omega (arith, d .less, u .high (c + d .at) (d .at) (omega arith) (omega (arith, d .bound))) })
+    border i h k e =
+        neck i (t i) h u
+        (record { at = c + d .at; bound = omega (arith, d .bound); agree = same; less = omega (arith, d .less, u .high (c + d .at) (d .at) (omega arith) (omega (arith, d .bound))) })
       where
         c : ℕ
         c = n - i
@@ -82,7 +91,12 @@ module _ (v z : ℕ → ℕ) (n l j : ℕ) (inside : l < j) (within : j < n) (ke
             ]
 
         agrees : ((m : ℕ) → m < n - i → v m ≡ v (i + m)) → Less z (from i z) (n - i)
-        agrees e = elim (tri l (n - i)) [ lt b ↦ raised i l q b (omega arith) (λ m x. omega (arith, e m (omega arith))) (omega (arith, fall, e l b)) | eq b ↦ absurd (border i h (omega arith) e) | gt b ↦ absurd (border i h (omega arith) e) ]
+        agrees e =
+            elim (tri l (n - i)) [
+              | lt b ↦ raised i l q b (omega arith) (λ m x. omega (arith, e m (omega arith))) (omega (arith, fall, e l b))
+              | eq b ↦ absurd (border i h (omega arith) e)
+              | gt b ↦ absurd (border i h (omega arith) e)
+            ]
 
     -- z is a Lyndon word
     pub lower-lyn : Lyn z (suc l) → Lyn z n
@@ -99,7 +113,9 @@ other-letter (a ∷ p) q x y (suc m) h = other-letter p q x y m (λ e. h (ap suc
 
 -- a beginning that is a Lyndon word
 begins-lyn : (u : List ℕ) (b : ℕ) (r : List ℕ) → lyndon (u ++ b ∷ []) ≡ true → Lyn (sec (u ++ b ∷ r)) (suc (length u))
-begins-lyn u b r h = lyn-through (sec (u ++ b ∷ [])) (sec (u ++ b ∷ r)) (suc (length u)) (λ m k. agree m k) (subst (Lyn (sec (u ++ b ∷ []))) long (of-lyndon (u ++ b ∷ []) (lyndon-pos (u ++ b ∷ []) h) h))
+begins-lyn u b r h =
+    lyn-through (sec (u ++ b ∷ [])) (sec (u ++ b ∷ r)) (suc (length u)) (λ m k. agree m k)
+    (subst (Lyn (sec (u ++ b ∷ []))) long (of-lyndon (u ++ b ∷ []) (lyndon-pos (u ++ b ∷ []) h) h))
   where
     long : length (u ++ b ∷ []) ≡ suc (length u)
     long = omega (arith, length-append u (b ∷ []))
@@ -194,4 +210,5 @@ lower-fitting u b c rem less lb lc z f = go (cut-at b (f .rest) (omega (arith, f
 
 -- what is barred to a shade that is left is barred to each greater one
 pub barred-above : (u : List ℕ) (b c : ℕ) (rem : List ℕ) → b < c → lyndon (u ++ b ∷ []) ≡ true → lyndon (u ++ c ∷ []) ≡ true → (getD rem b 0 ≡ 0 → ⊥) → Barred u b rem → Barred u c rem
-barred-above u b c rem less lb lc z barred v letters whole = let f = lower-fitting u b c rem less lb lc z (record { rest = v; letters = letters; whole = whole }) in barred (f .rest) (f .letters) (f .whole)
+barred-above u b c rem less lb lc z barred v letters whole =
+    let f = lower-fitting u b c rem less lb lc z (record { rest = v; letters = letters; whole = whole }) in barred (f .rest) (f .letters) (f .whole)

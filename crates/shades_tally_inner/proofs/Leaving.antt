@@ -36,7 +36,11 @@ pub leave-more : (cs u rem : List ℕ) (b x : ℕ) → length cs ≤ 16 → Leav
 leave-more cs u rem b y few l h k e = record {
   size = length-set rem b a ∙ l .size;
   within = omega arith;
-  left = λ x m. elim (tri x b) [ lt q ↦ rw (getD-set-other rem b x a 0 (λ z. omega arith)) (l .left x q) | eq q ↦ rw (q, getD-set-same rem b a 0 (omega (arith, l .size))) (omega arith) | gt q ↦ absurd (omega arith) ];
+  left = λ x m. elim (tri x b) [
+    | lt q ↦ rw (getD-set-other rem b x a 0 (λ z. omega arith)) (l .left x q)
+    | eq q ↦ rw (q, getD-set-same rem b a 0 (omega (arith, l .size))) (omega arith)
+    | gt q ↦ absurd (omega arith)
+  ];
   past = λ x m. getD-set-other rem b x a 0 (λ z. omega arith) ∙ l .past x (omega arith);
 }
   where
@@ -56,11 +60,15 @@ sum-le (x ∷ xs) (y ∷ ys) h = omega (arith, h 0, sum-le xs ys (λ b. h (suc b
 
 -- what is left is no more than the counts
 pub remains-sum : (cs u rem : List ℕ) → Remains cs u rem → sumOf rem ≤ sumOf cs
-remains-sum cs u rem r = sum-le rem cs (λ b. elim (tri b (length cs)) [ lt h ↦ omega (arith, r .left b h) | eq h ↦ omega (arith, r .past b (omega arith)) | gt h ↦ omega (arith, r .past b (omega arith)) ])
+remains-sum cs u rem r =
+    sum-le rem cs
+    (λ b. elim (tri b (length cs)) [ lt h ↦ omega (arith, r .left b h) | eq h ↦ omega (arith, r .past b (omega arith)) | gt h ↦ omega (arith, r .past b (omega arith)) ])
 
 -- one count more, where no sector is taken
 pub leave-untouched : (cs rem : List ℕ) (b : ℕ) → length cs ≤ 16 → Leaving cs [] rem b → b < length cs → Leaving cs [] (set rem b (getD cs b 0)) (b + 1)
-leave-untouched cs rem b few l h = subst (λ x. Leaving cs [] (set rem b x) (b + 1)) (let e : getD cs b 0 - 0 ≡ getD cs b 0 = omega arith in e) (leave-more cs [] rem b 0 few l h (sym (occurs-none b)) (omega arith))
+leave-untouched cs rem b few l h =
+    subst (λ x. Leaving cs [] (set rem b x) (b + 1)) (let e : getD cs b 0 - 0 ≡ getD cs b 0 = omega arith in e)
+    (leave-more cs [] rem b 0 few l h (sym (occurs-none b)) (omega arith))
 
 -- ---- sector after sector
 
@@ -79,7 +87,11 @@ module _ (cs w rem : List ℕ) (i : ℕ) (inside : i < length w) (known : sec w 
   pub remains-more : Remains cs (take i w) rem → (getD rem x 0 ≡ 0 → ⊥) → Remains cs (take (i + 1) w) (set rem x (getD rem x 0 - 1))
   remains-more r z = record {
     size = length-set rem x (getD rem x 0 - 1) ∙ r .size;
-    left = λ b h. elim (tri b x) [ lt e ↦ other b h (λ q. omega arith) | eq e ↦ rw (e, getD-set-same rem x (getD rem x 0 - 1) 0 (omega (arith, r .size))) (omega (arith, one-here, r .left x known)) | gt e ↦ other b h (λ q. omega arith) ];
+    left = λ b h. elim (tri b x) [
+      | lt e ↦ other b h (λ q. omega arith)
+      | eq e ↦ rw (e, getD-set-same rem x (getD rem x 0 - 1) 0 (omega (arith, r .size))) (omega (arith, one-here, r .left x known))
+      | gt e ↦ other b h (λ q. omega arith)
+    ];
     past = λ b h. getD-set-other rem x b (getD rem x 0 - 1) 0 (λ q. omega arith) ∙ r .past b h;
   }
     where
@@ -90,7 +102,11 @@ module _ (cs w rem : List ℕ) (i : ℕ) (inside : i < length w) (known : sec w 
   pub remains-less : Remains cs (take (i + 1) w) rem → Remains cs (take i w) (set rem x (getD rem x 0 + 1))
   remains-less r = record {
     size = length-set rem x (getD rem x 0 + 1) ∙ r .size;
-    left = λ b h. elim (tri b x) [ lt e ↦ other b h (λ q. omega arith) | eq e ↦ rw (e, getD-set-same rem x (getD rem x 0 + 1) 0 (omega (arith, r .size))) (omega (arith, one-here, r .left x known)) | gt e ↦ other b h (λ q. omega arith) ];
+    left = λ b h. elim (tri b x) [
+      | lt e ↦ other b h (λ q. omega arith)
+      | eq e ↦ rw (e, getD-set-same rem x (getD rem x 0 + 1) 0 (omega (arith, r .size))) (omega (arith, one-here, r .left x known))
+      | gt e ↦ other b h (λ q. omega arith)
+    ];
     past = λ b h. getD-set-other rem x b (getD rem x 0 + 1) 0 (λ q. omega arith) ∙ r .past b h;
   }
     where
@@ -103,7 +119,12 @@ module _ (cs w rem : List ℕ) (i : ℕ) (inside : i < length w) (known : sec w 
 
 -- what is more than the counts allow is so with more sectors
 pub exceeds-longer : (cs w : List ℕ) (i j : ℕ) → i ≤ j → Exceeds cs (take i w) → Exceeds cs (take j w)
-exceeds-longer cs w i j h x = record { shade = x .shade; known = x .known; often = omega (arith, x .often, ap (occurs (x .shade)) whole, occurs-append (x .shade) (take i w) (take (j - i) (drop i w))) }
+exceeds-longer cs w i j h x =
+    record {
+      shade = x .shade;
+      known = x .known;
+      often = omega (arith, x .often, ap (occurs (x .shade)) whole, occurs-append (x .shade) (take i w) (take (j - i) (drop i w)));
+    }
   where
     whole : take j w ≡ take i w ++ take (j - i) (drop i w)
     whole = ap (λ n. take n w) (let e : j ≡ i + (j - i) = omega arith in e) ∙ take-add i (j - i) w

@@ -20,16 +20,33 @@ cast-x : tie.Need-cast-x
 cast-x c = omega (arith, c .shared-slice-known3 .given 0)
 
 returns-2 : tie.Need-returns-2
-returns-2 c = let a = c .before .before .before .before .before .before .args in test-low (a .al .now) (a .rem .now) (c .before .before .before .before .before .before .pre) _ (c .before .before .before .least-left .ensures) (omega (arith, c .before .before .before .least-left .ensures .within, c .before .before .if1 .left)) (c .if2 .taken)
+returns-2 c =
+    let a = c .before .before .before .before .before .before .args in
+    test-low (a .al .now) (a .rem .now) (c .before .before .before .before .before .before .pre) _ (c .before .before .before .least-left .ensures)
+    (omega (arith, c .before .before .before .least-left .ensures .within, c .before .before .if1 .left)) (c .if2 .taken)
 
 returns-3 : tie.Need-returns-3
-returns-3 c = let a = c .before .before .before .before .before .before .before .args in test-high (a .al .now) (a .rem .now) (c .before .before .before .before .before .before .before .pre) _ (c .before .before .before .before .least-left .ensures) (omega (arith, c .before .before .before .before .least-left .ensures .within, c .before .before .before .if1 .left)) (c .if3 .taken)
+returns-3 c =
+    let a = c .before .before .before .before .before .before .before .args in
+    test-high (a .al .now) (a .rem .now) (c .before .before .before .before .before .before .before .pre) _
+    (c .before .before .before .before .least-left .ensures)
+    (omega (arith, c .before .before .before .before .least-left .ensures .within, c .before .before .before .if1 .left)) (c .if3 .taken)
 
 returns-4 : tie.Need-returns-4
-returns-4 c = let a = c .before .before .before .before .before .before .before .before .args in test-letter (a .al .now) (a .rem .now) (c .before .before .before .before .before .before .before .before .pre) _ (c .before .before .before .before .before .least-left .ensures) (omega (arith, c .before .before .before .before .before .least-left .ensures .within, c .before .before .before .before .if1 .left)) (λ k. omega (arith, c .before .before .if2 .left)) (λ k. omega (arith, c .before .if3 .left)) (c .if4 .taken)
+returns-4 c =
+    let a = c .before .before .before .before .before .before .before .before .args in
+    test-letter (a .al .now) (a .rem .now) (c .before .before .before .before .before .before .before .before .pre) _
+    (c .before .before .before .before .before .least-left .ensures)
+    (omega (arith, c .before .before .before .before .before .least-left .ensures .within, c .before .before .before .before .if1 .left))
+    (λ k. omega (arith, c .before .before .if2 .left)) (λ k. omega (arith, c .before .if3 .left)) (c .if4 .taken)
 
 decide-requires : tie.Need-decide-requires
-decide-requires c κs = let a = c .before .before .before .before .before .before .before .before .args in test-opened (a .al .now) (a .rem .now) (c .before .before .before .before .before .before .before .before .pre) _ (c .before .before .before .before .before .least-left .ensures) (omega (arith, c .before .before .before .before .before .least-left .ensures .within, c .before .before .before .before .if1 .left)) (λ k. omega (arith, c .before .before .if2 .left)) (λ k. omega (arith, c .before .if3 .left)) (c .if4 .left)
+decide-requires c κs =
+    let a = c .before .before .before .before .before .before .before .before .args in
+    test-opened (a .al .now) (a .rem .now) (c .before .before .before .before .before .before .before .before .pre) _
+    (c .before .before .before .before .before .least-left .ensures)
+    (omega (arith, c .before .before .before .before .before .least-left .ensures .within, c .before .before .before .before .if1 .left))
+    (λ k. omega (arith, c .before .before .if2 .left)) (λ k. omega (arith, c .before .if3 .left)) (c .if4 .left)
 
 returns-5 : tie.Need-returns-5
 returns-5 c = search needs

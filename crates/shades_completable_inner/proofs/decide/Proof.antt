@@ -96,16 +96,38 @@ against-requires : tie.Need-against-requires Inv-loop μ-loop
 against-requires c κs = let t = c .before .before .before .before .before .loop .inv in test-chained t (c .before .before .before .before .if1 .left) (omega (arith, c .before .before .if3 .left))
 
 returns-2 : tie.Need-returns-2 Inv-loop μ-loop
-returns-2 c = let t = c .before .before .before .before .before .before .before .loop .inv in test-under t (c .before .before .before .before .before .before .if1 .left) (omega (arith, c .before .before .before .before .if3 .left)) _ (c .before .against .ensures) (c .if4 .taken)
+returns-2 c =
+    let t = c .before .before .before .before .before .before .before .loop .inv in
+    test-under t (c .before .before .before .before .before .before .if1 .left) (omega (arith, c .before .before .before .before .if3 .left)) _
+    (c .before .against .ensures) (c .if4 .taken)
 
 returns-3 : tie.Need-returns-3 Inv-loop μ-loop
-returns-3 c = let t = c .before .before .before .before .before .before .before .before .loop .inv in test-over t (c .before .before .before .before .before .before .before .if1 .left) (omega (arith, c .before .before .before .before .before .if3 .left)) _ (c .before .before .against .ensures) (c .if5 .taken)
+returns-3 c =
+    let t = c .before .before .before .before .before .before .before .before .loop .inv in
+    test-over t (c .before .before .before .before .before .before .before .if1 .left)
+    (omega (arith, c .before .before .before .before .before .if3 .left)) _ (c .before .before .against .ensures) (c .if5 .taken)
 
 loop-less-3 : tie.Need-loop-less-3 Inv-loop μ-loop
-loop-less-3 c = let t = c .before .before .before .before .before .before .before .before .loop .inv in omega (arith, test-longer t (c .before .before .before .before .before .before .before .if1 .left) (omega (arith, c .before .before .before .before .before .if3 .left)) _ (c .before .before .against .ensures) (c .before .if4 .left) (omega (arith, c .if5 .left)), c .if5 .left)
+loop-less-3 c =
+    let t = c .before .before .before .before .before .before .before .before .loop .inv in
+    omega (
+      arith,
+      test-longer t (c .before .before .before .before .before .before .before .if1 .left)
+          (omega (arith, c .before .before .before .before .before .if3 .left)) _ (c .before .before .against .ensures) (c .before .if4 .left)
+          (omega (arith, c .if5 .left)),
+      c .if5 .left,
+    )
 
 loop-again-3 : tie.Need-loop-again-3 Inv-loop μ-loop
-loop-again-3 c = let t = c .before .before .before .before .before .before .before .before .loop .inv in test-on t (c .before .before .before .before .before .before .before .if1 .left) (omega (arith, c .before .before .before .before .before .if3 .left)) _ (c .before .before .against .ensures) (c .before .if4 .left) (omega (arith, c .if5 .left))
+loop-again-3 c =
+    let t = c .before .before .before .before .before .before .before .before .loop .inv in
+    test-on t (c .before .before .before .before .before .before .before .if1 .left)
+    (omega (arith, c .before .before .before .before .before .if3 .left)) _ (c .before .before .against .ensures) (c .before .if4 .left)
+    (omega (arith, c .if5 .left))
 
 pub decide-spec : {M : Type 1} → statement M
-decide-spec = tie.close (tie.spec Inv-loop μ-loop numbers-requires add-first mul-q shared-slice-read-q add-e loop-holds returns sub-g array-read-x cast-x loop-less loop-again sub-f cast-num array-write-num cast-pre array-write-pre cast-next array-write-next sub-q loop-less-2 loop-again-2 cast-num-2 array-write-num-2 slice-aggregate-against slice-aggregate-against-2 against-requires returns-2 returns-3 loop-less-3 loop-again-3)
+decide-spec =
+    tie.close
+    (tie.spec Inv-loop μ-loop numbers-requires add-first mul-q shared-slice-read-q add-e loop-holds returns sub-g array-read-x cast-x loop-less
+    loop-again sub-f cast-num array-write-num cast-pre array-write-pre cast-next array-write-next sub-q loop-less-2 loop-again-2 cast-num-2
+    array-write-num-2 slice-aggregate-against slice-aggregate-against-2 against-requires returns-2 returns-3 loop-less-3 loop-again-3)

@@ -23,13 +23,34 @@ shared-slice-read-e : tie.Need-shared-slice-read-e Inv-loop μ-loop
 shared-slice-read-e c = search needs
 
 add-e : tie.Need-add-e Inv-loop μ-loop
-add-e c = let l = c .before .before .loop in let a = c .before .before .before .before .before .args in omega (arith, fill-room (a .w .now) (a .counts .now) (l .w) (l .l) (l .b) (l .inv) (c .before .loop-test .taken) (c .before .before .before .before .before .pre .room), l .inv .long)
+add-e c =
+    let l = c .before .before .loop in
+    let a = c .before .before .before .before .before .args in
+    omega (
+      arith,
+      fill-room (a .w .now) (a .counts .now) (l .w) (l .l) (l .b) (l .inv) (c .before .loop-test .taken) (c .before .before .before .before .before .pre .room),
+      l .inv .long,
+    )
 
 cast-put : tie.Need-cast-put Inv-loop μ-loop
-cast-put c = let l = c .before .before .before .loop in let a = c .before .before .before .before .before .before .args in omega (arith, fill-room (a .w .now) (a .counts .now) (l .w) (l .l) (l .b) (l .inv) (c .before .before .loop-test .taken) (c .before .before .before .before .before .before .pre .room), l .inv .long, c .before .before .before .before .before .before .pre .size, c .before .before .before .before .before .before .pre .shades)
+cast-put c =
+    let l = c .before .before .before .loop in
+    let a = c .before .before .before .before .before .before .args in
+    omega (
+      arith,
+      fill-room (a .w .now) (a .counts .now) (l .w) (l .l) (l .b) (l .inv) (c .before .before .loop-test .taken) (c .before .before .before .before .before .before .pre .room),
+      l .inv .long,
+      c .before .before .before .before .before .before .pre .size,
+      c .before .before .before .before .before .before .pre .shades,
+    )
 
 put-requires : tie.Need-put-requires Inv-loop μ-loop
-put-requires c κs = let l = c .before .before .before .loop in let a = c .before .before .before .before .before .before .args in (omega arith, fill-room (a .w .now) (a .counts .now) (l .w) (l .l) (l .b) (l .inv) (c .before .before .loop-test .taken) (c .before .before .before .before .before .before .pre .room))
+put-requires c κs =
+    let l = c .before .before .before .loop in
+    let a = c .before .before .before .before .before .before .args in (
+      omega arith,
+      fill-room (a .w .now) (a .counts .now) (l .w) (l .l) (l .b) (l .inv) (c .before .before .loop-test .taken) (c .before .before .before .before .before .before .pre .room),
+    )
 
 add-b : tie.Need-add-b Inv-loop μ-loop
 add-b c = search needs
@@ -38,7 +59,11 @@ loop-less : tie.Need-loop-less Inv-loop μ-loop
 loop-less c = search needs
 
 loop-again : tie.Need-loop-again Inv-loop μ-loop
-loop-again c = let l = c .before .before .before .before .before .before .loop in let a = c .before .before .before .before .before .before .before .before .before .args in fill-more (a .w .now) (a .counts .now) (l .w) (l .l) (l .b) (l .inv) (c .before .before .before .before .before .loop-test .taken) _ (search needs) (c .before .before .put .ensures)
+loop-again c =
+    let l = c .before .before .before .before .before .before .loop in
+    let a = c .before .before .before .before .before .before .before .before .before .args in
+    fill-more (a .w .now) (a .counts .now) (l .w) (l .l) (l .b) (l .inv) (c .before .before .before .before .before .loop-test .taken) _
+    (search needs) (c .before .before .put .ensures)
 
 same-length : tie.Need-same-length Inv-loop μ-loop
 same-length c = c .before .loop .inv .long

@@ -29,7 +29,12 @@ find-requires : tie.Need-find-requires Inv-loop μ-loop
 find-requires c κs = (c .loop .inv .0 .opening, c .loop .inv .2)
 
 returns : tie.Need-returns Inv-loop μ-loop
-returns c = let l = c .before .before .loop in let a = c .before .before .before .before .args in let r = c .before .find .result in seek-none (a .counts .now) (a .n) (a .k) (a .start) (l .ring) _ (l .inv .0) (r .end) (r .shade) (c .before .find .ensures) (c .if1 .taken) (l .raised) (l .inv .1)
+returns c =
+    let l = c .before .before .loop in
+    let a = c .before .before .before .before .args in
+    let r = c .before .find .result in
+    seek-none (a .counts .now) (a .n) (a .k) (a .start) (l .ring) _ (l .inv .0) (r .end) (r .shade) (c .before .find .ensures) (c .if1 .taken)
+    (l .raised) (l .inv .1)
 
 cast-ring : tie.Need-cast-ring Inv-loop μ-loop
 cast-ring c = omega (arith, c .before .before .find .ensures .known (omega (arith, c .before .if1 .left)), c .before .before .before .before .before .pre .0 .ready .shades)
@@ -44,31 +49,111 @@ array-borrow-prefix-ring : tie.Need-array-borrow-prefix-ring Inv-loop μ-loop
 array-borrow-prefix-ring c = simp length-set (omega (arith, c .before .before .before .loop .inv .0 .size, c .before .before .before .before .before .pre .0 .ready .size))
 
 slice-aggregate-repeat : tie.Need-slice-aggregate-repeat Inv-loop μ-loop
-slice-aggregate-repeat c = sym (length-take-le _ _ (simp length-set (omega (arith, c .before .before .before .before .loop .inv .0 .size, c .before .before .before .before .before .before .pre .0 .ready .size))))
+slice-aggregate-repeat c =
+    sym
+    (length-take-le _ _
+    (simp length-set
+    (omega (arith, c .before .before .before .before .loop .inv .0 .size, c .before .before .before .before .before .before .pre .0 .ready .size))))
 
 repeat-requires : tie.Need-repeat-requires Inv-loop μ-loop
-repeat-requires c κs = let l = c .before .before .before .before .loop in let a = c .before .before .before .before .before .before .args in let r = c .before .before .before .find .result in seek-asks (a .counts .now) (a .n) (a .k) (a .start) (l .ring) _ (l .inv .0) (r .end) (r .shade) (c .before .before .before .find .ensures) (c .before .before .if1 .left)
+repeat-requires c κs =
+    let l = c .before .before .before .before .loop in
+    let a = c .before .before .before .before .before .before .args in
+    let r = c .before .before .before .find .result in
+    seek-asks (a .counts .now) (a .n) (a .k) (a .start) (l .ring) _ (l .inv .0) (r .end) (r .shade) (c .before .before .before .find .ensures)
+    (c .before .before .if1 .left)
 
 add-raised : tie.Need-add-raised Inv-loop μ-loop
-add-raised c = let l = c .before .before .before .before .before .before .loop in let a = c .before .before .before .before .before .before .before .before .args in let r = c .before .before .before .before .before .find .result in omega (arith, seek-few (a .counts .now) (a .n) (a .k) (a .start) (l .ring) _ (l .inv .0) (r .end) (r .shade) (c .before .before .before .before .before .find .ensures) (l .raised) (l .inv .1), c .before .before .before .before .before .before .before .before .pre .0 .ready .size)
+add-raised c =
+    let l = c .before .before .before .before .before .before .loop in
+    let a = c .before .before .before .before .before .before .before .before .args in
+    let r = c .before .before .before .before .before .find .result in
+    omega (
+      arith,
+      seek-few (a .counts .now) (a .n) (a .k) (a .start) (l .ring) _ (l .inv .0) (r .end) (r .shade) (c .before .before .before .before .before .find .ensures) (l .raised) (l .inv .1),
+      c .before .before .before .before .before .before .before .before .pre .0 .ready .size,
+    )
 
 array-share-prefix-ring : tie.Need-array-share-prefix-ring Inv-loop μ-loop
-array-share-prefix-ring c = let l = c .before .before .before .before .before .before .loop in let a = c .before .before .before .before .before .before .before .before .args in let r = c .before .before .before .before .before .find .result in omega (arith, seek-size (a .counts .now) (a .n) (a .k) (a .start) (l .ring) _ (l .inv .0) (r .end) (r .shade) (c .before .before .before .before .before .find .ensures) (c .before .before .before .before .if1 .left) _ (c .before .repeat .ensures), c .before .before .before .before .before .before .before .before .pre .0 .ready .size)
+array-share-prefix-ring c =
+    let l = c .before .before .before .before .before .before .loop in
+    let a = c .before .before .before .before .before .before .before .before .args in
+    let r = c .before .before .before .before .before .find .result in
+    omega (
+      arith,
+      seek-size (a .counts .now) (a .n) (a .k) (a .start) (l .ring) _ (l .inv .0) (r .end) (r .shade)
+          (c .before .before .before .before .before .find .ensures) (c .before .before .before .before .if1 .left) _ (c .before .repeat .ensures),
+      c .before .before .before .before .before .before .before .before .pre .0 .ready .size,
+    )
 
 slice-aggregate-is-counted : tie.Need-slice-aggregate-is-counted Inv-loop μ-loop
-slice-aggregate-is-counted c = let l = c .before .before .before .before .before .before .before .loop in let a = c .before .before .before .before .before .before .before .before .before .args in let r = c .before .before .before .before .before .before .find .result in sym (length-take-le _ _ (omega (arith, seek-size (a .counts .now) (a .n) (a .k) (a .start) (l .ring) _ (l .inv .0) (r .end) (r .shade) (c .before .before .before .before .before .before .find .ensures) (c .before .before .before .before .before .if1 .left) _ (c .before .before .repeat .ensures), c .before .before .before .before .before .before .before .before .before .pre .0 .ready .size)))
+slice-aggregate-is-counted c =
+    let l = c .before .before .before .before .before .before .before .loop in
+    let a = c .before .before .before .before .before .before .before .before .before .args in
+    let r = c .before .before .before .before .before .before .find .result in
+    sym
+    (length-take-le _ _
+    (omega (
+      arith,
+      seek-size (a .counts .now) (a .n) (a .k) (a .start) (l .ring) _ (l .inv .0) (r .end) (r .shade)
+          (c .before .before .before .before .before .before .find .ensures) (c .before .before .before .before .before .if1 .left) _
+          (c .before .before .repeat .ensures),
+      c .before .before .before .before .before .before .before .before .before .pre .0 .ready .size,
+    )))
 
 is-counted-requires : tie.Need-is-counted-requires Inv-loop μ-loop
-is-counted-requires c κs = let l = c .before .before .before .before .before .before .before .loop in let a = c .before .before .before .before .before .before .before .before .before .args in let r = c .before .before .before .before .before .before .find .result in seek-run (a .counts .now) (a .n) (a .k) (a .start) (l .ring) _ (l .inv .0) (r .end) (r .shade) (c .before .before .before .before .before .before .find .ensures) (c .before .before .before .before .before .if1 .left) _ (c .before .before .repeat .ensures)
+is-counted-requires c κs =
+    let l = c .before .before .before .before .before .before .before .loop in
+    let a = c .before .before .before .before .before .before .before .before .before .args in
+    let r = c .before .before .before .before .before .before .find .result in
+    seek-run (a .counts .now) (a .n) (a .k) (a .start) (l .ring) _ (l .inv .0) (r .end) (r .shade)
+    (c .before .before .before .before .before .before .find .ensures) (c .before .before .before .before .before .if1 .left) _
+    (c .before .before .repeat .ensures)
 
 returns-2 : tie.Need-returns-2 Inv-loop μ-loop
-returns-2 c = let l = c .before .before .before .before .before .before .before .before .before .loop in let a = c .before .before .before .before .before .before .before .before .before .before .before .args in let r = c .before .before .before .before .before .before .before .before .find .result in seek-found (a .counts .now) (a .n) (a .k) (a .start) (l .ring) _ (l .inv .0) (r .end) (r .shade) (c .before .before .before .before .before .before .before .before .find .ensures) (c .before .before .before .before .before .before .before .if1 .left) _ (c .before .before .before .before .repeat .ensures) (sym (c .if2 .taken) ∙ c .before .is-counted .ensures) (l .raised) (l .inv .1)
+returns-2 c =
+    let l = c .before .before .before .before .before .before .before .before .before .loop in
+    let a = c .before .before .before .before .before .before .before .before .before .before .before .args in
+    let r = c .before .before .before .before .before .before .before .before .find .result in
+    seek-found (a .counts .now) (a .n) (a .k) (a .start) (l .ring) _ (l .inv .0) (r .end) (r .shade)
+    (c .before .before .before .before .before .before .before .before .find .ensures)
+    (c .before .before .before .before .before .before .before .if1 .left) _ (c .before .before .before .before .repeat .ensures)
+    (sym (c .if2 .taken) ∙ c .before .is-counted .ensures) (l .raised) (l .inv .1)
 
 loop-less : tie.Need-loop-less Inv-loop μ-loop
-loop-less c = let l = c .before .before .before .before .before .before .before .before .before .loop in let a = c .before .before .before .before .before .before .before .before .before .before .before .args in let r = c .before .before .before .before .before .before .before .before .find .result in seek-falls (a .counts .now) (a .n) (a .k) (a .start) (l .ring) _ (l .inv .0) (r .end) (r .shade) (c .before .before .before .before .before .before .before .before .find .ensures) (c .before .before .before .before .before .before .before .if1 .left) _ (c .before .before .before .before .repeat .ensures)
+loop-less c =
+    let l = c .before .before .before .before .before .before .before .before .before .loop in
+    let a = c .before .before .before .before .before .before .before .before .before .before .before .args in
+    let r = c .before .before .before .before .before .before .before .before .find .result in
+    seek-falls (a .counts .now) (a .n) (a .k) (a .start) (l .ring) _ (l .inv .0) (r .end) (r .shade)
+    (c .before .before .before .before .before .before .before .before .find .ensures)
+    (c .before .before .before .before .before .before .before .if1 .left) _ (c .before .before .before .before .repeat .ensures)
 
 loop-again : tie.Need-loop-again Inv-loop μ-loop
-loop-again c = let l = c .before .before .before .before .before .before .before .before .before .loop in let a = c .before .before .before .before .before .before .before .before .before .before .before .args in let r = c .before .before .before .before .before .before .before .before .find .result in (seek-on (a .counts .now) (a .n) (a .k) (a .start) (l .ring) _ (l .inv .0) (r .end) (r .shade) (c .before .before .before .before .before .before .before .before .find .ensures) (c .before .before .before .before .before .before .before .if1 .left) _ (c .before .before .before .before .repeat .ensures) (sym (c .if2 .left) ∙ c .before .is-counted .ensures), seek-counts (a .counts .now) (a .n) (a .k) (a .start) (l .ring) _ (l .inv .0) (r .end) (r .shade) (c .before .before .before .before .before .before .before .before .find .ensures) (c .before .before .before .before .before .before .before .if1 .left) _ (c .before .before .before .before .repeat .ensures) (l .raised) (l .inv .1), headed _ (a .n) (r .end) (omega (arith, seek-size (a .counts .now) (a .n) (a .k) (a .start) (l .ring) _ (l .inv .0) (r .end) (r .shade) (c .before .before .before .before .before .before .before .before .find .ensures) (c .before .before .before .before .before .before .before .if1 .left) _ (c .before .before .before .before .repeat .ensures), c .before .before .before .before .before .before .before .before .before .before .before .pre .0 .ready .size)) (seek-run (a .counts .now) (a .n) (a .k) (a .start) (l .ring) _ (l .inv .0) (r .end) (r .shade) (c .before .before .before .before .before .before .before .before .find .ensures) (c .before .before .before .before .before .before .before .if1 .left) _ (c .before .before .before .before .repeat .ensures)))
+loop-again c =
+    let l = c .before .before .before .before .before .before .before .before .before .loop in
+    let a = c .before .before .before .before .before .before .before .before .before .before .before .args in
+    let r = c .before .before .before .before .before .before .before .before .find .result in (
+      seek-on (a .counts .now) (a .n) (a .k) (a .start) (l .ring) _ (l .inv .0) (r .end) (r .shade)
+          (c .before .before .before .before .before .before .before .before .find .ensures)
+          (c .before .before .before .before .before .before .before .if1 .left) _ (c .before .before .before .before .repeat .ensures)
+          (sym (c .if2 .left) ∙ c .before .is-counted .ensures),
+      seek-counts (a .counts .now) (a .n) (a .k) (a .start) (l .ring) _ (l .inv .0) (r .end) (r .shade)
+          (c .before .before .before .before .before .before .before .before .find .ensures)
+          (c .before .before .before .before .before .before .before .if1 .left) _ (c .before .before .before .before .repeat .ensures) (l .raised)
+          (l .inv .1),
+      headed _ (a .n) (r .end)
+          (omega (
+            arith,
+            seek-size (a .counts .now) (a .n) (a .k) (a .start) (l .ring) _ (l .inv .0) (r .end) (r .shade)
+                (c .before .before .before .before .before .before .before .before .find .ensures)
+                (c .before .before .before .before .before .before .before .if1 .left) _ (c .before .before .before .before .repeat .ensures),
+            c .before .before .before .before .before .before .before .before .before .before .before .pre .0 .ready .size,
+          ))
+          (seek-run (a .counts .now) (a .n) (a .k) (a .start) (l .ring) _ (l .inv .0) (r .end) (r .shade)
+          (c .before .before .before .before .before .before .before .before .find .ensures)
+          (c .before .before .before .before .before .before .before .if1 .left) _ (c .before .before .before .before .repeat .ensures)),
+    )
 
 pub seek-spec : {M : Type 1} → statement M
 seek-spec =

@@ -24,7 +24,11 @@ cast-p : tie.Need-cast-p Inv-loop μ-loop
 cast-p c = omega (arith, c .shared-slice-known4 .given (c .before .before .loop .i))
 
 slice-aggregate-agree : tie.Need-slice-aggregate-agree Inv-loop μ-loop
-slice-aggregate-agree c = sym (length-take-le _ _ (c .before .before .before .before .before .before .before .pre .spelled .short (c .before .before .before .loop .i) (c .before .before .before .loop .inv .from) (c .before .before .loop-test .taken)))
+slice-aggregate-agree c =
+    sym
+    (length-take-le _ _
+    (c .before .before .before .before .before .before .before .pre .spelled .short (c .before .before .before .loop .i)
+    (c .before .before .before .loop .inv .from) (c .before .before .loop-test .taken)))
 
 sub-agree : tie.Need-sub-agree Inv-loop μ-loop
 sub-agree c = search needs
@@ -42,7 +46,13 @@ sub-if1 : tie.Need-sub-if1 Inv-loop μ-loop
 sub-if1 c = search needs
 
 returns : tie.Need-returns Inv-loop μ-loop
-returns c = let l = c .before .before .before .before .before .before .loop in let a = c .before .before .before .before .before .before .before .before .before .before .args in follow-whole (a .al .now) (a .pre .now) (a .next .now) (a .first) (a .g) (a .a) (l .i) (l .c) (l .inv) _ refl (c .before .before .before .before .before .before .before .before .before .before .pre .spelled .short (l .i) (l .inv .from) (c .before .before .before .before .before .loop-test .taken)) (c .before .before .before .before .before .loop-test .taken) _ (c .before .agree .ensures) (c .if1 .taken)
+returns c =
+    let l = c .before .before .before .before .before .before .loop in
+    let a = c .before .before .before .before .before .before .before .before .before .before .args in
+    follow-whole (a .al .now) (a .pre .now) (a .next .now) (a .first) (a .g) (a .a) (l .i) (l .c) (l .inv) _ refl
+    (c .before .before .before .before .before .before .before .before .before .before .pre .spelled .short (l .i) (l .inv .from)
+    (c .before .before .before .before .before .loop-test .taken))
+    (c .before .before .before .before .before .loop-test .taken) _ (c .before .agree .ensures) (c .if1 .taken)
 
 shared-slice-read-if3 : tie.Need-shared-slice-read-if3 Inv-loop μ-loop
 shared-slice-read-if3 c = search needs
@@ -54,10 +64,26 @@ shared-slice-read-if3-2 : tie.Need-shared-slice-read-if3-2 Inv-loop μ-loop
 shared-slice-read-if3-2 c = search needs
 
 returns-2 : tie.Need-returns-2 Inv-loop μ-loop
-returns-2 c = let l = c .before .before .before .before .before .before .before .before .before .before .loop in let a = c .before .before .before .before .before .before .before .before .before .before .before .before .before .before .args in follow-under (a .al .now) (a .pre .now) (a .next .now) (a .first) (a .g) (a .a) (l .i) (l .c) (l .inv) _ refl (c .before .before .before .before .before .before .before .before .before .before .before .before .before .before .pre .spelled .short (l .i) (l .inv .from) (c .before .before .before .before .before .before .before .before .before .loop-test .taken)) (c .before .before .before .before .before .before .before .before .before .loop-test .taken) _ (c .before .before .before .before .before .agree .ensures) (c .before .before .before .before .if1 .left) (c .before .before .before .if2 .taken) (c .if3 .taken)
+returns-2 c =
+    let l = c .before .before .before .before .before .before .before .before .before .before .loop in
+    let a = c .before .before .before .before .before .before .before .before .before .before .before .before .before .before .args in
+    follow-under (a .al .now) (a .pre .now) (a .next .now) (a .first) (a .g) (a .a) (l .i) (l .c) (l .inv) _ refl
+    (c .before .before .before .before .before .before .before .before .before .before .before .before .before .before .pre .spelled .short (l .i)
+    (l .inv .from) (c .before .before .before .before .before .before .before .before .before .loop-test .taken))
+    (c .before .before .before .before .before .before .before .before .before .loop-test .taken) _
+    (c .before .before .before .before .before .agree .ensures) (c .before .before .before .before .if1 .left) (c .before .before .before .if2 .taken)
+    (c .if3 .taken)
 
 returns-3 : tie.Need-returns-3 Inv-loop μ-loop
-returns-3 c = let l = c .before .before .before .before .before .before .before .before .before .before .loop in let a = c .before .before .before .before .before .before .before .before .before .before .before .before .before .before .args in follow-over (a .al .now) (a .pre .now) (a .next .now) (a .first) (a .g) (a .a) (l .i) (l .c) (l .inv) _ refl (c .before .before .before .before .before .before .before .before .before .before .before .before .before .before .pre .spelled .short (l .i) (l .inv .from) (c .before .before .before .before .before .before .before .before .before .loop-test .taken)) (c .before .before .before .before .before .before .before .before .before .loop-test .taken) _ (c .before .before .before .before .before .agree .ensures) (c .before .before .before .before .if1 .left) (c .before .before .before .if2 .taken) (λ k. omega (arith, c .if3 .left))
+returns-3 c =
+    let l = c .before .before .before .before .before .before .before .before .before .before .loop in
+    let a = c .before .before .before .before .before .before .before .before .before .before .before .before .before .before .args in
+    follow-over (a .al .now) (a .pre .now) (a .next .now) (a .first) (a .g) (a .a) (l .i) (l .c) (l .inv) _ refl
+    (c .before .before .before .before .before .before .before .before .before .before .before .before .before .before .pre .spelled .short (l .i)
+    (l .inv .from) (c .before .before .before .before .before .before .before .before .before .loop-test .taken))
+    (c .before .before .before .before .before .before .before .before .before .loop-test .taken) _
+    (c .before .before .before .before .before .agree .ensures) (c .before .before .before .before .if1 .left) (c .before .before .before .if2 .taken)
+    (λ k. omega (arith, c .if3 .left))
 
 add-c : tie.Need-add-c Inv-loop μ-loop
 add-c c = search needs
@@ -69,10 +95,26 @@ cast-i : tie.Need-cast-i Inv-loop μ-loop
 cast-i c = omega (arith, c .shared-slice-known7 .given (c .before .before .before .before .before .before .before .before .loop .i))
 
 loop-less : tie.Need-loop-less Inv-loop μ-loop
-loop-less c = let l = c .before .before .before .before .before .before .before .before .loop in omega (arith, c .before .before .before .before .before .before .before .before .before .before .before .before .pre .spelled .onward (l .i) (l .inv .from) (c .before .before .before .before .before .before .before .loop-test .taken), l .inv .known)
+loop-less c =
+    let l = c .before .before .before .before .before .before .before .before .loop in
+    omega (
+      arith,
+      c .before .before .before .before .before .before .before .before .before .before .before .before .pre .spelled .onward (l .i) (l .inv .from)
+          (c .before .before .before .before .before .before .before .loop-test .taken),
+      l .inv .known,
+    )
 
 loop-again : tie.Need-loop-again Inv-loop μ-loop
-loop-again c = let l = c .before .before .before .before .before .before .before .before .loop in let a = c .before .before .before .before .before .before .before .before .before .before .before .before .args in follow-on (a .al .now) (a .pre .now) (a .next .now) (a .first) (a .g) (a .a) (l .i) (l .c) (l .inv) _ refl (c .before .before .before .before .before .before .before .before .before .before .before .before .pre .spelled .short (l .i) (l .inv .from) (c .before .before .before .before .before .before .before .loop-test .taken)) (c .before .before .before .before .before .before .before .loop-test .taken) _ (c .before .before .before .agree .ensures) (c .before .before .if1 .left) (λ k. omega (arith, c .before .if2 .left)) (c .before .before .before .before .before .before .before .before .before .before .before .before .pre .word) (c .before .before .before .before .before .before .before .before .before .before .before .before .pre .spelled)
+loop-again c =
+    let l = c .before .before .before .before .before .before .before .before .loop in
+    let a = c .before .before .before .before .before .before .before .before .before .before .before .before .args in
+    follow-on (a .al .now) (a .pre .now) (a .next .now) (a .first) (a .g) (a .a) (l .i) (l .c) (l .inv) _ refl
+    (c .before .before .before .before .before .before .before .before .before .before .before .before .pre .spelled .short (l .i) (l .inv .from)
+    (c .before .before .before .before .before .before .before .loop-test .taken))
+    (c .before .before .before .before .before .before .before .loop-test .taken) _ (c .before .before .before .agree .ensures)
+    (c .before .before .if1 .left) (λ k. omega (arith, c .before .if2 .left))
+    (c .before .before .before .before .before .before .before .before .before .before .before .before .pre .word)
+    (c .before .before .before .before .before .before .before .before .before .before .before .before .pre .spelled)
 
 sub-x : tie.Need-sub-x Inv-loop μ-loop
 sub-x c = omega (arith, c .loop-test .left, c .before .before .before .before .before .pre .low)
@@ -84,16 +126,28 @@ cast-y : tie.Need-cast-y Inv-loop μ-loop
 cast-y c = omega (arith, c .shared-slice-known8 .given (c .before .before .loop .c))
 
 returns-4 : tie.Need-returns-4 Inv-loop μ-loop
-returns-4 c = let l = c .before .before .before .loop in let a = c .before .before .before .before .before .before .before .args in letter-under (a .al .now) (a .pre .now) (a .next .now) (a .first) (a .g) (a .a) (l .i) (l .c) (l .inv) (omega (arith, c .before .before .loop-test .left)) (c .if4 .taken)
+returns-4 c =
+    let l = c .before .before .before .loop in
+    let a = c .before .before .before .before .before .before .before .args in
+    letter-under (a .al .now) (a .pre .now) (a .next .now) (a .first) (a .g) (a .a) (l .i) (l .c) (l .inv)
+    (omega (arith, c .before .before .loop-test .left)) (c .if4 .taken)
 
 returns-5 : tie.Need-returns-5 Inv-loop μ-loop
-returns-5 c = let l = c .before .before .before .before .loop in let a = c .before .before .before .before .before .before .before .before .args in letter-over (a .al .now) (a .pre .now) (a .next .now) (a .first) (a .g) (a .a) (l .i) (l .c) (l .inv) (omega (arith, c .before .before .before .loop-test .left)) (c .if5 .taken)
+returns-5 c =
+    let l = c .before .before .before .before .loop in
+    let a = c .before .before .before .before .before .before .before .before .args in
+    letter-over (a .al .now) (a .pre .now) (a .next .now) (a .first) (a .g) (a .a) (l .i) (l .c) (l .inv)
+    (omega (arith, c .before .before .before .loop-test .left)) (c .if5 .taken)
 
 add-result : tie.Need-add-result Inv-loop μ-loop
 add-result c = search needs
 
 returns-6 : tie.Need-returns-6 Inv-loop μ-loop
-returns-6 c = let l = c .before .before .before .before .loop in let a = c .before .before .before .before .before .before .before .before .args in letter-same (a .al .now) (a .pre .now) (a .next .now) (a .first) (a .g) (a .a) (l .i) (l .c) (l .inv) (omega (arith, c .before .before .before .loop-test .left)) (omega (arith, c .if5 .left, c .before .if4 .left))
+returns-6 c =
+    let l = c .before .before .before .before .loop in
+    let a = c .before .before .before .before .before .before .before .before .args in
+    letter-same (a .al .now) (a .pre .now) (a .next .now) (a .first) (a .g) (a .a) (l .i) (l .c) (l .inv)
+    (omega (arith, c .before .before .before .loop-test .left)) (omega (arith, c .if5 .left, c .before .if4 .left))
 
 pub against-spec : {M : Type 1} → statement M
 against-spec =

@@ -27,10 +27,15 @@ add-t16 : tie.Need-add-t16 Inv-loop μ-loop
 add-t16 c = omega (arith, c .before .before .before .before .loop .inv .inside, c .before .before .before .before .before .before .before .before .pre .0 .ready .size)
 
 returns : tie.Need-returns Inv-loop μ-loop
-returns c = find-found _ _ _ _ (search needs) (c .before .before .before .before .before .before .before .before .pre .0) _ _ (c .before .before .before .before .loop .inv) _ (c .before .lift .ensures) (c .if1 .taken)
+returns c =
+    find-found _ _ _ _ (search needs) (c .before .before .before .before .before .before .before .before .pre .0) _ _
+    (c .before .before .before .before .loop .inv) _ (c .before .lift .ensures) (c .if1 .taken)
 
 returns-2 : tie.Need-returns-2 Inv-loop μ-loop
-returns-2 c = find-end _ _ _ _ (search needs) (c .before .before .before .before .before .before .before .before .before .pre .0) _ _ (c .before .before .before .before .before .loop .inv) _ (c .before .before .lift .ensures) (λ h. omega (arith, c .before .if1 .left)) (c .if2 .taken)
+returns-2 c =
+    find-end _ _ _ _ (search needs) (c .before .before .before .before .before .before .before .before .before .pre .0) _ _
+    (c .before .before .before .before .before .loop .inv) _ (c .before .before .lift .ensures) (λ h. omega (arith, c .before .if1 .left))
+    (c .if2 .taken)
 
 sub-i : tie.Need-sub-i Inv-loop μ-loop
 sub-i c = search needs
@@ -39,25 +44,58 @@ array-read-x : tie.Need-array-read-x Inv-loop μ-loop
 array-read-x c = omega (arith, c .before .before .before .before .before .loop .inv .inside, c .before .before .before .before .before .before .before .before .before .pre .0 .ready .size)
 
 cast-x : tie.Need-cast-x Inv-loop μ-loop
-cast-x c = omega (arith, find-shade _ _ _ _ (search needs) (c .before .before .before .before .before .before .before .before .before .pre .0) _ _ (c .before .before .before .before .before .loop .inv) _ (c .before .before .lift .ensures) (c .if2 .left))
+cast-x c =
+    omega (
+      arith,
+      find-shade _ _ _ _ (search needs) (c .before .before .before .before .before .before .before .before .before .pre .0) _ _
+          (c .before .before .before .before .before .loop .inv) _ (c .before .before .lift .ensures) (c .if2 .left),
+    )
 
 mul-rem : tie.Need-mul-rem Inv-loop μ-loop
-mul-rem c = omega (arith, find-shade _ _ _ _ (search needs) (c .before .before .before .before .before .before .before .before .before .pre .0) _ _ (c .before .before .before .before .before .loop .inv) _ (c .before .before .lift .ensures) (c .if2 .left))
+mul-rem c =
+    omega (
+      arith,
+      find-shade _ _ _ _ (search needs) (c .before .before .before .before .before .before .before .before .before .pre .0) _ _
+          (c .before .before .before .before .before .loop .inv) _ (c .before .before .lift .ensures) (c .if2 .left),
+    )
 
 array-read-rem : tie.Need-array-read-rem Inv-loop μ-loop
-array-read-rem c = omega (arith, find-shade _ _ _ _ (search needs) (c .before .before .before .before .before .before .before .before .before .pre .0) _ _ (c .before .before .before .before .before .loop .inv) _ (c .before .before .lift .ensures) (c .if2 .left), c .before .before .before .before .before .loop .inv .remains .size)
+array-read-rem c =
+    omega (
+      arith,
+      find-shade _ _ _ _ (search needs) (c .before .before .before .before .before .before .before .before .before .pre .0) _ _
+          (c .before .before .before .before .before .loop .inv) _ (c .before .before .lift .ensures) (c .if2 .left),
+      c .before .before .before .before .before .loop .inv .remains .size,
+    )
 
 add-rem : tie.Need-add-rem Inv-loop μ-loop
-add-rem c = omega (arith, find-count _ _ _ _ (search needs) (c .before .before .before .before .before .before .before .before .before .pre .0) _ _ (c .before .before .before .before .before .loop .inv) _ (c .before .before .lift .ensures) (getD (c .before .before .before .before .before .before .before .before .before .args .t1) (c .before .before .before .before .before .loop .i - 1) 0))
+add-rem c =
+    omega (
+      arith,
+      find-count _ _ _ _ (search needs) (c .before .before .before .before .before .before .before .before .before .pre .0) _ _
+          (c .before .before .before .before .before .loop .inv) _ (c .before .before .lift .ensures)
+          (getD (c .before .before .before .before .before .before .before .before .before .args .t1)
+          (c .before .before .before .before .before .loop .i - 1) 0),
+    )
 
 array-write-rem : tie.Need-array-write-rem Inv-loop μ-loop
-array-write-rem c = omega (arith, find-shade _ _ _ _ (search needs) (c .before .before .before .before .before .before .before .before .before .pre .0) _ _ (c .before .before .before .before .before .loop .inv) _ (c .before .before .lift .ensures) (c .if2 .left), c .before .before .before .before .before .loop .inv .remains .size)
+array-write-rem c =
+    omega (
+      arith,
+      find-shade _ _ _ _ (search needs) (c .before .before .before .before .before .before .before .before .before .pre .0) _ _
+          (c .before .before .before .before .before .loop .inv) _ (c .before .before .lift .ensures) (c .if2 .left),
+      c .before .before .before .before .before .loop .inv .remains .size,
+    )
 
 loop-less : tie.Need-loop-less Inv-loop μ-loop
 loop-less c = search needs
 
 loop-again : tie.Need-loop-again Inv-loop μ-loop
-loop-again c = find-more _ _ _ _ (search needs) (c .before .before .before .before .before .before .before .before .before .pre .0) _ _ (c .before .before .before .before .before .loop .inv) _ (c .before .before .lift .ensures) (λ h. omega (arith, c .before .if1 .left)) (c .if2 .left)
+loop-again c =
+    find-more _ _ _ _ (search needs) (c .before .before .before .before .before .before .before .before .before .pre .0) _ _
+    (c .before .before .before .before .before .loop .inv) _ (c .before .before .lift .ensures) (λ h. omega (arith, c .before .if1 .left))
+    (c .if2 .left)
 
 pub find-spec : {M : Type 1} → statement M
-find-spec = tie.close (tie.spec Inv-loop μ-loop reach-requires loop-holds lift-requires add-t16 returns returns-2 sub-i array-read-x cast-x mul-rem array-read-rem add-rem array-write-rem loop-less loop-again)
+find-spec =
+    tie.close (tie.spec Inv-loop μ-loop reach-requires loop-holds lift-requires add-t16 returns returns-2 sub-i array-read-x cast-x mul-rem array-read-rem add-rem array-write-rem loop-less loop-again)

@@ -25,10 +25,14 @@ possible-requires : tie.Need-possible-requires
 possible-requires c κs = lift-asks _ _ _ _ _ (c .before .before .before .pre) (c .before .left-from .ensures) (c .if1 .left)
 
 returns-2 : tie.Need-returns-2
-returns-2 c = lift-found _ _ _ _ _ (c .before .before .before .before .before .pre) (c .before .before .before .left-from .ensures) (c .before .before .if1 .left) (c .before .possible .ensures .yes (c .if2 .taken))
+returns-2 c =
+    lift-found _ _ _ _ _ (c .before .before .before .before .before .pre) (c .before .before .before .left-from .ensures)
+    (c .before .before .if1 .left) (c .before .possible .ensures .yes (c .if2 .taken))
 
 returns-3 : tie.Need-returns-3
-returns-3 c = lift-not _ _ _ _ _ (c .before .before .before .before .before .pre) (c .before .before .before .left-from .ensures) (c .before .before .if1 .left) (c .before .possible .ensures .no (c .if2 .left))
+returns-3 c =
+    lift-not _ _ _ _ _ (c .before .before .before .before .before .pre) (c .before .before .before .left-from .ensures) (c .before .before .if1 .left)
+    (c .before .possible .ensures .no (c .if2 .left))
 
 pub lift-spec : {M : Type 1} → statement M
 lift-spec = tie.close (tie.spec element-copy-out-left-from cast-left-from add-left-from left-from-requires returns possible-requires returns-2 returns-3)

@@ -49,13 +49,31 @@ array-share-prefix-left : tie.Need-array-share-prefix-left
 array-share-prefix-left c = simp length-set (omega (arith, c .before .before .before .before .before .pre .shades, c .before .before .before .before .before .pre .slots))
 
 slice-aggregate-completable-2 : tie.Need-slice-aggregate-completable-2
-slice-aggregate-completable-2 c = sym (length-take-le _ _ (simp length-set (omega (arith, c .before .before .before .before .before .before .pre .shades, c .before .before .before .before .before .before .pre .slots))))
+slice-aggregate-completable-2 c =
+    sym (length-take-le _ _ (simp length-set (omega (arith, c .before .before .before .before .before .before .pre .shades, c .before .before .before .before .before .before .pre .slots))))
 
 completable-requires : tie.Need-completable-requires
 completable-requires c κs = completing _ _ _ _ _ (c .before .before .before .before .before .before .pre)
 
 returns-2 : tie.Need-returns-2
-returns-2 c = let a = c .before .before .before .before .before .before .before .args in allows-part (take (a .l) (a .w .now)) (a .b) (a .k) (a .rem .now) _ (c .before .before .before .before .before .before .before .pre .shade) (omega (arith, c .before .before .before .before .before .before .before .pre .shades, c .before .before .before .before .before .before .before .pre .slots)) (c .before .before .before .before .before .before .before .pre .past) (c .before .before .before .before .before .if1 .left) (rw (add-one (a .l), take-suc-set (a .w .now) (a .l) (a .b) (omega (arith, c .before .before .before .before .before .before .before .pre .inside, c .before .before .before .before .before .before .before .pre .size))) at (c .completable .ensures))
+returns-2 c =
+    let a = c .before .before .before .before .before .before .before .args in
+    allows-part (take (a .l) (a .w .now)) (a .b) (a .k) (a .rem .now) _ (c .before .before .before .before .before .before .before .pre .shade)
+    (omega (arith, c .before .before .before .before .before .before .before .pre .shades, c .before .before .before .before .before .before .before .pre .slots))
+    (c .before .before .before .before .before .before .before .pre .past) (c .before .before .before .before .before .if1 .left)
+    (rw (
+      add-one (a .l),
+      take-suc-set (a .w .now) (a .l) (a .b)
+          (omega (
+            arith,
+            c .before .before .before .before .before .before .before .pre .inside,
+            c .before .before .before .before .before .before .before .pre .size,
+          )),
+    )
+    at (c .completable .ensures))
 
 pub possible-spec : {M : Type 1} → statement M
-possible-spec = tie.close (tie.spec mul-if1 element-copy-out-if1 returns cast-al array-write-al mul-left array-read-left sub-left array-write-left add-al array-share-prefix-al slice-aggregate-completable array-share-prefix-left slice-aggregate-completable-2 completable-requires returns-2)
+possible-spec =
+    tie.close
+    (tie.spec mul-if1 element-copy-out-if1 returns cast-al array-write-al mul-left array-read-left sub-left array-write-left add-al
+    array-share-prefix-al slice-aggregate-completable array-share-prefix-left slice-aggregate-completable-2 completable-requires returns-2)

@@ -23,13 +23,20 @@ array-share-prefix-w : tie.Need-array-share-prefix-w Inv-loop μ-loop
 array-share-prefix-w c = find-part _ _ _ _ (search needs) (c .before .before .pre .0) (c .before .before .args .n - 1) (omega (arith, c .before .before .pre .0 .ready .pos))
 
 slice-aggregate-fitting : tie.Need-slice-aggregate-fitting Inv-loop μ-loop
-slice-aggregate-fitting c = sym (length-take-le _ _ (find-part _ _ _ _ (search needs) (c .before .before .before .pre .0) (c .before .before .before .args .n - 1) (omega (arith, c .before .before .before .pre .0 .ready .pos))))
+slice-aggregate-fitting c =
+    sym
+    (length-take-le _ _
+    (find-part _ _ _ _ (search needs) (c .before .before .before .pre .0) (c .before .before .before .args .n - 1)
+    (omega (arith, c .before .before .before .pre .0 .ready .pos))))
 
 fitting-requires : tie.Need-fitting-requires Inv-loop μ-loop
 fitting-requires c κs = find-fits _ _ _ _ (search needs) (c .before .before .before .pre .0) (c .before .before .before .args .n - 1) (omega (arith, c .before .before .before .pre .0 .ready .pos))
 
 returns : tie.Need-returns Inv-loop μ-loop
-returns c = find-start _ _ _ _ (search needs) (c .before .before .before .before .pre .0) (c .before .before .before .before .args .n - 1) (omega (arith, c .before .before .before .before .pre .0 .ready .pos)) _ (c .fitting .ensures) (λ e. omega (arith, c .before .before .before .before .pre .0 .ready .pos))
+returns c =
+    find-start _ _ _ _ (search needs) (c .before .before .before .before .pre .0) (c .before .before .before .before .args .n - 1)
+    (omega (arith, c .before .before .before .before .pre .0 .ready .pos)) _ (c .fitting .ensures)
+    (λ e. omega (arith, c .before .before .before .before .pre .0 .ready .pos))
 
 array-share-prefix-w-2 : tie.Need-array-share-prefix-w-2 Inv-loop μ-loop
 array-share-prefix-w-2 c = find-part _ _ _ _ (search needs) (c .before .before .pre .0) (c .before .before .args .p) (omega (arith, c .if1 .left))
@@ -41,10 +48,25 @@ fitting-requires-2 : tie.Need-fitting-requires-2 Inv-loop μ-loop
 fitting-requires-2 c κs = find-fits _ _ _ _ (search needs) (c .before .before .before .pre .0) (c .before .before .before .args .p) (omega (arith, c .before .if1 .left))
 
 returns-2 : tie.Need-returns-2 Inv-loop μ-loop
-returns-2 c = find-start _ _ _ _ (search needs) (c .before .before .before .before .before .before .pre .0) (c .before .before .before .before .before .before .args .p) (omega (arith, c .before .before .before .before .if1 .left)) (c .before .before .fitting2 .result) (c .before .before .fitting2 .ensures) (λ e. absurd (omega (arith, c .if2 .taken)))
+returns-2 c =
+    find-start _ _ _ _ (search needs) (c .before .before .before .before .before .before .pre .0)
+    (c .before .before .before .before .before .before .args .p) (omega (arith, c .before .before .before .before .if1 .left))
+    (c .before .before .fitting2 .result) (c .before .before .fitting2 .ensures) (λ e. absurd (omega (arith, c .if2 .taken)))
 
 loop-holds : tie.Need-loop-holds Inv-loop μ-loop
-loop-holds c = record { size = search needs; opening = c .before .before .before .before .before .before .before .pre .0; head = c .before .before .before .before .before .before .before .pre .1; short = omega (arith, c .before .before .before .before .before .if1 .left); from = omega arith; inside = omega (arith, c .before .before .before .before .before .if1 .left); left = reach-start _ _ _ _ (search needs) (c .before .before .before .before .before .before .before .pre .0) (c .before .before .before .before .before .before .before .args .p) (omega (arith, c .before .before .before .before .before .if1 .left)) (c .before .before .before .fitting2 .result) (c .before .before .before .fitting2 .ensures) (λ h. omega (arith, c .before .if2 .left)) }
+loop-holds c =
+    record {
+      size = search needs;
+      opening = c .before .before .before .before .before .before .before .pre .0;
+      head = c .before .before .before .before .before .before .before .pre .1;
+      short = omega (arith, c .before .before .before .before .before .if1 .left);
+      from = omega arith;
+      inside = omega (arith, c .before .before .before .before .before .if1 .left);
+      left =
+          reach-start _ _ _ _ (search needs) (c .before .before .before .before .before .before .before .pre .0)
+          (c .before .before .before .before .before .before .before .args .p) (omega (arith, c .before .before .before .before .before .if1 .left))
+          (c .before .before .before .fitting2 .result) (c .before .before .before .fitting2 .ensures) (λ h. omega (arith, c .before .if2 .left));
+    }
 
 add-loop : tie.Need-add-loop Inv-loop μ-loop
 add-loop c = omega (arith, c .loop .inv .inside, c .before .before .before .before .before .before .before .before .pre .0 .ready .size)
@@ -86,16 +108,40 @@ loop-again : tie.Need-loop-again Inv-loop μ-loop
 loop-again c = reach-more (c .before .before .before .loop .inv) (c .before .if3 .left) (c .before .before .loop-test .taken)
 
 array-share-prefix-w-3 : tie.Need-array-share-prefix-w-3 Inv-loop μ-loop
-array-share-prefix-w-3 c = omega (arith, c .before .before .before .loop .inv .short, c .before .before .before .loop .inv .size, c .before .before .before .before .before .before .before .before .before .before .before .pre .0 .ready .size)
+array-share-prefix-w-3 c =
+    omega (
+      arith,
+      c .before .before .before .loop .inv .short,
+      c .before .before .before .loop .inv .size,
+      c .before .before .before .before .before .before .before .before .before .before .before .pre .0 .ready .size,
+    )
 
 slice-aggregate-completable : tie.Need-slice-aggregate-completable Inv-loop μ-loop
-slice-aggregate-completable c = sym (length-take-le _ _ (omega (arith, c .before .before .before .before .loop .inv .short, c .before .before .before .before .loop .inv .size, c .before .before .before .before .before .before .before .before .before .before .before .before .pre .0 .ready .size)))
+slice-aggregate-completable c =
+    sym
+    (length-take-le _ _
+    (omega (
+      arith,
+      c .before .before .before .before .loop .inv .short,
+      c .before .before .before .before .loop .inv .size,
+      c .before .before .before .before .before .before .before .before .before .before .before .before .pre .0 .ready .size,
+    )))
 
 array-share-prefix-rem : tie.Need-array-share-prefix-rem Inv-loop μ-loop
-array-share-prefix-rem c = simp length-set (omega (arith, c .before .before .before .before .loop .inv .left .size, c .before .before .before .before .before .before .before .before .before .before .before .before .pre .0 .ready .shades))
+array-share-prefix-rem c =
+    simp length-set
+    (omega (arith, c .before .before .before .before .loop .inv .left .size, c .before .before .before .before .before .before .before .before .before .before .before .before .pre .0 .ready .shades))
 
 slice-aggregate-completable-2 : tie.Need-slice-aggregate-completable-2 Inv-loop μ-loop
-slice-aggregate-completable-2 c = sym (length-take-le _ _ (simp length-set (omega (arith, c .before .before .before .before .before .loop .inv .left .size, c .before .before .before .before .before .before .before .before .before .before .before .before .before .pre .0 .ready .shades))))
+slice-aggregate-completable-2 c =
+    sym
+    (length-take-le _ _
+    (simp length-set
+    (omega (
+      arith,
+      c .before .before .before .before .before .loop .inv .left .size,
+      c .before .before .before .before .before .before .before .before .before .before .before .before .before .pre .0 .ready .shades,
+    ))))
 
 completable-requires : tie.Need-completable-requires Inv-loop μ-loop
 completable-requires c κs = reach-asks (c .before .before .before .before .before .loop .inv) (c .before .before .before .if3 .left)
@@ -107,25 +153,46 @@ array-read-rem-2 : tie.Need-array-read-rem-2 Inv-loop μ-loop
 array-read-rem-2 c = omega (arith, reach-shade (c .before .before .before .before .before .before .before .loop .inv))
 
 add-rem : tie.Need-add-rem Inv-loop μ-loop
-add-rem c = omega (arith, reach-count (c .before .before .before .before .before .before .before .loop .inv) (c .before .before .before .before .before .if3 .left) (getD (c .before .before .before .before .before .before .before .before .before .before .before .before .before .before .before .args .t1) (c .before .before .before .before .before .before .before .loop .i) 0))
+add-rem c =
+    omega (
+      arith,
+      reach-count (c .before .before .before .before .before .before .before .loop .inv) (c .before .before .before .before .before .if3 .left)
+          (getD (c .before .before .before .before .before .before .before .before .before .before .before .before .before .before .before .args .t1)
+          (c .before .before .before .before .before .before .before .loop .i) 0),
+    )
 
 array-write-rem-2 : tie.Need-array-write-rem-2 Inv-loop μ-loop
 array-write-rem-2 c = omega (arith, reach-shade (c .before .before .before .before .before .before .before .loop .inv))
 
 returns-4 : tie.Need-returns-4 Inv-loop μ-loop
-returns-4 c = reach-stop (c .before .before .before .before .before .before .before .loop .inv) (c .before .before .before .before .before .if3 .left) (rw (not-true (c .before .completable .result) (c .if5 .taken)) at (c .before .completable .ensures))
+returns-4 c =
+    reach-stop (c .before .before .before .before .before .before .before .loop .inv) (c .before .before .before .before .before .if3 .left)
+    (rw (not-true (c .before .completable .result) (c .if5 .taken)) at (c .before .completable .ensures))
 
 add-i-2 : tie.Need-add-i-2 Inv-loop μ-loop
-add-i-2 c = omega (arith, c .before .before .before .before .before .before .before .loop .inv .inside, c .before .before .before .before .before .before .before .before .before .before .before .before .before .before .before .pre .0 .ready .size)
+add-i-2 c =
+    omega (
+      arith,
+      c .before .before .before .before .before .before .before .loop .inv .inside,
+      c .before .before .before .before .before .before .before .before .before .before .before .before .before .before .before .pre .0 .ready .size,
+    )
 
 loop-less-2 : tie.Need-loop-less-2 Inv-loop μ-loop
 loop-less-2 c = omega (arith, c .before .before .before .before .before .before .before .loop .inv .inside)
 
 loop-again-2 : tie.Need-loop-again-2 Inv-loop μ-loop
-loop-again-2 c = reach-more (c .before .before .before .before .before .before .before .loop .inv) (c .before .before .before .before .before .if3 .left) (c .before .before .before .before .before .before .loop-test .taken)
+loop-again-2 c =
+    reach-more (c .before .before .before .before .before .before .before .loop .inv) (c .before .before .before .before .before .if3 .left)
+    (c .before .before .before .before .before .before .loop-test .taken)
 
 returns-5 : tie.Need-returns-5 Inv-loop μ-loop
 returns-5 c = reach-end (c .before .loop .inv) (λ h. omega (arith, c .loop-test .left))
 
 pub reach-spec : {M : Type 1} → statement M
-reach-spec = tie.close (tie.spec Inv-loop μ-loop sub-w array-share-prefix-w slice-aggregate-fitting fitting-requires returns array-share-prefix-w-2 slice-aggregate-fitting-2 fitting-requires-2 returns-2 loop-holds add-loop array-read-x cast-x mul-if3 array-read-if3 returns-3 mul-rem array-read-rem sub-rem array-write-rem add-i loop-less loop-again array-share-prefix-w-3 slice-aggregate-completable array-share-prefix-rem slice-aggregate-completable-2 completable-requires mul-rem-2 array-read-rem-2 add-rem array-write-rem-2 returns-4 add-i-2 loop-less-2 loop-again-2 returns-5)
+reach-spec =
+    tie.close
+    (tie.spec Inv-loop μ-loop sub-w array-share-prefix-w slice-aggregate-fitting fitting-requires returns array-share-prefix-w-2
+    slice-aggregate-fitting-2 fitting-requires-2 returns-2 loop-holds add-loop array-read-x cast-x mul-if3 array-read-if3 returns-3 mul-rem
+    array-read-rem sub-rem array-write-rem add-i loop-less loop-again array-share-prefix-w-3 slice-aggregate-completable array-share-prefix-rem
+    slice-aggregate-completable-2 completable-requires mul-rem-2 array-read-rem-2 add-rem array-write-rem-2 returns-4 add-i-2 loop-less-2 loop-again-2
+    returns-5)

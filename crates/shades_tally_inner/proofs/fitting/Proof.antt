@@ -27,25 +27,65 @@ cast-x : tie.Need-cast-x Inv-loop μ-loop
 cast-x c = omega (arith, c .shared-slice-known3 .given (c .before .before .loop .i))
 
 mul-if1 : tie.Need-mul-if1 Inv-loop μ-loop
-mul-if1 c = omega (arith, c .before .before .before .before .before .before .pre .known (c .before .before .loop .i) (c .before .loop-test .taken), c .before .before .before .before .before .before .pre .few, c .before .before .loop .inv .1 .size)
+mul-if1 c =
+    omega (
+      arith,
+      c .before .before .before .before .before .before .pre .known (c .before .before .loop .i) (c .before .loop-test .taken),
+      c .before .before .before .before .before .before .pre .few,
+      c .before .before .loop .inv .1 .size,
+    )
 
 array-read-if1 : tie.Need-array-read-if1 Inv-loop μ-loop
-array-read-if1 c = omega (arith, c .before .before .before .before .before .before .pre .known (c .before .before .loop .i) (c .before .loop-test .taken), c .before .before .before .before .before .before .pre .few, c .before .before .loop .inv .1 .size)
+array-read-if1 c =
+    omega (
+      arith,
+      c .before .before .before .before .before .before .pre .known (c .before .before .loop .i) (c .before .loop-test .taken),
+      c .before .before .before .before .before .before .pre .few,
+      c .before .before .loop .inv .1 .size,
+    )
 
 returns : tie.Need-returns Inv-loop μ-loop
-returns c = let l = c .before .before .before .loop in let a = c .before .before .before .before .before .before .before .args in record { within = l .inv .0; remains = l .inv .1; exceeds = λ h. exceeds-one (a .counts .now) (a .s .now) (l .rem) (l .i) (c .before .before .loop-test .taken) (c .before .before .before .before .before .before .before .pre .known (l .i) (c .before .before .loop-test .taken)) (c .before .before .before .before .before .before .before .pre .few) (l .inv .1) (c .if1 .taken) }
+returns c =
+    let l = c .before .before .before .loop in
+    let a = c .before .before .before .before .before .before .before .args in
+    record {
+      within = l .inv .0;
+      remains = l .inv .1;
+      exceeds =
+          λ h. exceeds-one (a .counts .now) (a .s .now) (l .rem) (l .i)
+          (c .before .before .loop-test .taken)
+          (c .before .before .before .before .before .before .before .pre .known (l .i) (c .before .before .loop-test .taken)) (c .before .before .before .before .before .before .before .pre .few) (l .inv .1) (c .if1 .taken);
+    }
 
 mul-rem : tie.Need-mul-rem Inv-loop μ-loop
-mul-rem c = omega (arith, c .before .before .before .before .before .before .before .pre .known (c .before .before .before .loop .i) (c .before .before .loop-test .taken), c .before .before .before .before .before .before .before .pre .few, c .before .before .before .loop .inv .1 .size)
+mul-rem c =
+    omega (
+      arith,
+      c .before .before .before .before .before .before .before .pre .known (c .before .before .before .loop .i) (c .before .before .loop-test .taken),
+      c .before .before .before .before .before .before .before .pre .few,
+      c .before .before .before .loop .inv .1 .size,
+    )
 
 array-read-rem : tie.Need-array-read-rem Inv-loop μ-loop
-array-read-rem c = omega (arith, c .before .before .before .before .before .before .before .pre .known (c .before .before .before .loop .i) (c .before .before .loop-test .taken), c .before .before .before .before .before .before .before .pre .few, c .before .before .before .loop .inv .1 .size)
+array-read-rem c =
+    omega (
+      arith,
+      c .before .before .before .before .before .before .before .pre .known (c .before .before .before .loop .i) (c .before .before .loop-test .taken),
+      c .before .before .before .before .before .before .before .pre .few,
+      c .before .before .before .loop .inv .1 .size,
+    )
 
 sub-rem : tie.Need-sub-rem Inv-loop μ-loop
 sub-rem c = search needs
 
 array-write-rem : tie.Need-array-write-rem Inv-loop μ-loop
-array-write-rem c = omega (arith, c .before .before .before .before .before .before .before .pre .known (c .before .before .before .loop .i) (c .before .before .loop-test .taken), c .before .before .before .before .before .before .before .pre .few, c .before .before .before .loop .inv .1 .size)
+array-write-rem c =
+    omega (
+      arith,
+      c .before .before .before .before .before .before .before .pre .known (c .before .before .before .loop .i) (c .before .before .loop-test .taken),
+      c .before .before .before .before .before .before .before .pre .few,
+      c .before .before .before .loop .inv .1 .size,
+    )
 
 add-i : tie.Need-add-i Inv-loop μ-loop
 add-i c = search needs
@@ -54,7 +94,14 @@ loop-less : tie.Need-loop-less Inv-loop μ-loop
 loop-less c = search needs
 
 loop-again : tie.Need-loop-again Inv-loop μ-loop
-loop-again c = let l = c .before .before .before .loop in let a = c .before .before .before .before .before .before .before .args in (omega arith, remains-more (a .counts .now) (a .s .now) (l .rem) (l .i) (c .before .before .loop-test .taken) (c .before .before .before .before .before .before .before .pre .known (l .i) (c .before .before .loop-test .taken)) (c .before .before .before .before .before .before .before .pre .few) (l .inv .1) (c .if1 .left))
+loop-again c =
+    let l = c .before .before .before .loop in
+    let a = c .before .before .before .before .before .before .before .args in (
+      omega arith,
+      remains-more (a .counts .now) (a .s .now) (l .rem) (l .i) (c .before .before .loop-test .taken)
+          (c .before .before .before .before .before .before .before .pre .known (l .i) (c .before .before .loop-test .taken))
+          (c .before .before .before .before .before .before .before .pre .few) (l .inv .1) (c .if1 .left),
+    )
 
 returns-2 : tie.Need-returns-2 Inv-loop μ-loop
 returns-2 c = record { within = c .before .loop .inv .0; remains = c .before .loop .inv .1; exceeds = λ h. absurd (omega (arith, c .loop-test .left)) }

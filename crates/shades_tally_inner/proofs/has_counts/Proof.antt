@@ -29,7 +29,10 @@ shared-slice-read-if1 : tie.Need-shared-slice-read-if1 Inv-loop μ-loop
 shared-slice-read-if1 c = search needs
 
 returns : tie.Need-returns Inv-loop μ-loop
-returns c = let a = c .before .before .before .before .before .before .before .args in counts-not (a .counts .now) (a .s .now) (c .before .before .before .before .loop .b) (c .before .before .before .loop-test .taken) (λ e. c .if1 .taken (c .before .before .tally .ensures ∙ e))
+returns c =
+    let a = c .before .before .before .before .before .before .before .args in
+    counts-not (a .counts .now) (a .s .now) (c .before .before .before .before .loop .b) (c .before .before .before .loop-test .taken)
+    (λ e. c .if1 .taken (c .before .before .tally .ensures ∙ e))
 
 add-b : tie.Need-add-b Inv-loop μ-loop
 add-b c = search needs

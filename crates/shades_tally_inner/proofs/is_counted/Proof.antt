@@ -14,7 +14,9 @@ has-counts-requires : tie.Need-has-counts-requires
 has-counts-requires c κs = search needs
 
 returns-2 : tie.Need-returns-2
-returns-2 c = let a = c .before .before .before .before .args in counted-is (a .counts .now) (a .s .now) (a .p) (c .before .before .before .before .pre) (c .before .if1 .left) _ (c .has-counts .ensures)
+returns-2 c =
+    let a = c .before .before .before .before .args in
+    counted-is (a .counts .now) (a .s .now) (a .p) (c .before .before .before .before .pre) (c .before .if1 .left) _ (c .has-counts .ensures)
 
 pub is-counted-spec : {M : Type 1} → statement M
 is-counted-spec = tie.close (tie.spec rem-if1 returns has-counts-requires returns-2)

@@ -35,7 +35,13 @@ loop-less : tie.Need-loop-less Inv-loop μ-loop
 loop-less c = search needs
 
 loop-again : tie.Need-loop-again Inv-loop μ-loop
-loop-again c = let l = c .before .before .before .loop in let a = c .before .before .before .before .args in ⊎-elim (λ m. rw (m .1) (tally-hit (a .b) (a .s .now) (l .i) (l .x) (c .before .before .loop-test .taken) (l .inv .0) (m .0 .taken), omega arith, omega arith)) (λ m. rw (m .1) (tally-miss (a .b) (a .s .now) (l .i) (l .x) (c .before .before .loop-test .taken) (l .inv .0) (m .0 .left), omega arith, omega arith)) (c .if1 .came)
+loop-again c =
+    let l = c .before .before .before .loop in
+    let a = c .before .before .before .before .args in
+    ⊎-elim
+    (λ m. rw (m .1) (tally-hit (a .b) (a .s .now) (l .i) (l .x) (c .before .before .loop-test .taken) (l .inv .0) (m .0 .taken), omega arith, omega arith))
+    (λ m. rw (m .1) (tally-miss (a .b) (a .s .now) (l .i) (l .x) (c .before .before .loop-test .taken) (l .inv .0) (m .0 .left), omega arith, omega arith))
+    (c .if1 .came)
 
 returns : tie.Need-returns Inv-loop μ-loop
 returns c = tally-end _ _ _ _ (c .loop-test .left) (c .before .loop .inv .0)
