@@ -138,7 +138,7 @@ RATTLE
 # build_calls [KIT]: room/libcalls.a, the library of those calls for C. It is a crate that only stands here, in a repository of links to the proved crates, so that
 # neither the repository nor its gate has it. The crates are proved first where they are not yet. KIT is another toolchain's folder to build it by.
 build_calls() {
-    crates='home walk_spec walk_bracelet_spec walk shades_spec shades'
+    crates='rings refusal home_spec home walk_spec walk_bracelet_spec walk shades_spec shades'
     say "what is not proved yet is proved first, which may take minutes"
     # shellcheck disable=SC2086
     if ! said=$(cd "$top" && rt check $crates 2>&1); then
