@@ -1,6 +1,6 @@
-// The converting program (02, j), for a catalogue of any size: it goes through the file on standard input twice, block after block. The first time it checks the whole;
-// only where that is good it goes through it again, and writes. A block begins where the last whole record of the one before it ended, and is read from there. No
-// public calls: no contract can say what is read and written.
+// The converting program (02, j), for a catalogue of any size. No public calls: no contract can say what is read and written.
+// It goes through the file on standard input twice, block after block. The first time it checks the whole; only where that is good it goes through it again, and
+// writes. A block begins where the last whole record of the one before it ended, and is read from there.
 
 use converter_blocks::Stretch;
 use libc::SEEK_CUR;
