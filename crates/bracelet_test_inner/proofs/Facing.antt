@@ -25,7 +25,7 @@ use Rattle.ring_laws.proofs.Run.{Run, Pre, smaller}
 use Rattle.ring_laws.proofs.Words.{pre-of, necklace-prenecklace}
 use Rattle.ring_laws.proofs.Lyndon.{run-necklace, necklace-run}
 use Rattle.classify_inner.specs.declared.Begun.{Begun}
-use Rattle.classify_inner.specs.Beginning.{Opened}
+use Rattle.classify_inner.specs.Beginning.{LongestPrenecklace}
 use Rattle.home_turns_inner.specs.Around.{Around}
 use Rattle.bracelet_laws.proofs.Places.{rot, mir, rot-low, rot-high}
 use Rattle.bracelet_laws.proofs.Words.{brace-of, turns-bracelet, mirror-at, bracelet-necklace}
@@ -67,7 +67,7 @@ mirror-place n i j r h l a =
 
 -- ---- the scan from left to right
 
-module _ (w : List ℕ) (r : Begun) (opened : Opened w r) where
+module _ (w : List ℕ) (r : Begun) (opened : LongestPrenecklace w r) where
   -- it broke off: no prenecklace
   pub scan-broken : r .end < length w → bracelet w ≡ false
   scan-broken h =

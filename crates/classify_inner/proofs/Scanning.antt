@@ -10,7 +10,7 @@ use Rattle.rings.specs.declared.Class.the-variants.{Loose, Opening, Repeating, 
 use Rattle.rings.specs.Class.{classOf}
 use Rattle.rings.specs.Open.{open-all}
 use Rattle.classify_inner.specs.declared.Begun.{Begun}
-use Rattle.classify_inner.specs.Beginning.{Opened}
+use Rattle.classify_inner.specs.Beginning.{LongestPrenecklace}
 use Rattle.ring_laws.proofs.Run.{Run, lyn-self, lyn-one, same, greater}
 use Rattle.ring_laws.proofs.Classes.{class-loose, class-opening, class-repeating, class-single}
 
@@ -41,11 +41,11 @@ module _ (w : List ℕ) (i j : ℕ) (r : Runs w i j) where
       record { short = omega arith; run = rw (q, add-one i) (lyn-self (sec w) (suc i) (omega arith) (greater (sec w) i (i - j) (r .run) (omega (arith, held)))) }
 
   -- a smaller one: the beginning so far is the longest prenecklace
-  pub scan-breaks : i < length w → getD w i 0 < getD w j 0 → Opened w (record { end = i; lyn = i - j })
+  pub scan-breaks : i < length w → getD w i 0 < getD w j 0 → LongestPrenecklace w (record { end = i; lyn = i - j })
   scan-breaks b h = record { run = r .run; within = omega arith; breaks = λ q. omega (arith, held) }
 
   -- no sector left
-  pub scan-whole : i ≤ length w → length w ≤ i → Opened w (record { end = length w; lyn = length w - j })
+  pub scan-whole : i ≤ length w → length w ≤ i → LongestPrenecklace w (record { end = length w; lyn = length w - j })
   scan-whole b h =
       let e : i ≡ length w = omega arith in
       record { run = rw e at (r .run); within = omega arith; breaks = λ q. absurd (omega arith) }
@@ -58,7 +58,7 @@ unfolding open-all
 class-empty [] h = refl
 class-empty (a ∷ w) h = absurd (omega arith)
 
-module _ (w : List ℕ) (r : Begun) (opened : Opened w r) where
+module _ (w : List ℕ) (r : Begun) (opened : LongestPrenecklace w r) where
   pub class-broken : r .end < length w → Loose (r .end) ≡ classOf w
   class-broken h = sym (class-loose w (r .end) (r .lyn) (opened .run) h (opened .breaks h))
 

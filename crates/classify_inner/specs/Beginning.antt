@@ -7,7 +7,7 @@ use Rattle.ring_laws.specs.Run.{Run}
 use Rattle.classify_inner.specs.declared.Begun.{Begun}
 
 -- the first `end` sectors are a prenecklace with this lyn, and with the next one they are none
-pub record Opened (s : List ℕ) (r : Begun) : Type 0 where
+pub record LongestPrenecklace (s : List ℕ) (r : Begun) : Type 0 where
   pub run : Run (sec s) (r .end) (r .lyn)
   pub within : r .end ≤ length s
   pub breaks : r .end < length s → sec s (r .end) < sec s (r .end - r .lyn)

@@ -6,7 +6,7 @@ ghost use mathlib.Core.Path.{_≡_};
 ghost use Prim.Native.Nat.{_<_};
 ghost use lib.ListN.{length};
 ghost use Rattle.rings.specs.Class.{classOf, tagOf, valueOf, isLoose, isNecklace, loosePlace};
-ghost use Rattle.classify_inner.specs.Beginning.{Opened};
+ghost use Rattle.classify_inner.specs.Beginning.{LongestPrenecklace};
 
 // How far a reading is a prenecklace: its longest beginning that is one ends before `end`, and the lyn of that beginning is `lyn`.
 pub struct Begun {
@@ -18,7 +18,7 @@ pub struct Begun {
 // sector i is held to (000, Theorem 2.1). It asks for at least one sector.
 pub fn scan(s: &[u8]) -> Begun
     requires { ⌜ 0 < length (now s) ⌝ }
-    ensures { λ r. ⌜ Opened (now (s .entry)) r ⌝ }
+    ensures { λ r. ⌜ LongestPrenecklace (now (s .entry)) r ⌝ }
 {
     let n = s.len();
     let mut j: usize = 0;

@@ -16,7 +16,7 @@ use Rattle.converter_spec.specs.Converts.{Sound, Turned, Damaged}
 use Rattle.converter_spec.proofs.Through.{turned-length}
 use Rattle.converter_blocks_spec.specs.declared.Stretch.{Stretch}
 use Rattle.converter_blocks_spec.specs.declared.Stretch.the-variants.{Records, Refused}
-use Rattle.converter_blocks_spec.specs.Blocks.{Lasting, nothing, begun, Rest, Stays, StretchSays, TurnSays}
+use Rattle.converter_blocks_spec.specs.Blocks.{Lasting, nothing, begun, LeftOver, Stays, StretchSays, TurnSays}
 use Rattle.converter_blocks_spec.proofs.Places.{Torn, damage-torn}
 use Rattle.converter_blocks.specs.Says.{LeftSays}
 
@@ -57,7 +57,7 @@ left-other r false e f = (refl, other-number r f)
 
 -- ---- the block
 
-none : (last : Bool) (t : List ℕ) → t ≡ [] → Rest last t
+none : (last : Bool) (t : List ℕ) → t ≡ [] → LeftOver last t
 none true t e = e
 none false t e = nothing e
 

@@ -23,8 +23,8 @@ use Rattle.converter_spec.specs.Steps.{SoundSays}
 use Rattle.converter_spec.proofs.Unique.{turned-sound, one-damage, sound-damaged, one-convert}
 use Rattle.converter_blocks_spec.specs.declared.Stretch.the-variants as S
 use Rattle.converter_blocks_spec.specs.Blocks.{Unfinished, nothing, begun, Stays, StretchSays}
-use Rattle.converter_blocks_spec.specs.Passes.{moved, blockOf, Reaches, Checks, Writes}
-use Rattle.converter_blocks_spec.specs.Passes.Checks.{further, good, bad}
+use Rattle.converter_blocks_spec.specs.Passes.{moved, blockOf, Reaches, ChecksBlocks, Writes}
+use Rattle.converter_blocks_spec.specs.Passes.ChecksBlocks.{further, good, bad}
 use Rattle.converter_blocks_spec.specs.Passes.Writes.{part, rest}
 use Rattle.converter_blocks_spec.proofs.Joined.{sound-joined, damage-joined, damage-lasts, turned-joined}
 use Rattle.converter_blocks_spec.proofs.Places.{damage-moved, begun-short}
@@ -75,7 +75,7 @@ check-on c p e C.Good s l h = rw (take-append-drop e (drop p c)) at (sound-joine
 check-on c p e (C.Refused r) s l h =
     rw (take-append-drop e (drop p c)) at (damage-joined (take e (drop p c)) (drop e (drop p c)) p r s (rw l (rw (ahead c p e) at h)))
 
-check-from : (c : List ℕ) (p : ℕ) (v : Checked) → Checks c p v → From c p v
+check-from : (c : List ℕ) (p : ℕ) (v : Checked) → ChecksBlocks c p v → From c p v
 check-from c p v (further m e s r) = let q = taken c p m e (s .0) in check-on c p e v (rw q at (s .1)) (taken-long c p m e (s .0)) (check-from c (p + e) v r)
 check-from c p v (good m e l s) =
     let f = all (blockOf c p m) e (s .2) in
@@ -83,7 +83,7 @@ check-from c p v (good m e l s) =
     rw (f, g) at (s .1)
 check-from c p v (bad m last r l s) = bad-at c p m last r l s
 
-pub check-whole : (c : List ℕ) (v : Checked) → Checks c 0 v → SoundSays c v
+pub check-whole : (c : List ℕ) (v : Checked) → ChecksBlocks c 0 v → SoundSays c v
 check-whole c C.Good h = check-from c 0 C.Good h
 check-whole c (C.Refused r) h = check-from c 0 (C.Refused r) h
 
@@ -100,7 +100,7 @@ same-answer c b (C.Refused q) Converted d l s h = absurd (sound-damaged c 0 q (t
 same-answer c b (C.Refused q) (Refused r) d l s (room e f, k) = absurd (f l)
 same-answer c b (C.Refused q) (Refused r) d l s (damaged e f, k) = ap Refused (one-damage c 0 r q f s)
 
-pub check-converts : (c b : List ℕ) (v : Checked) (r : Conversion) (d : List ℕ) → Checks c 0 v → length b ≡ length c → ConvertSays c b r d → r ≡ answerOf v
+pub check-converts : (c b : List ℕ) (v : Checked) (r : Conversion) (d : List ℕ) → ChecksBlocks c 0 v → length b ≡ length c → ConvertSays c b r d → r ≡ answerOf v
 check-converts c b v r d g l h = same-answer c b v r d l (check-whole c v g) h
 
 -- ---- the second pass

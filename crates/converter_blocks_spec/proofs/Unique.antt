@@ -20,7 +20,7 @@ use Rattle.converter_spec.specs.Converts.Damaged.{here, later}
 use Rattle.converter_spec.proofs.Unique.{one-turned, one-damage, sound-damaged}
 use Rattle.converter_blocks_spec.specs.declared.Stretch.{Stretch}
 use Rattle.converter_blocks_spec.specs.declared.Stretch.the-variants.{Records, Refused}
-use Rattle.converter_blocks_spec.specs.Blocks.{Lasting, Unfinished, nothing, begun, Rest, Stays, StretchSays, Unturned, TurnSays}
+use Rattle.converter_blocks_spec.specs.Blocks.{Lasting, Unfinished, nothing, begun, LeftOver, Stays, StretchSays, Unturned, TurnSays}
 use Rattle.converter_blocks_spec.specs.Blocks.Unturned.{room, damaged}
 use Rattle.converter_blocks_spec.proofs.Joined.{damage-joined}
 use Rattle.converter_blocks_spec.proofs.Places.{broken-moved}

@@ -28,16 +28,16 @@ pub data Unfinished (t : List ℕ) : Type 0 where
   begun : Given (oldOrder t 0) (Cut 0) → Unfinished t
 
 -- what is left behind m bytes of whole records
-abbrev pub Rest : Bool → List ℕ → Type 0
-Rest true t = t ≡ []
-Rest false t = Unfinished t
+abbrev pub LeftOver : Bool → List ℕ → Type 0
+LeftOver true t = t ≡ []
+LeftOver false t = Unfinished t
 
 abbrev pub Stays : Bool → Refusal → Type 0
 Stays true r = Unit
 Stays false r = Lasting r
 
 abbrev pub StretchSays : List ℕ → Bool → Stretch → Type 0
-StretchSays b last (Records m) = (m ≤ length b) × Sound (take m b) × Rest last (drop m b)
+StretchSays b last (Records m) = (m ≤ length b) × Sound (take m b) × LeftOver last (drop m b)
 StretchSays b last (Refused r) = Damaged b 0 r × Stays last r
 
 -- ---- converting

@@ -1,7 +1,7 @@
 -- The two passes over an old catalogue c, block after block: each block begins at a place p of c, with what stands there, and ends anywhere.
 --     moved p r           the refusal r, its place counted from p bytes before
 --     blockOf c p m       the block of c that begins at p and has m bytes, or fewer where c ends
---     Checks c p v        the first pass, from p on: v is its verdict
+--     ChecksBlocks c p v  the first pass, from p on: v is its verdict
 --     Writes c p u        the second pass, from p on: u is what it writes
 -- That the first tells what converting the whole answers, and the second writes what it writes, however c is cut: proofs/Through.
 use Prim.Native.Nat.{ℕ, _+_, _≤_}
@@ -43,10 +43,10 @@ abbrev pub Reaches : List ℕ → ℕ → ℕ → Bool → Type 0
 Reaches c p m true = length c ≤ p + m
 Reaches c p m false = Unit
 
-pub data Checks (c : List ℕ) : ℕ → Checked → Type 0 where
-  further : {p : ℕ} {v : Checked} (m e : ℕ) → StretchSays (blockOf c p m) false (Records e) → Checks c (p + e) v → Checks c p v
-  good : {p : ℕ} (m e : ℕ) → Reaches c p m true → StretchSays (blockOf c p m) true (Records e) → Checks c p C.Good
-  bad : {p : ℕ} (m : ℕ) (last : Bool) (r : Refusal) → Reaches c p m last → StretchSays (blockOf c p m) last (Refused r) → Checks c p (C.Refused (moved p r))
+pub data ChecksBlocks (c : List ℕ) : ℕ → Checked → Type 0 where
+  further : {p : ℕ} {v : Checked} (m e : ℕ) → StretchSays (blockOf c p m) false (Records e) → ChecksBlocks c (p + e) v → ChecksBlocks c p v
+  good : {p : ℕ} (m e : ℕ) → Reaches c p m true → StretchSays (blockOf c p m) true (Records e) → ChecksBlocks c p C.Good
+  bad : {p : ℕ} (m : ℕ) (last : Bool) (r : Refusal) → Reaches c p m last → StretchSays (blockOf c p m) last (Refused r) → ChecksBlocks c p (C.Refused (moved p r))
 
 -- what stands of each block's whole records in its output
 pub data Writes (c : List ℕ) : ℕ → List ℕ → Type 0 where

@@ -21,10 +21,10 @@ use Rattle.converter_blocks_spec.proofs.Places.{damage-placed}
 use Rattle.program_ending_inner.specs.declared.Ending.the-variants as E
 use Rattle.converter_program_inner.specs.declared.Turn.{Turn}
 use Rattle.converter_program_inner.specs.declared.Turn.the-variants.{On, Done, Stopped}
-use Rattle.converter_program_inner.specs.Says.{Roomy, TurnSays, AtSays}
+use Rattle.converter_program_inner.specs.Says.{BuffersFit, BlockBecomes, AtSays}
 use Rattle.converter_program_inner.specs.Says.AtSays.{full, ended}
 
-pub roomy-still : (b d f g : List ℕ) → Roomy b d → length f ≡ length b → length g ≡ length d → Roomy f g
+pub roomy-still : (b d f g : List ℕ) → BuffersFit b d → length f ≡ length b → length g ≡ length d → BuffersFit f g
 roomy-still b d f g r k l = record { some = omega (arith, r .some); short = omega (arith, r .short); same = omega (arith, r .same) }
 
 pub place-room : (b : List ℕ) (last : Bool) (r : Refusal) → O.StretchSays b last (S.Refused r) → placeOf r < length b
@@ -37,16 +37,16 @@ last-length b m l e = let z : length (drop m b) ≡ 0 = rw e in omega (arith, z,
 -- ---- the first time
 
 module _ (p : ℕ) (b d : List ℕ) (m : ℕ) where
-  pub check-done : (last : Bool) → last ≡ true → O.StretchSays b last (S.Records m) → TurnSays false p b last d (Done m)
+  pub check-done : (last : Bool) → last ≡ true → O.StretchSays b last (S.Records m) → BlockBecomes false p b last d (Done m)
   check-done true e h = let f = all b m (h .2) in (refl, last-length b m (h .0) (h .2), rw f at (h .1), tt)
   check-done false e h = absurd (true≢false (sym e))
 
-  pub check-on : (last : Bool) → last ≡ false → O.StretchSays b last (S.Records m) → TurnSays false p b last d (On m)
+  pub check-on : (last : Bool) → last ≡ false → O.StretchSays b last (S.Records m) → BlockBecomes false p b last d (On m)
   check-on true e h = absurd (true≢false e)
   check-on false e h = (refl, h, tt)
 
 pub check-refused : (p : ℕ) (b d : List ℕ) (last : Bool) (r : Refusal) (x q : ℕ) → O.StretchSays b last (S.Refused r) → x ≡ numberOf r → q ≡ placeOf r →
-    TurnSays false p b last d (Stopped (E.Refused x (p + q)))
+    BlockBecomes false p b last d (Stopped (E.Refused x (p + q)))
 check-refused p b d last r x q h e f = (r, h, rw (e, f) refl)
 
 -- ---- the second time
@@ -55,22 +55,22 @@ module _ (p : ℕ) (b o d : List ℕ) (m : ℕ) where
   pub write-within : (last : Bool) → O.TurnSays b last o (S.Records m) d → m ≤ length o
   write-within last h = omega (arith, h .0, h .1 .0)
 
-  pub write-done : (last : Bool) → last ≡ true → O.TurnSays b last o (S.Records m) d → TurnSays true p b last d (Done m)
+  pub write-done : (last : Bool) → last ≡ true → O.TurnSays b last o (S.Records m) d → BlockBecomes true p b last d (Done m)
   write-done true e h = let f = all b m (h .1 .2) in (refl, last-length b m (h .1 .0) (h .1 .2), rw f at (h .1 .1), rw f at (h .2))
   write-done false e h = absurd (true≢false (sym e))
 
-  pub write-on : (last : Bool) → last ≡ false → O.TurnSays b last o (S.Records m) d → TurnSays true p b last d (On m)
+  pub write-on : (last : Bool) → last ≡ false → O.TurnSays b last o (S.Records m) d → BlockBecomes true p b last d (On m)
   write-on true e h = absurd (true≢false e)
   write-on false e h = (refl, h .1, h .2)
 
 -- ---- by which time it is
 
 module _ (w : Bool) (p : ℕ) (b : List ℕ) (last : Bool) (d : List ℕ) where
-  pub turn-write : (v : Turn) → w ≡ true → TurnSays true p b last d v → TurnSays w p b last d v
+  pub turn-write : (v : Turn) → w ≡ true → BlockBecomes true p b last d v → BlockBecomes w p b last d v
   turn-write v e h = rw e h
 
   -- the first time the output does not matter
-  pub turn-check : (f : List ℕ) (v : Turn) → w ≡ false → TurnSays false p b last f v → TurnSays w p b last d v
+  pub turn-check : (f : List ℕ) (v : Turn) → w ≡ false → BlockBecomes false p b last f v → BlockBecomes w p b last d v
   turn-check f (On m) e h = rw e h
   turn-check f (Done m) e h = rw e h
   turn-check f (Stopped t) e h = rw e h
@@ -78,7 +78,7 @@ module _ (w : Bool) (p : ℕ) (b : List ℕ) (last : Bool) (d : List ℕ) where
 -- ---- by what was read
 
 -- d is what the part u of the output, with what stood behind it, became
-pub at-ended : (w : Bool) (p : ℕ) (b o u d : List ℕ) (m : ℕ) (v : Turn) → m < length b → length u ≡ m → d ≡ u ++ drop m o → TurnSays w p (take m b) true u v → AtSays w p b d v
+pub at-ended : (w : Bool) (p : ℕ) (b o u d : List ℕ) (m : ℕ) (v : Turn) → m < length b → length u ≡ m → d ≡ u ++ drop m o → BlockBecomes w p (take m b) true u v → AtSays w p b d v
 at-ended w p b o u d m v l e f h =
     let q : take m (u ++ drop m o) ≡ u = take-append-le m u (drop m o) (omega arith) ∙ take-all m u (omega arith) in
     ended m l (rw (f, q) h)

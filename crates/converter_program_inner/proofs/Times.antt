@@ -28,7 +28,7 @@ use Rattle.converter_program_inner.specs.declared.Turn.{Turn}
 use Rattle.converter_program_inner.specs.declared.Turn.the-variants.{On, Done, Stopped}
 use Rattle.converter_program_inner.specs.declared.Pass.{Pass}
 use Rattle.converter_program_inner.specs.declared.Pass.the-variants as P
-use Rattle.converter_program_inner.specs.Says.{failedOf, Why, TurnSays, AtSays, Reached, StopSays, PassSays, sameEnd, WrittenSays, ThroughSays}
+use Rattle.converter_program_inner.specs.Says.{failedOf, Why, BlockBecomes, AtSays, Reached, StopSays, PassSays, sameEnd, WrittenSays, ThroughSays}
 use Rattle.converter_program_inner.specs.Says.AtSays.{unread, full, ended}
 use Rattle.converter_program_inner.specs.Says.ThroughSays.{stopped, whole}
 
@@ -50,12 +50,12 @@ why (Stopped t) = t
 
 -- ---- behind a block
 
-on-reached : (w : Bool) (p : ℕ) (b d : List ℕ) (m : ℕ) → TurnSays w p b false d (On m) → Reached w p → Reached w (p + m)
+on-reached : (w : Bool) (p : ℕ) (b d : List ℕ) (m : ℕ) → BlockBecomes w p b false d (On m) → Reached w p → Reached w (p + m)
 on-reached false p b d m k (c, l, s) = (c ++ take m b, omega (arith, length-append c (take m b), length-take m b, k .1 .0), sound-joined c (take m b) s (k .1 .1))
 on-reached true p b d m k (c, f, l, t) =
     (c ++ take m b, f ++ take m d, omega (arith, length-append c (take m b), length-take m b, k .1 .0), turned-joined c (take m b) f (take m d) t (k .2))
 
-done-reached : (w : Bool) (p : ℕ) (b : List ℕ) (last : Bool) (d : List ℕ) (m : ℕ) → TurnSays w p b last d (Done m) → Reached w p → Reached w (p + m)
+done-reached : (w : Bool) (p : ℕ) (b : List ℕ) (last : Bool) (d : List ℕ) (m : ℕ) → BlockBecomes w p b last d (Done m) → Reached w p → Reached w (p + m)
 done-reached false p b last d m k (c, l, s) = (c ++ b, omega (arith, length-append c b, k .1), sound-joined c b s (k .2))
 done-reached true p b last d m k (c, f, l, t) = (c ++ b, f ++ take m d, omega (arith, length-append c b, k .1), turned-joined c b f (take m d) t (k .3))
 
@@ -75,20 +75,20 @@ module _ (w : Bool) (p : ℕ) (b d : List ℕ) (v : Turn) (q : Reached w p) wher
   -- a block that is not the last has a whole record
   pub at-on : (m : ℕ) → v ≡ On m → 68 ≤ length b → AtSays w p b d v → (0 < m) × (m ≤ length b) × Reached w (p + m)
   at-on m e l (unread f) = absurd (let z : _≡_ {A = ℕ} 0 2 = ap which (sym e ∙ f) in omega arith)
-  at-on m e l (full k) = let h : TurnSays w p b false d (On m) = rw e at k in (goes-on b m (h .1) l, h .1 .0, on-reached w p b d m h q)
-  at-on m e l (ended n i k) = let h : TurnSays w p (take n b) true (take n d) (On m) = rw e at k in absurd (true≢false (h .0))
+  at-on m e l (full k) = let h : BlockBecomes w p b false d (On m) = rw e at k in (goes-on b m (h .1) l, h .1 .0, on-reached w p b d m h q)
+  at-on m e l (ended n i k) = let h : BlockBecomes w p (take n b) true (take n d) (On m) = rw e at k in absurd (true≢false (h .0))
 
   pub at-done : (m : ℕ) → v ≡ Done m → AtSays w p b d v → (m ≤ length b) × Reached w (p + m)
   at-done m e (unread f) = absurd (let z : _≡_ {A = ℕ} 1 2 = ap which (sym e ∙ f) in omega arith)
-  at-done m e (full k) = let h : TurnSays w p b false d (Done m) = rw e at k in absurd (true≢false (sym (h .0)))
+  at-done m e (full k) = let h : BlockBecomes w p b false d (Done m) = rw e at k in absurd (true≢false (sym (h .0)))
   at-done m e (ended n i k) =
-      let h : TurnSays w p (take n b) true (take n d) (Done m) = rw e at k in
+      let h : BlockBecomes w p (take n b) true (take n d) (Done m) = rw e at k in
       (omega (arith, h .1, length-take n b), done-reached w p (take n b) true (take n d) m h q)
 
   pub at-stopped : (t : Ending) → v ≡ Stopped t → AtSays w p b d v → StopSays w t
   at-stopped t e (unread f) = let g : t ≡ failedOf w = ap why (sym e ∙ f) in rw g (failed-stops w)
-  at-stopped t e (full k) = let h : TurnSays w p b false d (Stopped t) = rw e at k in why-stops w p b false t h q
-  at-stopped t e (ended n i k) = let h : TurnSays w p (take n b) true (take n d) (Stopped t) = rw e at k in why-stops w p (take n b) true t h q
+  at-stopped t e (full k) = let h : BlockBecomes w p b false d (Stopped t) = rw e at k in why-stops w p b false t h q
+  at-stopped t e (ended n i k) = let h : BlockBecomes w p (take n b) true (take n d) (Stopped t) = rw e at k in why-stops w p (take n b) true t h q
 
 -- ---- the two ends
 

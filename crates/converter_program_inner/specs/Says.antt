@@ -1,16 +1,16 @@
 -- What the parts of the program promise. w tells which time through the catalogue it is: false the first, which checks, true the second, which writes.
---     limit, most            no place is as far as 2 to the power 62; no block has more than 65,536 bytes
---     Roomy b d              a block b has room for the longest record, and the output d has its length
---     failedOf w             how a run ends where a read fails
---     Kept w b d             what stands in the output d for whole records b: the first time anything, the second their conversion
---     TurnSays w p b last d v   the block b, which begins at the place p of the catalogue, was gone through: v is what becomes of it
---     AtSays w p b d v       the same of what was read to the block b
---     Reached w e            some bytes c of length e are good records, one behind another; the second time some bytes d are their conversion
---     Bad x p                of some bytes the first damage is refused with the number x at the place p
---     StopSays w t           why it stopped before the end: the catalogue is called too long only behind good records as far as the limit
---     PassSays w v           how a time through the catalogue ended. c is what the blocks were, each from the place where the one before it was done
---     sameEnd, WrittenSays   a second time that does not end where the first did is told
---     ThroughSays v          how both ended: the whole only where both came to one place, through good records and through their conversion
+--     limit, mostBlock             no place is as far as 2 to the power 62; no block has more than 65,536 bytes
+--     BuffersFit b d               a block b has room for the longest record, and the output d has its length
+--     failedOf w                   how a run ends where a read fails
+--     Kept w b d                   what stands in the output d for whole records b: the first time anything, the second their conversion
+--     BlockBecomes w p b last d v  the block b, which begins at the place p of the catalogue, was gone through: v is what becomes of it
+--     AtSays w p b d v             the same of what was read to the block b
+--     Reached w e                  some bytes c of length e are good records, one behind another; the second time some bytes d are their conversion
+--     Bad x p                      of some bytes the first damage is refused with the number x at the place p
+--     StopSays w t                 why it stopped before the end: the catalogue is called too long only behind good records as far as the limit
+--     PassSays w v                 how a time through the catalogue ended. c is what the blocks were, each from the place where the one before it was done
+--     sameEnd, WrittenSays         a second time that does not end where the first did is told
+--     ThroughSays v                how both ended: the whole only where both came to one place, through good records and through their conversion
 -- That Reached and Bad are what converting those bytes whole would answer: converter_spec, proofs/Unique.
 use Prim.Native.Nat.{ℕ, _+_, _<_, _≤_}
 use mathlib.Core.Path.{_≡_}
@@ -34,12 +34,12 @@ use Rattle.converter_program_inner.specs.declared.Pass.the-variants as P
 abbrev pub limit : ℕ
 limit = 4611686018427387904
 
-abbrev pub most : ℕ
-most = 65536
+abbrev pub mostBlock : ℕ
+mostBlock = 65536
 
-pub record Roomy (b d : List ℕ) : Type 0 where
+pub record BuffersFit (b d : List ℕ) : Type 0 where
   pub some : 68 ≤ length b
-  pub short : length b ≤ most
+  pub short : length b ≤ mostBlock
   pub same : length d ≡ length b
 
 abbrev pub failedOf : Bool → Ending
@@ -57,16 +57,16 @@ abbrev pub Why : Bool → ℕ → List ℕ → Bool → Ending → Type 0
 Why false p b last t = (r : Refusal) × StretchSays b last (S.Refused r) × (t ≡ E.Refused (numberOf r) (p + placeOf r))
 Why true p b last t = (t ≡ E.Changed) ⊎ (t ≡ E.Unwritten)
 
-abbrev pub TurnSays : Bool → ℕ → List ℕ → Bool → List ℕ → Turn → Type 0
-TurnSays w p b last d (On m) = (last ≡ false) × StretchSays b false (S.Records m) × Kept w (take m b) (take m d)
-TurnSays w p b last d (Done m) = (last ≡ true) × (m ≡ length b) × Sound b × Kept w b (take m d)
-TurnSays w p b last d (Stopped t) = Why w p b last t
+abbrev pub BlockBecomes : Bool → ℕ → List ℕ → Bool → List ℕ → Turn → Type 0
+BlockBecomes w p b last d (On m) = (last ≡ false) × StretchSays b false (S.Records m) × Kept w (take m b) (take m d)
+BlockBecomes w p b last d (Done m) = (last ≡ true) × (m ≡ length b) × Sound b × Kept w b (take m d)
+BlockBecomes w p b last d (Stopped t) = Why w p b last t
 
 -- what stands in the lent block afterwards was read: all of it, or its first m bytes, and then the catalogue ended
 pub data AtSays (w : Bool) (p : ℕ) (b d : List ℕ) (v : Turn) : Type 0 where
   unread : v ≡ Stopped (failedOf w) → AtSays w p b d v
-  full : TurnSays w p b false d v → AtSays w p b d v
-  ended : (m : ℕ) → m < length b → TurnSays w p (take m b) true (take m d) v → AtSays w p b d v
+  full : BlockBecomes w p b false d v → AtSays w p b d v
+  ended : (m : ℕ) → m < length b → BlockBecomes w p (take m b) true (take m d) v → AtSays w p b d v
 
 -- ---- a time through
 

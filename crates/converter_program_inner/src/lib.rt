@@ -15,7 +15,7 @@ ghost use mathlib.Core.Path.{_≡_};
 ghost use mathlib.Core.Bool.{true, false};
 ghost use lib.ListN.{length};
 ghost use Rattle.program_reading_inner.specs.Says.{MostSays};
-ghost use Rattle.converter_program_inner.specs.Says.{limit, most, Roomy, failedOf, TurnSays, AtSays, PassSays, sameEnd, WrittenSays, ThroughSays};
+ghost use Rattle.converter_program_inner.specs.Says.{limit, mostBlock, BuffersFit, failedOf, BlockBecomes, AtSays, PassSays, sameEnd, WrittenSays, ThroughSays};
 
 // No file goes so far: 2 to the power 62.
 const LIMIT: usize = 4611686018427387904;
@@ -58,8 +58,8 @@ fn read_from(at: usize, block: &mut [u8]) -> Most
 // The first time, a block that begins at `at` of the catalogue.
 fn check_block(at: usize, block: &[u8], last: bool) -> Turn
     requires { ⌜ at < limit ⌝ }
-    requires { ⌜ length (now block) ≤ most ⌝ }
-    ensures { λ r. ⌜ TurnSays false at (now (block .entry)) last (now (block .entry)) r ⌝ }
+    requires { ⌜ length (now block) ≤ mostBlock ⌝ }
+    ensures { λ r. ⌜ BlockBecomes false at (now (block .entry)) last (now (block .entry)) r ⌝ }
 {
     match converter_blocks::check(block, last) {
         Stretch::Refused(r) => Turn::Stopped(Ending::Refused(
@@ -78,7 +78,7 @@ fn check_block(at: usize, block: &[u8], last: bool) -> Turn
 // The second time, a block: its whole records are converted and written. Where it is refused now, it is not the block that was checked.
 fn convert_block(at: usize, block: &[u8], last: bool, new: &mut [u8]) -> Turn
     requires { ⌜ length (now new) ≡ length (now block) ⌝ }
-    ensures { λ r. ⌜ TurnSays true at (now (block .entry)) last (now (new .exit)) r ⌝ }
+    ensures { λ r. ⌜ BlockBecomes true at (now (block .entry)) last (now (new .exit)) r ⌝ }
 {
     match converter_blocks::convert(block, last, new) {
         Stretch::Refused(_) => Turn::Stopped(Ending::Changed),
@@ -97,9 +97,9 @@ fn convert_block(at: usize, block: &[u8], last: bool, new: &mut [u8]) -> Turn
 // A block, by which time it is.
 fn take_block(writing: bool, at: usize, block: &[u8], last: bool, new: &mut [u8]) -> Turn
     requires { ⌜ at < limit ⌝ }
-    requires { ⌜ length (now block) ≤ most ⌝ }
+    requires { ⌜ length (now block) ≤ mostBlock ⌝ }
     requires { ⌜ length (now new) ≡ length (now block) ⌝ }
-    ensures { λ r. ⌜ TurnSays writing at (now (block .entry)) last (now (new .exit)) r ⌝ }
+    ensures { λ r. ⌜ BlockBecomes writing at (now (block .entry)) last (now (new .exit)) r ⌝ }
 {
     if writing {
         return convert_block(at, block, last, new);
@@ -110,7 +110,7 @@ fn take_block(writing: bool, at: usize, block: &[u8], last: bool, new: &mut [u8]
 // Reads a block from `at` on, and goes through it. Only a read of 0 bytes tells that it is the last.
 fn take_at(writing: bool, at: usize, block: &mut [u8], new: &mut [u8]) -> Turn
     requires { ⌜ at < limit ⌝ }
-    requires { ⌜ Roomy (now block) (now new) ⌝ }
+    requires { ⌜ BuffersFit (now block) (now new) ⌝ }
     ensures { λ r. ⌜ AtSays writing at (now (block .exit)) (now (new .exit)) r ⌝ }
 {
     match read_from(at, block) {
@@ -122,7 +122,7 @@ fn take_at(writing: bool, at: usize, block: &mut [u8], new: &mut [u8]) -> Turn
 
 // Once through the catalogue.
 fn go_once(writing: bool, block: &mut [u8], new: &mut [u8]) -> Pass
-    requires { ⌜ Roomy (now block) (now new) ⌝ }
+    requires { ⌜ BuffersFit (now block) (now new) ⌝ }
     ensures { λ r. ⌜ PassSays writing r ⌝ }
 {
     let mut at = 0;
@@ -154,7 +154,7 @@ fn same_end(first: usize, second: usize) -> Ending
 
 // The second time, behind a first that went through to the place `end`.
 fn write_to(end: usize, block: &mut [u8], new: &mut [u8]) -> Ending
-    requires { ⌜ Roomy (now block) (now new) ⌝ }
+    requires { ⌜ BuffersFit (now block) (now new) ⌝ }
     ensures { λ r. ⌜ WrittenSays end r ⌝ }
 {
     match go_once(true, block, new) {
@@ -165,7 +165,7 @@ fn write_to(end: usize, block: &mut [u8], new: &mut [u8]) -> Ending
 
 // Both times. What does not stand at the beginning of a file cannot be read twice from there.
 fn go_through(block: &mut [u8], new: &mut [u8]) -> Ending
-    requires { ⌜ Roomy (now block) (now new) ⌝ }
+    requires { ⌜ BuffersFit (now block) (now new) ⌝ }
     ensures { λ r. ⌜ ThroughSays r ⌝ }
 {
     if libc::lseek(STDIN_FILENO, 0, SEEK_CUR) != 0 {

@@ -6,7 +6,7 @@ ghost use mathlib.Core.Path.{_≡_};
 ghost use Prim.Native.Nat.{_≤_};
 ghost use Rattle.words.specs.Readings.{Shaded};
 ghost use Rattle.density_spec.specs.Cuts.{goodCard, cut, shadeOf};
-ghost use Rattle.density_spec.specs.Says.{Tells};
+ghost use Rattle.density_spec.specs.Says.{ShadeSays};
 
 // Whether 0 <= dark < light <= 1.
 pub fn is_good(card: Card) -> bool
@@ -52,7 +52,7 @@ fn cuts_not_above(card: Card, k: u8, x: f32) -> u8
 // The shade of x, or x itself where it lies below 0 or above 1, or that it is not a number.
 pub fn read(card: Card, k: u8, x: f32) -> Sector
     requires { ⌜ Shaded k ⌝ }
-    ensures { λ r. ⌜ Tells card k x r ⌝ }
+    ensures { λ r. ⌜ ShadeSays card k x r ⌝ }
 {
     if x != x {
         return Sector::NotANumber;

@@ -22,7 +22,7 @@ use Rattle.density_spec.specs.declared.RingRead.{RingRead}
 use Rattle.density_spec.specs.declared.RingRead.the-variants as R
 use Rattle.density_spec.specs.Cuts.{In, Out, zero32, one32}
 use Rattle.density_spec.specs.Order.{sectorOrder, ringOrder}
-use Rattle.density_spec.specs.Says.{Tells, SectorSays, RingSays}
+use Rattle.density_spec.specs.Says.{ShadeSays, SectorSays, RingSays}
 
 -- a value is not both in and out
 pub in-out : (x : Float) → In x → Out x → ⊥
@@ -30,7 +30,7 @@ in-out x (p, q, r) (o, inl s) = clash (I.lt x zero32) s q
 in-out x (p, q, r) (o, inr s) = clash (I.lt one32 x) s r
 
 -- a value tells one thing
-pub one-told : (c : Card) (k : ℕ) (x : Float) (a b : Sector) → Tells c k x a → Tells c k x b → a ≡ b
+pub one-told : (c : Card) (k : ℕ) (x : Float) (a b : Sector) → ShadeSays c k x a → ShadeSays c k x b → a ≡ b
 one-told c k x (Shade s) (Shade t) p q = ap Shade (p .1 ∙ sym (q .1))
 one-told c k x (Shade s) (Outside y) p q = absurd (in-out x (p .0) (q .0))
 one-told c k x (Shade s) NotANumber p q = clash (ne x x) q (p .0 .0)

@@ -1,5 +1,5 @@
 -- What the two calls promise (02, i).
---     Tells c k x s              what the value x tells: the sector's answer s
+--     ShadeSays c k x s          what the value x tells: the sector's answer s
 --     SectorSays x k c a         one sector: the answer a
 --     RingSays xs k c b a d      a ring: the answer a, where the output held b before and holds d after
 -- That no two answers satisfy one, the output included: proofs/Unique.
@@ -20,13 +20,13 @@ use Rattle.density_spec.specs.Cuts.{shadeOf, NoNumber, Out, In}
 use Rattle.density_spec.specs.Order.{sectorOrder, ringOrder}
 
 -- a shade, the offending value itself, or that it is no number
-abbrev pub Tells : Card → ℕ → Float → Sector → Type 0
-Tells c k x (Shade s) = In x × (s ≡ shadeOf c k x)
-Tells c k x (Outside y) = Out x × (y ≡ x)
-Tells c k x NotANumber = NoNumber x
+abbrev pub ShadeSays : Card → ℕ → Float → Sector → Type 0
+ShadeSays c k x (Shade s) = In x × (s ≡ shadeOf c k x)
+ShadeSays c k x (Outside y) = Out x × (y ≡ x)
+ShadeSays c k x NotANumber = NoNumber x
 
 abbrev pub SectorSays : Float → ℕ → Card → SectorRead → Type 0
-SectorSays x k c (S.Is s) = Passed (sectorOrder k c) × Tells c k x s
+SectorSays x k c (S.Is s) = Passed (sectorOrder k c) × ShadeSays c k x s
 SectorSays x k c (S.Refused r) = Given (sectorOrder k c) r
 
 -- the output holds each sector's shade; a refusal writes nothing

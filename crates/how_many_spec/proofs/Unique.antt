@@ -9,10 +9,10 @@ use Rattle.limits_spec.specs.Limits.{numbersOrder}
 use Rattle.limits_spec.proofs.Unique.{listable-passed}
 use Rattle.how_many_spec.specs.declared.Counted.{Counted}
 use Rattle.how_many_spec.specs.declared.Counted.the-variants.{Rings, Refused}
-use Rattle.how_many_spec.specs.Says.{most, CountSays}
+use Rattle.how_many_spec.specs.Says.{mostCounted, CountSays}
 
 pub one-count : (kind : List ℕ → Bool) (k n : ℕ) (a b : Counted) → CountSays kind k n a → CountSays kind k n b → a ≡ b
 one-count kind k n (Rings x) (Rings y) p q = ap Rings (p .1 ∙ sym (q .1))
-one-count kind k n (Rings x) (Refused t) p q = absurd (never-both (numbersOrder most k n) t q (listable-passed most k n (p .0)))
-one-count kind k n (Refused r) (Rings y) p q = absurd (never-both (numbersOrder most k n) r p (listable-passed most k n (q .0)))
-one-count kind k n (Refused r) (Refused t) p q = ap Refused (one-refusal (numbersOrder most k n) r t p q)
+one-count kind k n (Rings x) (Refused t) p q = absurd (never-both (numbersOrder mostCounted k n) t q (listable-passed mostCounted k n (p .0)))
+one-count kind k n (Refused r) (Rings y) p q = absurd (never-both (numbersOrder mostCounted k n) r p (listable-passed mostCounted k n (q .0)))
+one-count kind k n (Refused r) (Refused t) p q = ap Refused (one-refusal (numbersOrder mostCounted k n) r t p q)

@@ -22,9 +22,9 @@ use Rattle.plan.proofs.Plans.{plan-number}
 use Rattle.listing_spec.specs.declared.State.{State}
 use Rattle.listing_spec.specs.declared.Page.{Page}
 use Rattle.listing_spec.specs.Listing.{opening}
-use Rattle.listing_spec.specs.Prints.{most}
+use Rattle.listing_spec.specs.Prints.{mostPrinted}
 use Rattle.listing_spec.specs.State.{GoodState, emptyState}
-use Rattle.listing_spec.specs.Paging.{lineRoom, FirstPage, small, refused, listed, Next, bad, good, Paged}
+use Rattle.listing_spec.specs.Paging.{rowRoom, FirstPage, small, refused, listed, Next, bad, good, Paged}
 use Rattle.listing_pages_inner.specs.Says.{FillSays, OpenSays}
 use Rattle.listing.specs.Says.{emptyPage, RefusedPageSays}
 
@@ -39,7 +39,7 @@ placed-paged P b r b′ t q h p =
     record { text = t; says = p; fits = h; long = q .next ∙ e; bytes = q .bytes ∙ rw e at (sets-eq t b 0 (omega arith)) }
 
 -- a number's line has room
-pub refused-room : (at x room : ℕ) → at ≤ 64 → x < 10 ^ 20 → lineRoom ≤ room → at + length (refusedLine x) ≤ room
+pub refused-room : (at x room : ℕ) → at ≤ 64 → x < 10 ^ 20 → rowRoom ≤ room → at + length (refusedLine x) ≤ room
 refused-room at x room near h l = omega (arith, length-refused x, length-decimal 19 x h)
 
 -- the line of the refusal's own number
@@ -48,19 +48,19 @@ refused-says r x e b p b′ q f = record { placed = rw e at q; state = f }
 
 module _ (s b : List ℕ) (r : Page) where
   -- no room for a line
-  pub first-small : length b < lineRoom → r ≡ emptyPage → Paged (FirstPage s (length b)) b r b
+  pub first-small : length b < rowRoom → r ≡ emptyPage → Paged (FirstPage s (length b)) b r b
   first-small h e = paged-none (FirstPage s (length b)) b r e (small h refl (ap (λ (x : Page). x .state) e))
 
   -- a refusal's line fits, and is the page
-  refused-fits : lineRoom ≤ length b → (x : Refusal) → PlanSays most s (Refused x) → length (refusedLine (numberOf x)) ≤ length b
-  refused-fits h x p = omega (arith, length-refused (numberOf x), length-decimal 1 (numberOf x) (omega (arith, plan-number most s x p)))
+  refused-fits : rowRoom ≤ length b → (x : Refusal) → PlanSays mostPrinted s (Refused x) → length (refusedLine (numberOf x)) ≤ length b
+  refused-fits h x p = omega (arith, length-refused (numberOf x), length-decimal 1 (numberOf x) (omega (arith, plan-number mostPrinted s x p)))
 
-  pub first-refused : (b′ : List ℕ) → lineRoom ≤ length b → (x : Refusal) → PlanSays most s (Refused x) → RefusedPageSays x b r b′ → Paged (FirstPage s (length b)) b r b′
+  pub first-refused : (b′ : List ℕ) → rowRoom ≤ length b → (x : Refusal) → PlanSays mostPrinted s (Refused x) → RefusedPageSays x b r b′ → Paged (FirstPage s (length b)) b r b′
   first-refused b′ h x p q =
       placed-paged (FirstPage s (length b)) b r b′ (refusedLine (numberOf x)) (q .placed) (refused-fits h x p) (refused h x p refl (q .state))
 
   -- a listing's first page
-  pub first-listed : (b′ : List ℕ) → lineRoom ≤ length b → (k n : ℕ) → PlanSays most s (Accepted k n) → OpenSays k n b r b′ → Paged (FirstPage s (length b)) b r b′
+  pub first-listed : (b′ : List ℕ) → rowRoom ≤ length b → (k n : ℕ) → PlanSays mostPrinted s (Accepted k n) → OpenSays k n b r b′ → Paged (FirstPage s (length b)) b r b′
   first-listed b′ h k n p q =
       placed-paged (FirstPage s (length b)) b r b′ (opening k n ++ q .text) (q .placed) (omega (arith, q .inside, q .placed .next))
       (listed h k n (q .text) (q .rest) p (q .goes) refl (q .state))

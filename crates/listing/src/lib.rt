@@ -9,8 +9,8 @@ ghost use Prim.Native.Nat.{_≤_};
 ghost use mathlib.Core.Path.{_≡_};
 ghost use lib.ListN.{length};
 ghost use Rattle.plan_spec.specs.Plan.{PlanSays};
-ghost use Rattle.listing_spec.specs.Prints.{most};
-ghost use Rattle.listing_spec.specs.Paging.{lineRoom, FirstPage, Next, Paged};
+ghost use Rattle.listing_spec.specs.Prints.{mostPrinted};
+ghost use Rattle.listing_spec.specs.Paging.{rowRoom, FirstPage, Next, Paged};
 ghost use Rattle.listing.specs.Says.{emptyPage, RefusedPageSays};
 
 // No line is longer, nor are the first two together.
@@ -18,7 +18,7 @@ const LINE_ROOM: usize = 107;
 
 // What the listing program's line asks for.
 pub fn plan(line: &[u8]) -> Planned
-    ensures { λ r. ⌜ PlanSays most (now (line .entry)) r ⌝ }
+    ensures { λ r. ⌜ PlanSays mostPrinted (now (line .entry)) r ⌝ }
 {
     plan::plan_line(line, MOST_LISTED)
 }
@@ -37,7 +37,7 @@ fn empty_page() -> Page
 
 // A refusal's page: its line alone.
 fn refused_page(r: Refusal, buf: &mut [u8]) -> Page
-    requires { ⌜ lineRoom ≤ length (now buf) ⌝ }
+    requires { ⌜ rowRoom ≤ length (now buf) ⌝ }
     ensures { λ p. ⌜ RefusedPageSays r (now (buf .entry)) p (now (buf .exit)) ⌝ }
 {
     let number = refusal::number(r);

@@ -23,9 +23,9 @@ use Rattle.text_spec.proofs.Put.{length-last, length-ring}
 use Rattle.limits_spec.specs.Limits.{Listable}
 use Rattle.listing_spec.specs.declared.State.{State}
 use Rattle.listing_spec.specs.Listing.{row, zeroRing}
-use Rattle.listing_spec.specs.Prints.{most}
+use Rattle.listing_spec.specs.Prints.{mostPrinted}
 use Rattle.listing_spec.specs.State.{stateRing, GoodState, emptyState, startState, Rest, over, on, stateBehind}
-use Rattle.listing_spec.specs.Paging.{lineRoom, Goes, full, total, line, Next, bad, good}
+use Rattle.listing_spec.specs.Paging.{rowRoom, Goes, full, total, line, Next, bad, good}
 pub use Rattle.listing_laws.specs.Standing.{CountedSoFar, Stands}
 use Rattle.listing_laws.proofs.Counting.{ringsTo, movesTo, rings-bound, moves-bound, rings-start, rings-next, moves-begin, moves-next}
 
@@ -72,7 +72,7 @@ unfolding row
 row-some k v x = omega (arith, length-ring x (moves k v (some x)) (period x))
 
 -- where there is room for a line, a page has one, and counts one ring more unless it is the last
-pub goes-some : {k room : ℕ} {v : List ℕ} {rings sum at : ℕ} {text : List ℕ} {rest : Rest} → Goes k room v rings sum at text rest → at + lineRoom ≤ room → (0 < length text) × AtLeast (suc rings) rest
+pub goes-some : {k room : ℕ} {v : List ℕ} {rings sum at : ℕ} {text : List ℕ} {rest : Rest} → Goes k room v rings sum at text rest → at + rowRoom ≤ room → (0 < length text) × AtLeast (suc rings) rest
 goes-some (full h) r = absurd (omega arith)
 goes-some {rings = rings} {sum = sum} (total h e) r = (omega (arith, length-last rings sum), tt)
 goes-some {k} {v = v} (line {x = x} {text = text} h e p) r = (omega (arith, length-append (row k v x) text, row-some k v x), goes-least p)
@@ -83,7 +83,7 @@ goes-some {k} {v = v} (line {x = x} {text = text} h e p) r = (omega (arith, leng
 pub stands-good : (s : State) → Stands s → GoodState s
 stands-good s st =
     let v = stateRing s in
-    let e : s .k ^ length v ≤ most = rw (st .counted .reading .long) (st .numbers .few) in
+    let e : s .k ^ length v ≤ mostPrinted = rw (st .counted .reading .long) (st .numbers .few) in
     record {
       numbers = st .numbers;
       reading = st .counted .reading;
@@ -93,12 +93,12 @@ stands-good s st =
     }
 
 -- the state that a page leaves stands, or nothing follows
-pub stands-behind : (s : State) (rest : Rest) → Listable most (s .k) (s .n) → Left (s .n) (s .k) rest → Stands (stateBehind s rest) ⊎ (stateBehind s rest ≡ emptyState)
+pub stands-behind : (s : State) (rest : Rest) → Listable mostPrinted (s .k) (s .n) → Left (s .n) (s .k) rest → Stands (stateBehind s rest) ⊎ (stateBehind s rest ≡ emptyState)
 stands-behind s over l c = inr refl
 stands-behind s (on v rings sum) l c = inl (record { numbers = l; counted = rw (take-at v (drop (s .n) (s .ring)) (s .n) (c .reading .long)) c })
 
 -- the all-zero ring
-pub counted-start : (n k : ℕ) → Listable most k n → CountedSoFar n k (zeroRing n) 1 0
+pub counted-start : (n k : ℕ) → Listable mostPrinted k n → CountedSoFar n k (zeroRing n) 1 0
 counted-start n k l =
     let z : 0 < k = omega (arith, l .shaded) in
     record { reading = zeros-reading n k z; member = zeros-necklace n; rings-are = sym (rings-start n k z); sum-is = sym (moves-begin n k) }

@@ -21,10 +21,10 @@ use Rattle.limits_spec.specs.Limits.{Listable}
 use Rattle.listing_spec.specs.declared.State.{State}
 use Rattle.listing_spec.specs.declared.Page.{Page}
 use Rattle.listing_spec.specs.Listing.{rows, zeroRing, opening, listingText, Listing}
-use Rattle.listing_spec.specs.Prints.{most, Prints}
+use Rattle.listing_spec.specs.Prints.{mostPrinted, ListPrints}
 use Rattle.listing_spec.specs.Prints as prints
 use Rattle.listing_spec.specs.State.{stateRing, GoodState, emptyState, startState, Rest, over, on, stateBehind}
-use Rattle.listing_spec.specs.Paging.{lineRoom, Goes, FirstPage, small, refused, listed, Next, bad, good, Paged, Pages, last, page}
+use Rattle.listing_spec.specs.Paging.{rowRoom, Goes, FirstPage, small, refused, listed, Next, bad, good, Paged, Pages, last, page}
 use Rattle.listing_laws.proofs.Counting.{ringsTo, rings-start, rings-next, rings-end}
 use Rattle.listing_laws.proofs.Following.{Follows, follows-walk, Behind, goes-follows}
 use Rattle.listing_laws.proofs.Leaving.{CountedSoFar, counted-start, Left, goes-true, goes-some, Stands, stands-good, stands-behind, empty-bad}
@@ -63,7 +63,7 @@ abbrev Ahead : State → List ℕ → Type 0
 Ahead s t = (Stands s × Follows (s .k) (stateRing s) (s .rings) (s .moves) t) ⊎ ((s ≡ emptyState) × (t ≡ []))
 
 -- so for the state that a page leaves
-behind : (s : State) (rest : Rest) (t : List ℕ) → Listable most (s .k) (s .n) → Left (s .n) (s .k) rest → Ahead (stateBehind s rest) t → Behind (s .k) rest t
+behind : (s : State) (rest : Rest) (t : List ℕ) → Listable mostPrinted (s .k) (s .n) → Left (s .n) (s .k) rest → Ahead (stateBehind s rest) t → Behind (s .k) rest t
 behind s over t l c a = ⊎-elim (λ x. absurd (empty-bad (stands-good emptyState (x .0)))) (λ x. x .1) a
 behind s (on v rings sum) t l c a =
     let e : take (s .n) (v ++ drop (s .n) (s .ring)) ≡ v = take-at v (drop (s .n) (s .ring)) (s .n) (c .reading .long) in
@@ -92,7 +92,7 @@ pages-follow s t (page {b = b} {r = r} room p z q) (inr e) = absurd (none (p .sa
     none (good g rest n f) = empty-bad (rw e at g)
 
 -- all that follows the all-zero ring, behind the first two lines, is the listing
-begun : (k n : ℕ) (t : List ℕ) → Listable most k n → Follows k (zeroRing n) 1 0 t → Listing k n (opening k n ++ t)
+begun : (k n : ℕ) (t : List ℕ) → Listable mostPrinted k n → Follows k (zeroRing n) 1 0 t → Listing k n (opening k n ++ t)
 unfolding listingText
 begun k n t l f =
     let z : 0 < k = omega (arith, l .shaded) in
@@ -102,15 +102,15 @@ begun k n t l f =
     record { rings = w .others; sum = w .more; walk = w .walk; is = ap (λ (y : List ℕ). opening k n ++ y) (rw (a, b) at (w .is)) }
 
 -- the first page and the pages that follow are the whole output
-pub pages-whole : (s b : List ℕ) (r : Page) (b′ t : List ℕ) → lineRoom ≤ length b → Paged (FirstPage s (length b)) b r b′ → Pages (r .state) t → Prints s (take (r .length) b′ ++ t)
+pub pages-whole : (s b : List ℕ) (r : Page) (b′ t : List ℕ) → rowRoom ≤ length b → Paged (FirstPage s (length b)) b r b′ → Pages (r .state) t → ListPrints s (take (r .length) b′ ++ t)
 pages-whole s b r b′ t room p q = rw (paged-take (FirstPage s (length b)) b r b′ p) (go (p .says))
   where
-    go : FirstPage s (length b) (p .text) (r .state) → Prints s (p .text ++ t)
+    go : FirstPage s (length b) (p .text) (r .state) → ListPrints s (p .text ++ t)
     go (small h e f) = absurd (omega arith)
     go (refused h x n e f) =
         ⊎-elim (λ y. absurd (empty-bad (rw f at (stands-good (r .state) (y .0))))) (λ y. prints.refused x n (rw (y .1, append-nil (p .text)) e)) (pages-follow (r .state) t q (inr f))
     go (listed h k n u rest x g e f) =
-        let l : Listable most k n = x .1 in
+        let l : Listable mostPrinted k n = x .1 in
         let c = goes-true g (counted-start n k l) in
         let a : Ahead (stateBehind (startState k n) rest) t = rw f at (pages-follow (r .state) t q (rw f (stands-behind (startState k n) rest l c))) in
         let j : Listing k n (opening k n ++ (u ++ t)) = begun k n (u ++ t) l (goes-follows g t (behind (startState k n) rest t l c a)) in

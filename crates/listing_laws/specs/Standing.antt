@@ -1,7 +1,7 @@
 -- What a listing has behind it when it stands at a ring, and when a state stands.
---     ringsTo k v, movesTo k v     the necklaces of v's length not above v, and the moves from the all-zero ring to v
---     CountedSoFar n k v rings sum      v is a necklace of n and k, and the counts are those up to it
---     Stands s                     a state stands: its numbers may be listed, and its counts are those of its ring
+--     ringsTo k v, movesTo k v      the necklaces of v's length not above v, and the moves from the all-zero ring to v
+--     CountedSoFar n k v rings sum  v is a necklace of n and k, and the counts are those up to it
+--     Stands s                      a state stands: its numbers may be listed, and its counts are those of its ring
 use Prim.Native.Nat.{ℕ}
 use mathlib.Core.Path.{_≡_}
 use mathlib.Core.Bool.{true, _&&_}
@@ -15,7 +15,7 @@ use Rattle.rings.specs.Steps.{moves}
 use Rattle.limits_spec.specs.Limits.{Listable}
 use Rattle.listing_spec.specs.declared.State.{State}
 use Rattle.listing_spec.specs.Listing.{zeroRing}
-use Rattle.listing_spec.specs.Prints.{most}
+use Rattle.listing_spec.specs.Prints.{mostPrinted}
 use Rattle.listing_spec.specs.State.{stateRing}
 
 -- the necklaces of the same n and k that are not above v
@@ -35,5 +35,5 @@ pub record CountedSoFar (n k : ℕ) (v : List ℕ) (rings sum : ℕ) : Type 0 wh
 
 -- a state stands: its numbers may be listed, and its counts are those of its ring
 pub record Stands (s : State) : Type 0 where
-  pub numbers : Listable most (s .k) (s .n)
+  pub numbers : Listable mostPrinted (s .k) (s .n)
   pub counted : CountedSoFar (s .n) (s .k) (stateRing s) (s .rings) (s .moves)

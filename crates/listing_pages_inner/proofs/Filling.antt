@@ -23,9 +23,9 @@ use Rattle.limits_spec.specs.Limits.{Listable}
 use Rattle.listing_spec.specs.declared.State.{State}
 use Rattle.listing_spec.specs.declared.Page.{Page}
 use Rattle.listing_spec.specs.Listing.{zeroRing, opening}
-use Rattle.listing_spec.specs.Prints.{most}
+use Rattle.listing_spec.specs.Prints.{mostPrinted}
 use Rattle.listing_spec.specs.State.{stateRing, GoodState, emptyState, startState, over, on}
-use Rattle.listing_spec.specs.Paging.{lineRoom}
+use Rattle.listing_spec.specs.Paging.{rowRoom}
 use Rattle.listing_laws.proofs.Leaving.{counted-start, Stands, stands-good}
 use Rattle.listing_rows_inner.specs.declared.Rows.{Rows}
 use Rattle.listing_rows_inner.specs.Says.{RowsSay}
@@ -82,7 +82,7 @@ zeros-period n z = period-run (zeroRing n) 1 run (mod-one (length (zeroRing n)))
     run : Run (sec (zeroRing n)) (length (zeroRing n)) 1
     run = record { pos = omega arith; fits = omega (arith, length-zeros n); again = λ i j e h. zeros-at n i ∙ sym (zeros-at n j); lyn = lyn-one (sec (zeroRing n)) }
 
-module _ (k n : ℕ) (l : Listable most k n) where
+module _ (k n : ℕ) (l : Listable mostPrinted k n) where
   first-short : length (firstLine k n) ≤ 20
   first-short = omega (arith, length-first k n, length-decimal 1 k (omega (arith, l .shaded)), length-decimal 1 n (omega (arith, l .sized)))
 
@@ -93,12 +93,12 @@ module _ (k n : ℕ) (l : Listable most k n) where
   ring-is = zeros-part n 64 (omega (arith, l .sized))
 
   -- a state at the all-zero ring, whatever it counts
-  pub start-good : (rings sum : ℕ) → rings ≤ most → sum ≤ most → GoodState (record { k = k; n = n; ring = zeroRing 64; rings = rings; moves = sum })
+  pub start-good : (rings sum : ℕ) → rings ≤ mostPrinted → sum ≤ mostPrinted → GoodState (record { k = k; n = n; ring = zeroRing 64; rings = rings; moves = sum })
   start-good rings sum few short =
       let g = stands-good (startState k n) (record { numbers = l; counted = rw ring-is (counted-start n k l) }) in
       record { numbers = l; reading = g .reading; member = g .member; rings = few; moves = short }
 
-  module _ (b : List ℕ) (room : lineRoom ≤ length b) where
+  module _ (b : List ℕ) (room : rowRoom ≤ length b) where
     pub open-first : 0 + length (firstLine k n) ≤ length b
     open-first = omega (arith, first-short)
 

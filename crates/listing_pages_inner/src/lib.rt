@@ -6,9 +6,9 @@ ghost use Prim.Native.Nat.{_≤_};
 ghost use mathlib.Core.Path.{_≡_};
 ghost use lib.ListN.{length};
 ghost use Rattle.limits_spec.specs.Limits.{Listable};
-ghost use Rattle.listing_spec.specs.Prints.{most};
+ghost use Rattle.listing_spec.specs.Prints.{mostPrinted};
 ghost use Rattle.listing_spec.specs.State.{GoodState, emptyState};
-ghost use Rattle.listing_spec.specs.Paging.{lineRoom};
+ghost use Rattle.listing_spec.specs.Paging.{rowRoom};
 ghost use Rattle.listing_pages_inner.specs.Says.{FillSays, OpenSays};
 
 // The state from which nothing follows.
@@ -47,8 +47,8 @@ pub fn fill_page(s: State, buf: &mut [u8], from: usize) -> Page
 
 // The first page: the first line, the all-zero ring's, and those that follow.
 pub fn open_page(k: usize, n: usize, buf: &mut [u8]) -> Page
-    requires { ⌜ Listable most k n ⌝ }
-    requires { ⌜ lineRoom ≤ length (now buf) ⌝ }
+    requires { ⌜ Listable mostPrinted k n ⌝ }
+    requires { ⌜ rowRoom ≤ length (now buf) ⌝ }
     ensures { λ r. ⌜ OpenSays k n (now (buf .entry)) r (now (buf .exit)) ⌝ }
 {
     let ring = [0u8; 64];

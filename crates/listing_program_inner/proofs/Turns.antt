@@ -16,13 +16,13 @@ use lib.Seq.{take-all}
 use Rattle.limits_spec.specs.Limits.{Listable}
 use Rattle.listing_spec.specs.declared.State.{State}
 use Rattle.listing_spec.specs.declared.Page.{Page}
-use Rattle.listing_spec.specs.Prints.{most}
+use Rattle.listing_spec.specs.Prints.{mostPrinted}
 use Rattle.listing_spec.specs.State.{emptyState, startState, Rest, over, on, stateBehind}
-use Rattle.listing_spec.specs.Paging.{lineRoom, FirstPage, small, refused, listed, Next, bad, good, Paged}
+use Rattle.listing_spec.specs.Paging.{rowRoom, FirstPage, small, refused, listed, Next, bad, good, Paged}
 use Rattle.listing_laws.proofs.Leaving.{counted-start, goes-true, goes-some, AtLeast, Stands, stands-good, stands-behind, empty-bad}
 use Rattle.program_reading_inner.specs.declared.Most.{Most}
 use Rattle.program_reading_inner.specs.declared.Most.the-variants as M
-use Rattle.listing_program_inner.specs.Says.{InputSays, Turning, goesOn}
+use Rattle.listing_program_inner.specs.Says.{FirstPageSays, Turning, goesOn}
 
 -- a page keeps the buffer's length
 pub paged-length : (P : List ℕ → State → Type 0) (b : List ℕ) (r : Page) (b′ : List ℕ) → Paged P b r b′ → length b′ ≡ length b
@@ -46,7 +46,7 @@ turning-first s b r b′ p = record { inside = inside (FirstPage s (length b)) b
 none-turning : (r : Page) (m : ℕ) → r .length ≡ 0 → r .state ≡ emptyState → Turning r m
 none-turning r m e f = record { inside = omega arith; stands = inr f }
 
-pub input-turning : (most : Most) (line b : List ℕ) (r : Page) (b′ : List ℕ) → InputSays most line b r b′ → (length b′ ≡ length b) × Turning r (length b)
+pub input-turning : (most : Most) (line b : List ℕ) (r : Page) (b′ : List ℕ) → FirstPageSays most line b r b′ → (length b′ ≡ length b) × Turning r (length b)
 input-turning M.Full line b r b′ p =
     let q = p line (take-all (length line) line (omega arith)) in
     (paged-length (FirstPage line (length b)) b r b′ q, turning-first line b r b′ q)
@@ -67,7 +67,7 @@ turning-next s b r b′ st p = record { inside = inside (Next s (length b)) b r 
 -- behind a state of n sectors and so many rings: none, or no more than the limit has rings left, and the last line
 unfoldable pub left : ℕ → ℕ → ℕ
 left zero rings = 0
-left (suc n) rings = suc (most - rings)
+left (suc n) rings = suc (mostPrinted - rings)
 
 -- behind a page: none where it has no bytes
 unfoldable pub behind : ℕ → ℕ → ℕ
@@ -77,7 +77,7 @@ behind (suc l) m = suc m
 unfoldable pub pagesLeft : Page → ℕ
 pagesLeft r = behind (r .length) (left (r .state .n) (r .state .rings))
 
-left-some : (n rings : ℕ) → 1 ≤ n → left n rings ≡ suc (most - rings)
+left-some : (n rings : ℕ) → 1 ≤ n → left n rings ≡ suc (mostPrinted - rings)
 unfolding left
 left-some zero rings h = absurd (omega arith)
 left-some (suc n) rings h = refl
@@ -102,7 +102,7 @@ fewer s (on v rings sum) st (inl f) a =
     omega (arith, left-some (s .n) (s .rings) (st .numbers .sized .0), left-some (s .n) rings (st .numbers .sized .0), stands-good (stateBehind s (on v rings sum)) f .rings)
 
 -- a page more leaves fewer
-pub pages-fall : (q : Page) (b : List ℕ) (r : Page) (b′ : List ℕ) → Stands (q .state) ⊎ (q .state ≡ emptyState) → lineRoom ≤ length b → 0 < q .length → Paged (Next (q .state) (length b)) b r b′ → pagesLeft r < pagesLeft q
+pub pages-fall : (q : Page) (b : List ℕ) (r : Page) (b′ : List ℕ) → Stands (q .state) ⊎ (q .state ≡ emptyState) → rowRoom ≤ length b → 0 < q .length → Paged (Next (q .state) (length b)) b r b′ → pagesLeft r < pagesLeft q
 unfolding pagesLeft
 pages-fall q b r b′ st room h p = rw (behind-some (q .length) (left (q .state .n) (q .state .rings)) h) (go st (p .says))
   where

@@ -1,5 +1,5 @@
 -- What the parts of the program promise.
---     InputSays             the first page of the output for any input of which that was read to `line`; none, and the buffer as it was, where a read failed
+--     FirstPageSays         the first page of the output for any input of which that was read to `line`; none, and the buffer as it was, where a read failed
 --     goesOn wrote m        does another page follow one of m bytes? wrote: could they be written?
 --     Turning r m           the page r stands in a buffer of m bytes, and behind it the listing stands or nothing follows
 use Prim.Native.Nat.{ℕ, _≤_}
@@ -11,20 +11,20 @@ use lib.Dec.{ltb}
 use lib.ListN.{length, take}
 use Rattle.program_reading_inner.specs.declared.Most.{Most}
 use Rattle.program_reading_inner.specs.declared.Most.the-variants as M
-use Rattle.program_reading_inner.specs.Says.{Begins}
+use Rattle.program_reading_inner.specs.Says.{BeginsWith}
 use Rattle.listing_spec.specs.declared.Page.{Page}
 use Rattle.listing_spec.specs.State.{emptyState}
 use Rattle.listing_spec.specs.Paging.{FirstPage, Paged}
 use Rattle.listing_laws.specs.Standing.{Stands}
 
 -- a line has at most 8 bytes, so 9 tell
-abbrev pub lineBytes : ℕ
-lineBytes = 9
+abbrev pub listLineBytes : ℕ
+listLineBytes = 9
 
-abbrev pub InputSays : Most → List ℕ → List ℕ → Page → List ℕ → Type 0
-InputSays M.Full line b r b′ = (s : List ℕ) → Begins s line → Paged (FirstPage s (length b)) b r b′
-InputSays (M.Ended got) line b r b′ = Paged (FirstPage (take got line) (length b)) b r b′
-InputSays M.Failed line b r b′ = (r .length ≡ 0) × (r .state ≡ emptyState) × (b′ ≡ b)
+abbrev pub FirstPageSays : Most → List ℕ → List ℕ → Page → List ℕ → Type 0
+FirstPageSays M.Full line b r b′ = (s : List ℕ) → BeginsWith s line → Paged (FirstPage s (length b)) b r b′
+FirstPageSays (M.Ended got) line b r b′ = Paged (FirstPage (take got line) (length b)) b r b′
+FirstPageSays M.Failed line b r b′ = (r .length ≡ 0) × (r .state ≡ emptyState) × (b′ ≡ b)
 
 abbrev pub goesOn : Bool → ℕ → Bool
 goesOn wrote m = wrote && ltb 0 m

@@ -9,9 +9,9 @@ ghost use mathlib.Core.Path.{_≡_};
 ghost use mathlib.Core.Bool.{false};
 ghost use lib.ListN.{length};
 ghost use Rattle.listing_spec.specs.State.{emptyState};
-ghost use Rattle.listing_spec.specs.Paging.{lineRoom};
+ghost use Rattle.listing_spec.specs.Paging.{rowRoom};
 ghost use Rattle.program_reading_inner.specs.Says.{MostSays};
-ghost use Rattle.listing_program_inner.specs.Says.{lineBytes, InputSays, Turning, goesOn};
+ghost use Rattle.listing_program_inner.specs.Says.{listLineBytes, FirstPageSays, Turning, goesOn};
 
 // Where the program stopped: whether the last page could be written, and how many bytes it had.
 pub struct Printed {
@@ -30,9 +30,9 @@ fn no_page() -> Page
 // The first page of the output for an input of which that was read: all of it, or as many bytes as there was room for. There has to be room for 9 bytes, of which a
 // line has at most 8. Where a read failed there is no page.
 fn first_of_input(most: Most, line: &[u8], buf: &mut [u8]) -> Page
-    requires { ⌜ lineBytes ≤ length (now line) ⌝ }
+    requires { ⌜ listLineBytes ≤ length (now line) ⌝ }
     requires { ⌜ MostSays most (now line) ⌝ }
-    ensures { λ r. ⌜ InputSays most (now (line .entry)) (now (buf .entry)) r (now (buf .exit)) ⌝ }
+    ensures { λ r. ⌜ FirstPageSays most (now (line .entry)) (now (buf .entry)) r (now (buf .exit)) ⌝ }
 {
     match most {
         Most::Full => listing::first_page(line, buf),
@@ -53,7 +53,7 @@ fn goes_on(wrote: bool, length: usize) -> bool
 
 // Writes a page, and all that follow. Where a write fails, nothing more is written.
 fn print_pages(first: Page, buf: &mut [u8]) -> Printed
-    requires { ⌜ lineRoom ≤ length (now buf) ⌝ }
+    requires { ⌜ rowRoom ≤ length (now buf) ⌝ }
     requires { ⌜ Turning first (length (now buf)) ⌝ }
     ensures { λ r. ⌜ goesOn (r .wrote) (r .length) ≡ false ⌝ }
 {
@@ -70,7 +70,7 @@ fn print_pages(first: Page, buf: &mut [u8]) -> Printed
 
 // What the program writes for a line, by way of a lent buffer.
 pub fn print_through(line: &[u8], buf: &mut [u8])
-    requires { ⌜ lineRoom ≤ length (now buf) ⌝ }
+    requires { ⌜ rowRoom ≤ length (now buf) ⌝ }
 {
     let first = listing::first_page(line, buf);
     print_pages(first, buf);

@@ -39,9 +39,9 @@ use Rattle.text_spec.proofs.Put.{placed-append, placed-length, length-ring, len
 use Rattle.limits_spec.specs.Limits.{Listable}
 use Rattle.listing_spec.specs.declared.State.{State}
 use Rattle.listing_spec.specs.Listing.{row}
-use Rattle.listing_spec.specs.Prints.{most}
+use Rattle.listing_spec.specs.Prints.{mostPrinted}
 use Rattle.listing_spec.specs.State.{stateRing, GoodState, Rest, over, on, stateBehind}
-use Rattle.listing_spec.specs.Paging.{lineRoom, Goes, full, total, line}
+use Rattle.listing_spec.specs.Paging.{rowRoom, Goes, full, total, line}
 use Rattle.listing_laws.proofs.Counting.{ringsTo, movesTo, rings-next, rings-bound, moves-next, moves-bound}
 use Rattle.listing_rows_inner.specs.Says.{RowsSay}
 
@@ -52,10 +52,10 @@ pub record Along (n k : ℕ) (v tail : List ℕ) (rings₀ sum₀ : ℕ) (b : Li
   pub tail-long : n + length tail ≡ 64
   pub reading : Reading n k last
   pub member : necklace last ≡ true
-  pub numbers : Listable most k n
+  pub numbers : Listable mostPrinted k n
   pub counted : rings + ringsTo k v ≡ rings₀ + ringsTo k last
   pub summed : sum + movesTo k v ≡ sum₀ + movesTo k last
-  pub few : (rings₀ ≤ most) × (sum₀ ≤ most)
+  pub few : (rings₀ ≤ mostPrinted) × (sum₀ ≤ mostPrinted)
   pub placed : Placed b from text at b′
   pub inside : at ≤ length b
   pub goes : (t : List ℕ) (rest : Rest) → Goes k (length b) last rings sum at t rest → Goes k (length b) v rings₀ sum₀ from (text ++ t) rest
@@ -89,15 +89,15 @@ pub record Came (k : ℕ) (last ring : List ℕ) (m p : ℕ) : Type 0 where
   pub counted : m ≡ moves k last (some ring)
   pub repeats : p ≡ period ring
 
--- a ring's line is never empty, and no line of at most 64 sectors and two machine words is longer than `lineRoom`
+-- a ring's line is never empty, and no line of at most 64 sectors and two machine words is longer than `rowRoom`
 pub line-some : (w : List ℕ) (m p : ℕ) → 0 < length (ringLine w m p)
 line-some w m p = omega (arith, length-ring w m p)
 
-pub line-short : (w : List ℕ) (m p : ℕ) → length w ≤ 64 → m < 2 ^ 64 → p < 2 ^ 64 → length (ringLine w m p) ≤ lineRoom
+pub line-short : (w : List ℕ) (m p : ℕ) → length w ≤ 64 → m < 2 ^ 64 → p < 2 ^ 64 → length (ringLine w m p) ≤ rowRoom
 line-short w m p l a b = omega (arith, length-ring w m p, length-decimal 19 m (omega arith), length-decimal 19 p (omega arith))
 
 -- so there is room for it, and it goes further
-pub line-room : (room at : ℕ) (w : List ℕ) (m p : ℕ) → at + lineRoom ≤ room → length w ≤ 64 → m < 2 ^ 64 → p < 2 ^ 64 → at + length (ringLine w m p) ≤ room
+pub line-room : (room at : ℕ) (w : List ℕ) (m p : ℕ) → at + rowRoom ≤ room → length w ≤ 64 → m < 2 ^ 64 → p < 2 ^ 64 → at + length (ringLine w m p) ≤ room
 line-room room at w m p h l x y = omega (arith, line-short w m p l x y)
 
 pub line-further : (b : List ℕ) (at : ℕ) (w : List ℕ) (m p at′ : ℕ) (b′ : List ℕ) → Placed b at (ringLine w m p) at′ b′ → (at < at′) × (length b′ ≡ length b)
@@ -145,10 +145,10 @@ module _ {n k : ℕ} {v tail : List ℕ} {rings₀ sum₀ : ℕ} {b : List ℕ} 
   stops v′ (Refused r) p′ t w = absurd w
 
   -- the counts so far
-  pub along-rings : rings ≤ 2 * most
+  pub along-rings : rings ≤ 2 * mostPrinted
   along-rings = omega (arith, a .counted, a .few, rings-bound k (a .last), ap (λ (x : ℕ). k ^ x) (a .reading .long), a .numbers .few)
 
-  pub along-moves : sum ≤ 2 * most
+  pub along-moves : sum ≤ 2 * mostPrinted
   along-moves = omega (arith, a .summed, a .few, moves-bound k (a .last), ap (λ (x : ℕ). k ^ x) (a .reading .long), a .numbers .few)
 
   module _ (v′ : List ℕ) (m p′ : ℕ) (c : Came k (a .last) v′ m p′) where
@@ -166,10 +166,10 @@ module _ {n k : ℕ} {v tail : List ℕ} {rings₀ sum₀ : ℕ} {b : List ℕ} 
     came-sum : sum + m + movesTo k v ≡ sum₀ + movesTo k v′
     came-sum = omega (arith, a .summed, c .counted, moves-next k (a .last) v′ (c .next) (rw (a .reading .long) (a .reading)))
 
-    bound : movesTo k v′ ≤ most
+    bound : movesTo k v′ ≤ mostPrinted
     bound = omega (arith, moves-bound k v′, ap (λ (x : ℕ). k ^ x) (came-reading .long), a .numbers .few)
 
-    pub came-moves : sum + m ≤ 2 * most
+    pub came-moves : sum + m ≤ 2 * mostPrinted
     came-moves = omega (arith, came-sum, a .few, bound)
 
     -- the line that is written
@@ -177,13 +177,13 @@ module _ {n k : ℕ} {v tail : List ℕ} {rings₀ sum₀ : ℕ} {b : List ℕ} 
     unfolding row
     line-is = rw (take-at v′ (drop n ring) n (came-reading .long), c .repeats, c .counted)
 
-    line-fits : length (row k (a .last) v′) ≤ lineRoom
+    line-fits : length (row k (a .last) v′) ≤ rowRoom
     unfolding row
     line-fits =
         line-short v′ (moves k (a .last) (some v′)) (period v′) (omega (arith, came-reading .long, a .numbers .sized)) (omega (arith, c .counted, came-moves))
         (omega (arith, period-le v′, came-reading .long, a .numbers .sized))
 
-    module _ (at′ : ℕ) (b″ : List ℕ) (room : at + lineRoom ≤ length b′) (q : Placed b′ at (ringLine (take n (v′ ++ drop n ring)) m p′) at′ b″) where
+    module _ (at′ : ℕ) (b″ : List ℕ) (room : at + rowRoom ≤ length b′) (q : Placed b′ at (ringLine (take n (v′ ++ drop n ring)) m p′) at′ b″) where
       placed-line : Placed b′ at (row k (a .last) v′) at′ b″
       placed-line = rw line-is at q
 
@@ -228,7 +228,7 @@ module _ (s : State) (b : List ℕ) (from : ℕ) (ring : List ℕ) (rings sum at
     state-is = λ i. record { k = s .k; n = s .n; ring = (same ∙ a .laid) i; rings = rings; moves = sum }
 
     -- for want of room
-    pub says-full : more ≡ true → length b′ < at + lineRoom → RowsSay s b from (record { state = left; at = at; more = more }) b′
+    pub says-full : more ≡ true → length b′ < at + rowRoom → RowsSay s b from (record { state = left; at = at; more = more }) b′
     says-full t h =
         record {
           text = a .text;
@@ -241,11 +241,11 @@ module _ (s : State) (b : List ℕ) (from : ℕ) (ring : List ℕ) (rings sum at
           ended = λ q. clash more t q;
         }
 
-    last-short : length (lastLine rings sum) ≤ lineRoom
+    last-short : length (lastLine rings sum) ≤ rowRoom
     last-short = omega (arith, length-last rings sum, length-decimal 19 rings (omega (arith, along-rings a)), length-decimal 19 sum (omega (arith, along-moves a)))
 
     -- at the last ring
-    pub says-ended : more ≡ false → at + lineRoom ≤ length b′ → nextOf necklace (s .k) (a .last) ≡ none → RowsSay s b from (record { state = left; at = at; more = more }) b′
+    pub says-ended : more ≡ false → at + rowRoom ≤ length b′ → nextOf necklace (s .k) (a .last) ≡ none → RowsSay s b from (record { state = left; at = at; more = more }) b′
     says-ended t h d =
         record {
           text = a .text;

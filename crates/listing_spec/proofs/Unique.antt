@@ -22,7 +22,7 @@ use Rattle.plan_spec.proofs.Unique.{one-plan}
 use Rattle.listing_spec.specs.declared.State.{State}
 use Rattle.listing_spec.specs.declared.Page.{Page}
 use Rattle.listing_spec.specs.Listing.{row, opening, zeroRing, listingText, Listing}
-use Rattle.listing_spec.specs.Prints.{most, Prints}
+use Rattle.listing_spec.specs.Prints.{mostPrinted, ListPrints}
 use Rattle.listing_spec.specs.Prints as prints
 use Rattle.listing_spec.specs.State.{Rest, startState, stateBehind}
 use Rattle.listing_spec.specs.Paging.{Goes, full, total, line, FirstPage, small, refused, listed, Next, bad, good, Paged}
@@ -47,17 +47,17 @@ one-listing k n s t a b =
 
 module _ (s : List ℕ) where
   -- two refusals of an input are one; nor is an input both refused and listed; and it is listed with one k and n
-  refusals : (r t : Refusal) → PlanSays most s (Refused r) → PlanSays most s (Refused t) → r ≡ t
-  refusals r t p q = let e = one-plan most s (Refused r) (Refused t) p q in cc
+  refusals : (r t : Refusal) → PlanSays mostPrinted s (Refused r) → PlanSays mostPrinted s (Refused t) → r ≡ t
+  refusals r t p q = let e = one-plan mostPrinted s (Refused r) (Refused t) p q in cc
 
-  not-both : (r : Refusal) (k n : ℕ) → PlanSays most s (Refused r) → PlanSays most s (Accepted k n) → ⊥
-  not-both r k n p q = let e = one-plan most s (Refused r) (Accepted k n) p q in let z : _≡_ {A = ℕ} 0 1 = cc in omega arith
+  not-both : (r : Refusal) (k n : ℕ) → PlanSays mostPrinted s (Refused r) → PlanSays mostPrinted s (Accepted k n) → ⊥
+  not-both r k n p q = let e = one-plan mostPrinted s (Refused r) (Accepted k n) p q in let z : _≡_ {A = ℕ} 0 1 = cc in omega arith
 
-  numbers : (k n k′ n′ : ℕ) → PlanSays most s (Accepted k n) → PlanSays most s (Accepted k′ n′) → (k′ ≡ k) × (n′ ≡ n)
-  numbers k n k′ n′ p q = let e = one-plan most s (Accepted k n) (Accepted k′ n′) p q in (cc, cc)
+  numbers : (k n k′ n′ : ℕ) → PlanSays mostPrinted s (Accepted k n) → PlanSays mostPrinted s (Accepted k′ n′) → (k′ ≡ k) × (n′ ≡ n)
+  numbers k n k′ n′ p q = let e = one-plan mostPrinted s (Accepted k n) (Accepted k′ n′) p q in (cc, cc)
 
   -- an input has at most one output
-  pub one-output : (t u : List ℕ) → Prints s t → Prints s u → t ≡ u
+  pub one-output : (t u : List ℕ) → ListPrints s t → ListPrints s u → t ≡ u
   one-output t u (prints.listed k n p l) (prints.listed k′ n′ q m) =
       let e = numbers k n k′ n′ p q in
       one-listing k n t u l (rw (e .0, e .1) at m)

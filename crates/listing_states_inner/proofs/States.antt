@@ -19,7 +19,7 @@ use Rattle.refusal.proofs.Unique.{never-both}
 use Rattle.limits_spec.specs.Limits.{Listable, numbersOrder}
 use Rattle.limits_spec.proofs.Unique.{listable-passed}
 use Rattle.listing_spec.specs.declared.State.{State}
-use Rattle.listing_spec.specs.Prints.{most}
+use Rattle.listing_spec.specs.Prints.{mostPrinted}
 use Rattle.listing_spec.specs.State.{stateRing, GoodState}
 use Rattle.listing_states_inner.specs.Says.{NecklaceOf, TellsWhether}
 
@@ -40,15 +40,15 @@ module _ (w : List ℕ) (k : ℕ) where
   ring-decided c false p e f = λ q. clash (isNecklace c) (necklace-class w c e ∙ q .member) (sym f)
 
 -- numbers that are refused are no state's
-pub good-numbers : (s : State) (r : Refusal) → Given (numbersOrder most (s .k) (s .n)) r → GoodState s → ⊥
-good-numbers s r g h = never-both (numbersOrder most (s .k) (s .n)) r g (listable-passed most (s .k) (s .n) (h .numbers))
+pub good-numbers : (s : State) (r : Refusal) → Given (numbersOrder mostPrinted (s .k) (s .n)) r → GoodState s → ⊥
+good-numbers s r g h = never-both (numbersOrder mostPrinted (s .k) (s .n)) r g (listable-passed mostPrinted (s .k) (s .n) (h .numbers))
 
-module _ (s : State) (l : Listable most (s .k) (s .n)) (long : length (s .ring) ≡ 64) where
+module _ (s : State) (l : Listable mostPrinted (s .k) (s .n)) (long : length (s .ring) ≡ 64) where
   ring-long : length (stateRing s) ≡ s .n
   ring-long = length-take-le (s .n) (s .ring) (omega (arith, l .sized))
 
   -- otherwise the ring tells
-  pub good-decided : (b : Bool) → s .rings ≤ most → s .moves ≤ most → TellsWhether b (NecklaceOf (stateRing s) (s .k)) → TellsWhether b (GoodState s)
+  pub good-decided : (b : Bool) → s .rings ≤ mostPrinted → s .moves ≤ mostPrinted → TellsWhether b (NecklaceOf (stateRing s) (s .k)) → TellsWhether b (GoodState s)
   good-decided true h m q = record { numbers = l; reading = rw ring-long at (q .reading); member = q .member; rings = h; moves = m }
   good-decided false h m q =
       λ g. q (record { sized = rw ring-long (l .sized); shaded = l .shaded; reading = rw ring-long (g .reading); member = g .member })

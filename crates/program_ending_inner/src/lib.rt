@@ -2,7 +2,7 @@
 
 ghost use Prim.Native.Nat.{_≤_};
 ghost use lib.ListN.{length};
-ghost use Rattle.program_ending_inner.specs.Text.{sayRoom, Said, SaySays};
+ghost use Rattle.program_ending_inner.specs.Text.{sayRoom, EndingSaid, SaySays};
 
 // How a run ended: all of the output was written, or why not.
 pub enum Ending {
@@ -28,7 +28,7 @@ const ROOM: usize = 80;
 
 fn place_ending(e: Ending, buf: &mut [u8]) -> usize
     requires { ⌜ sayRoom ≤ length (now buf) ⌝ }
-    ensures { λ r. ⌜ Said e (now (buf .entry)) r (now (buf .exit)) ⌝ }
+    ensures { λ r. ⌜ EndingSaid e (now (buf .entry)) r (now (buf .exit)) ⌝ }
 {
     match e {
         Ending::Whole => 0,

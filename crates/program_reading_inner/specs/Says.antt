@@ -3,7 +3,7 @@
 --     GotSays r s            some bytes, and no more than the block s has
 --     endedOf got at         behind `at` bytes a read that gave none: the input is over, or the read failed
 --     MostSays r s           the buffer s is full, or the input ended before it was
---     Begins s line          the buffer `line` holds the beginning of the input s, as much as there is room for
+--     BeginsWith s line      the buffer `line` holds the beginning of the input s, as much as there is room for
 --     lineEnding wrote most  the run of a program that reads its input and writes one text for it; wrote: could all of it be written?
 --     streamEnding wrote got the run of one that answers its lines as they come: it ends behind bytes only where it can count no more reads
 use Prim.Native.Nat.{ℕ, zero, suc, _<_, _≤_}
@@ -39,8 +39,8 @@ MostSays M.Full s = Unit
 MostSays (M.Ended n) s = n < length s
 MostSays M.Failed s = Unit
 
-abbrev pub Begins : List ℕ → List ℕ → Type 0
-Begins s line = take (length line) s ≡ line
+abbrev pub BeginsWith : List ℕ → List ℕ → Type 0
+BeginsWith s line = take (length line) s ≡ line
 
 abbrev pub lineEnding : Bool → Most → Ending
 lineEnding false most = E.Unwritten

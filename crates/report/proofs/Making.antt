@@ -21,7 +21,7 @@ use Rattle.stream_spec.specs.Blocks as stream
 use Rattle.report_spec.specs.declared.Pending.{Pending}
 use Rattle.report_spec.specs.declared.Fed.{Fed}
 use Rattle.report_spec.specs.Lines.{Answers}
-use Rattle.report_spec.specs.Blocks.{lineRoom, keep, lineOf, stateOf, bytesFor, FeedSays, EndSays, small, last}
+use Rattle.report_spec.specs.Blocks.{lineRoom, keep, lineOf, stateOf, bytesFor, FeedSays, FinishSays, small, last}
 use Rattle.stream_blocks_inner.specs.Says.{smaller}
 use Rattle.stream_blocks_inner.proofs.Smaller.{smaller-first, smaller-second, smaller-left, smaller-right}
 
@@ -108,7 +108,7 @@ feed-says p s b l m e len f v r b′ t state g =
 -- ---- the end of the input
 
 pub end-says : (p : Pending) (b : List ℕ) → length (p .line) ≡ 9 → lineRoom ≤ length b → (len : ℕ) → len ≡ smaller (p .len) 9 → (r : ℕ) (b′ : List ℕ) →
-    stream.EndSays Answers (take len (p .line)) b r b′ → EndSays p b r b′
+    stream.EndSays Answers (take len (p .line)) b r b′ → FinishSays p b r b′
 end-says p b l h len f r b′ t =
     let y : stream.EndSays Answers (lineOf p) b r b′ = rw (line-take p l len f) at t in
     last h (y .text) (y .says) (y .long) (y .bytes)

@@ -7,7 +7,7 @@ ghost use Prim.Native.Nat.{_≤_};
 ghost use mathlib.Core.Path.{_≡_};
 ghost use mathlib.Core.List.{[]};
 ghost use lib.ListN.{length, take};
-ghost use Rattle.report_spec.specs.Blocks.{stateOf, FeedSays, EndSays};
+ghost use Rattle.report_spec.specs.Blocks.{stateOf, FeedSays, FinishSays};
 
 // No line of the report is longer.
 const LINE_ROOM: usize = 22;
@@ -57,7 +57,7 @@ pub fn feed(p: Pending, block: &[u8], buf: &mut [u8]) -> Fed
 // The end of the input: the text of a last line that has no newline, at the beginning of the buffer, and how long it is. Where the buffer has no room for a line
 // nothing is written.
 pub fn finish(p: Pending, buf: &mut [u8]) -> usize
-    ensures { λ r. ⌜ EndSays p (now (buf .entry)) r (now (buf .exit)) ⌝ }
+    ensures { λ r. ⌜ FinishSays p (now (buf .entry)) r (now (buf .exit)) ⌝ }
 {
     if buf.len() < LINE_ROOM {
         return 0;

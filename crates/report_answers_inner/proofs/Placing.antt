@@ -20,7 +20,7 @@ use Rattle.limits_spec.specs.Limits.{Listable}
 use Rattle.limits_spec.proofs.Given.{listable-within}
 use Rattle.plan_spec.specs.Plan.{PlanSays}
 use Rattle.plan.proofs.Plans.{plan-number}
-use Rattle.how_many_spec.specs.Says.{most}
+use Rattle.how_many_spec.specs.Says.{mostCounted}
 use Rattle.stream_spec.specs.Blocks.{Puts}
 use Rattle.report_spec.specs.Lines.{countsLine, Answers, counted, refused}
 use Rattle.report_spec.specs.Blocks.{lineRoom}
@@ -38,15 +38,15 @@ module _ (limit : ℕ) (s : List ℕ) (p : Planned) (says : PlanSays limit s p) 
   refusal-fits r e at room h = omega (arith, refused-short (numberOf r) (plan-number limit s r (rw e at says)))
 
   -- numbers that are accepted may be counted, where the limit is no higher than the report's
-  pub accepted-few : (k n : ℕ) → p ≡ Accepted k n → limit ≤ most → Listable most k n
-  accepted-few k n e h = let q : PlanSays limit s (Accepted k n) = rw e at says in listable-within limit most k n (q .1) h
+  pub accepted-few : (k n : ℕ) → p ≡ Accepted k n → limit ≤ mostCounted → Listable mostCounted k n
+  accepted-few k n e h = let q : PlanSays limit s (Accepted k n) = rw e at says in listable-within limit mostCounted k n (q .1) h
 
 -- by the report's
-module _ (s : List ℕ) (p : Planned) (says : PlanSays most s p) where
+module _ (s : List ℕ) (p : Planned) (says : PlanSays mostCounted s p) where
   -- a refusal's line is what the line prints
   pub answer-refused : (r : Refusal) → p ≡ Refused r → (b : List ℕ) (at x : ℕ) (b′ : List ℕ) → Placed b at (refusedLine (numberOf r)) x b′ → Puts (Answers s) lineRoom b at x b′
   answer-refused r e b at x b′ q = record { text = refusedLine (numberOf r); says = refused r (rw e at says) refl; short = answer-short s (refusedLine (numberOf r)) (refused r (rw e at says) refl); placed = q }
 
   -- and so is that of two numbers
   pub answer-counted : (k n : ℕ) → p ≡ Accepted k n → (b : List ℕ) (at x : ℕ) (b′ : List ℕ) → Placed b at (countsLine (howMany necklace n k) (howMany lyndon n k)) x b′ → Puts (Answers s) lineRoom b at x b′
-  answer-counted k n e b at x b′ q = record { text = countsLine (howMany necklace n k) (howMany lyndon n k); says = counted k n (rw e at says) refl; short = counts-short k n (accepted-few most s p says k n e (omega arith)); placed = q }
+  answer-counted k n e b at x b′ q = record { text = countsLine (howMany necklace n k) (howMany lyndon n k); says = counted k n (rw e at says) refl; short = counts-short k n (accepted-few mostCounted s p says k n e (omega arith)); placed = q }

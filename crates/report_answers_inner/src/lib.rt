@@ -11,7 +11,7 @@ ghost use Rattle.refusal.specs.Numbers.{numberOf};
 ghost use Rattle.limits_spec.specs.Limits.{Listable};
 ghost use Rattle.text_spec.specs.Text.{refusedLine};
 ghost use Rattle.text_spec.specs.Put.{Placed};
-ghost use Rattle.how_many_spec.specs.Says.{most};
+ghost use Rattle.how_many_spec.specs.Says.{mostCounted};
 ghost use Rattle.stream_spec.specs.Blocks.{Puts};
 ghost use Rattle.report_spec.specs.Lines.{countsLine, Answers};
 ghost use Rattle.report_spec.specs.Blocks.{lineRoom};
@@ -29,7 +29,7 @@ fn place_counts(buf: &mut [u8], at: usize, x: usize, y: usize) -> usize
 
 // The line of numbers that passed 1, 2 and 12: the necklaces and the Lyndon words.
 fn place_numbers(buf: &mut [u8], at: usize, k: usize, n: usize) -> usize
-    requires { ⌜ Listable most k n ⌝ }
+    requires { ⌜ Listable mostCounted k n ⌝ }
     requires { ⌜ at + lineRoom ≤ length (now buf) ⌝ }
     ensures { λ r. ⌜ Placed (now (buf .entry)) at (countsLine (howMany necklace n k) (howMany lyndon n k)) r (now (buf .exit)) ⌝ }
 {

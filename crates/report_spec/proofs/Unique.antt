@@ -15,14 +15,14 @@ use Rattle.text_spec.specs.Text.{refusedLine}
 use Rattle.limits_spec.specs.declared.Planned.{Planned}
 use Rattle.limits_spec.specs.declared.Planned.the-variants.{Accepted, Refused}
 use Rattle.plan_spec.proofs.Unique.{one-plan}
-use Rattle.how_many_spec.specs.Says.{most}
+use Rattle.how_many_spec.specs.Says.{mostCounted}
 use Rattle.stream_spec.specs.Lines.{ended, under, lastOf, lines}
 use Rattle.stream_spec.specs.Texts.{Texts}
 use Rattle.stream_spec.proofs.Unique as stream
 use Rattle.report_spec.specs.declared.Pending.{Pending}
 use Rattle.report_spec.specs.declared.Fed.{Fed}
 use Rattle.report_spec.specs.Lines.{countsLine, Answers, counted, refused, Reports}
-use Rattle.report_spec.specs.Blocks.{lineRoom, lineOf, stateOf, bytesFor, FeedSays, EndSays, small, last}
+use Rattle.report_spec.specs.Blocks.{lineRoom, lineOf, stateOf, bytesFor, FeedSays, FinishSays, small, last}
 
 -- the text of a plan
 abbrev textOf : Planned → List ℕ
@@ -31,10 +31,10 @@ textOf (Refused r) = refusedLine (numberOf r)
 
 -- a line prints one text
 pub one-text : (s t u : List ℕ) → Answers s t → Answers s u → t ≡ u
-one-text s t u (counted k n p e) (counted j m q f) = e ∙ ap textOf (one-plan most s (Accepted k n) (Accepted j m) p q) ∙ sym f
-one-text s t u (counted k n p e) (refused r q f) = e ∙ ap textOf (one-plan most s (Accepted k n) (Refused r) p q) ∙ sym f
-one-text s t u (refused r p e) (counted j m q f) = e ∙ ap textOf (one-plan most s (Refused r) (Accepted j m) p q) ∙ sym f
-one-text s t u (refused r p e) (refused x q f) = e ∙ ap textOf (one-plan most s (Refused r) (Refused x) p q) ∙ sym f
+one-text s t u (counted k n p e) (counted j m q f) = e ∙ ap textOf (one-plan mostCounted s (Accepted k n) (Accepted j m) p q) ∙ sym f
+one-text s t u (counted k n p e) (refused r q f) = e ∙ ap textOf (one-plan mostCounted s (Accepted k n) (Refused r) p q) ∙ sym f
+one-text s t u (refused r p e) (counted j m q f) = e ∙ ap textOf (one-plan mostCounted s (Refused r) (Accepted j m) p q) ∙ sym f
+one-text s t u (refused r p e) (refused x q f) = e ∙ ap textOf (one-plan mostCounted s (Refused r) (Refused x) p q) ∙ sym f
 
 -- lines print one text
 one-texts : (ls : List (List ℕ)) (t u : List ℕ) → Texts Answers ls t → Texts Answers ls u → t ≡ u
@@ -57,7 +57,7 @@ one-feed p s b r q b₁ b₂ x y =
     )
 
 -- the end of the input
-pub one-end : (p : Pending) (b : List ℕ) (r q : ℕ) (b₁ b₂ : List ℕ) → EndSays p b r b₁ → EndSays p b q b₂ → (r ≡ q) × (b₁ ≡ b₂)
+pub one-end : (p : Pending) (b : List ℕ) (r q : ℕ) (b₁ b₂ : List ℕ) → FinishSays p b r b₁ → FinishSays p b q b₂ → (r ≡ q) × (b₁ ≡ b₂)
 one-end p b r q b₁ b₂ (small l x y) (small m z w) = (x ∙ sym z, y ∙ sym w)
 one-end p b r q b₁ b₂ (small l x y) (last m t z v w) = absurd (omega arith)
 one-end p b r q b₁ b₂ (last l t x y z) (small m v w) = absurd (omega arith)

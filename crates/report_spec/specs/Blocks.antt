@@ -6,8 +6,8 @@
 --     stateOf u           the state of the line u under way: its first 9 bytes, then 0
 --     bytesFor s b        how many bytes of the block s are taken with the buffer b: as many as it has room for lines, and no more than there are
 --     FeedSays            a block is taken: the texts of the lines that end in it stand at the beginning of the buffer, and the rest of the buffer is as it was
---     EndSays             the end of the input: the text of a line under way; without room for a line nothing is written
---     Run p s text        from the state p on, the input s is fed in blocks, cut anywhere, and ended; text is what stands in the buffers, one after another
+--     FinishSays          the end of the input: the text of a line under way; without room for a line nothing is written
+--     ReportRun p s text  from the state p on, the input s is fed in blocks, cut anywhere, and ended; text is what stands in the buffers, one after another
 -- That these determine the answers and every byte of the buffers: proofs/Unique. That a run prints what the whole input prints, however it was cut:
 -- `report_laws`, proofs/Cut.
 use Prim.Native.Nat.{ℕ, _-_, _/_, _<_, _≤_}
@@ -47,12 +47,12 @@ pub record FeedSays (p : Pending) (s b : List ℕ) (r : Fed) (b′ : List ℕ) :
   pub bytes : b′ ≡ text ++ drop (length text) b
 
 -- the end of the input
-pub data EndSays (p : Pending) (b : List ℕ) (r : ℕ) (b′ : List ℕ) : Type 0 where
-  small : length b < lineRoom → r ≡ 0 → b′ ≡ b → EndSays p b r b′
-  last : lineRoom ≤ length b → (text : List ℕ) → Texts Answers (lastOf (lineOf p)) text → r ≡ length text → b′ ≡ text ++ drop (length text) b → EndSays p b r b′
+pub data FinishSays (p : Pending) (b : List ℕ) (r : ℕ) (b′ : List ℕ) : Type 0 where
+  small : length b < lineRoom → r ≡ 0 → b′ ≡ b → FinishSays p b r b′
+  last : lineRoom ≤ length b → (text : List ℕ) → Texts Answers (lastOf (lineOf p)) text → r ≡ length text → b′ ≡ text ++ drop (length text) b → FinishSays p b r b′
 
 -- ---- a run
 
-pub data Run : Pending → List ℕ → List ℕ → Type 0 where
-  ends : {p : Pending} {b b′ : List ℕ} {r : ℕ} → lineRoom ≤ length b → EndSays p b r b′ → Run p [] (take r b′)
-  feeds : {p : Pending} {s b b′ rest text : List ℕ} {r : Fed} → FeedSays p s b r b′ → Run (r .state) rest text → Run p (take (r .taken) s ++ rest) (take (r .length) b′ ++ text)
+pub data ReportRun : Pending → List ℕ → List ℕ → Type 0 where
+  ends : {p : Pending} {b b′ : List ℕ} {r : ℕ} → lineRoom ≤ length b → FinishSays p b r b′ → ReportRun p [] (take r b′)
+  feeds : {p : Pending} {s b b′ rest text : List ℕ} {r : Fed} → FeedSays p s b r b′ → ReportRun (r .state) rest text → ReportRun p (take (r .taken) s ++ rest) (take (r .length) b′ ++ text)

@@ -15,7 +15,7 @@ use Rattle.text_spec.specs.Decimal.{decimal}
 use Rattle.text_spec.specs.Text.{refusedLine}
 use Rattle.limits_spec.specs.declared.Planned.the-variants.{Accepted, Refused}
 use Rattle.plan_spec.specs.Plan.{PlanSays}
-use Rattle.how_many_spec.specs.Says.{most}
+use Rattle.how_many_spec.specs.Says.{mostCounted}
 use Rattle.stream_spec.specs.Texts.{Prints}
 
 -- the necklaces, a space, the Lyndon words
@@ -24,8 +24,8 @@ countsLine x y = decimal x ++ ascii " " ++ decimal y ++ ascii "\n"
 
 -- what one line prints
 pub data Answers (s text : List ℕ) : Type 0 where
-  counted : (k n : ℕ) → PlanSays most s (Accepted k n) → text ≡ countsLine (howMany necklace n k) (howMany lyndon n k) → Answers s text
-  refused : (r : Refusal) → PlanSays most s (Refused r) → text ≡ refusedLine (numberOf r) → Answers s text
+  counted : (k n : ℕ) → PlanSays mostCounted s (Accepted k n) → text ≡ countsLine (howMany necklace n k) (howMany lyndon n k) → Answers s text
+  refused : (r : Refusal) → PlanSays mostCounted s (Refused r) → text ≡ refusedLine (numberOf r) → Answers s text
 
 -- ---- what an input prints
 

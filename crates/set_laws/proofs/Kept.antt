@@ -1,86 +1,32 @@
--- Words kept from a list, and what is left of the Lyndon words as a walk goes on.
---     kept-all, kept-each, kept-increasing    what is kept is in the list and passes, each that passes is kept, and the order stays
---     kept-first                    the first that passes, and those above it
+-- What is left of the Lyndon words as a walk goes on.
+--     kept-all, kept-each, kept-increasing    proofs/Kept of `word_list_spec`, passed on
 --     rest k u                      the Lyndon words of u's length above u
 --     rest-step, rest-end           a step to the next Lyndon word takes the first of them; where there is none, nothing is left
 --     lyndons-one, lyndons-more     the Lyndon words from the all-zero ring on, which is one of them only where n is 1
 use Prim.Native.Nat.{ℕ, _+_, _<_, _≤_}
-use mathlib.Core.Path.{_≡_, refl, sym, ap, subst, _∙_}
-use mathlib.Core.Bool.{Bool, true, false, _&&_}
+use mathlib.Core.Path.{_≡_, refl, sym, ap, _∙_}
+use mathlib.Core.Bool.{true, false, _&&_}
 use mathlib.Core.Option.{none, some}
 use mathlib.Core.List.{List, [], _∷_}
 use native.Mathlib.Omega.{arith}
 use lib.ListN.{length}
 use Rattle.words.specs.Order.{before, upTo}
-use Rattle.words.specs.Readings.{Reading, readings, first}
-use Rattle.words.proofs.Split.{Test, passes, fails, test, not-right, clash, refuted}
+use Rattle.words.specs.Readings.{Reading, readings}
+use Rattle.words.proofs.Split.{Test, passes, fails, test, refuted}
 use Rattle.words.proofs.Lex.{Lex, ahead, equal, behind, lex, before-irrefl, before-trans, before-less, before-upTo, upTo-refl}
-use Rattle.words.proofs.Readings.{All, nothing, also, all-weaken, Increasing, empty, more, readings-all, readings-increasing, first-none, first-is}
+use Rattle.words.proofs.Readings.{all-weaken, readings-all, readings-increasing, first-none, first-is}
 use Rattle.rings.specs.Necklace.{lyndon}
 use Rattle.rings.specs.Steps.{aboveOf, nextOf}
 use Rattle.ring_laws.proofs.Lyndon.{of-lyndon, lyndon-one}
 use Rattle.ring_laws.proofs.FullWalk.{next-facts, zeros, length-zeros, zeros-at, zeros-reading}
-use Rattle.set_spec.specs.Greedy.{kept, lyndons}
+use Rattle.word_list_spec.specs.Passing.{kept}
+pub use Rattle.word_list_spec.proofs.Kept.{kept-all, kept-each, kept-increasing}
+use Rattle.word_list_spec.proofs.Kept.{kept-cong, kept-none, kept-first}
+use Rattle.set_spec.specs.Greedy.{lyndons}
 
 -- the Lyndon words above u
 unfoldable pub rest : ℕ → List ℕ → List (List ℕ)
 rest k u = kept (aboveOf lyndon u) (readings (length u) k)
-
--- ---- kept
-
-pub kept-cong : (f g : List ℕ → Bool) (ws : List (List ℕ)) → All (λ w. f w ≡ g w) ws → kept f ws ≡ kept g ws
-unfolding kept
-kept-cong f g [] a = refl
-kept-cong f g (w ∷ ws) (also e a) =
-    elim (test (g w)) [ passes q ↦ rw (e, q, kept) (ap (λ (x : List (List ℕ)). w ∷ x) (kept-cong f g ws a)) | fails q ↦ rw (e, q, kept) (kept-cong f g ws a) ]
-
-pub kept-none : (f : List ℕ → Bool) (ws : List (List ℕ)) → All (λ w. f w ≡ false) ws → kept f ws ≡ []
-unfolding kept
-kept-none f [] a = refl
-kept-none f (w ∷ ws) (also e a) = rw (e, kept) (kept-none f ws a)
-
--- what is in the kept list is in the list, and passes
-pub kept-all : {P : List ℕ → Type 0} (f : List ℕ → Bool) (ws : List (List ℕ)) → All P ws → All (λ w. P w × (f w ≡ true)) (kept f ws)
-unfolding kept
-kept-all f [] a = nothing
-kept-all {P} f (w ∷ ws) (also p a) = elim (test (f w)) [ passes q ↦ rw (q, kept) (also (p, q) (kept-all f ws a)) | fails q ↦ rw (q, kept) (kept-all f ws a) ]
-
-pub kept-weaken : {P : List ℕ → Type 0} (f : List ℕ → Bool) (ws : List (List ℕ)) → All P ws → All P (kept f ws)
-kept-weaken f ws a = all-weaken (λ w p. p .0) (kept-all f ws a)
-
--- it is in order where the list is
-pub kept-increasing : (f : List ℕ → Bool) (ws : List (List ℕ)) → Increasing ws → Increasing (kept f ws)
-unfolding kept
-kept-increasing f [] i = empty
-kept-increasing f (w ∷ ws) (more p i) =
-    elim (test (f w)) [ passes q ↦ rw (q, kept) (more (kept-weaken f ws p) (kept-increasing f ws i)) | fails q ↦ rw (q, kept) (kept-increasing f ws i) ]
-
--- each that passes is in it
-pub kept-each : {P : List ℕ → Type 0} (f : List ℕ → Bool) (ws : List (List ℕ)) → All P (kept f ws) → All (λ w. f w ≡ true → P w) ws
-unfolding kept
-kept-each f [] a = nothing
-kept-each {P} f (w ∷ ws) a =
-    elim (test (f w)) [ passes q ↦ here (λ ps. kept-each f ws ps) (rw (q, kept) at a) | fails q ↦ also (λ e. clash (f w) e q) (kept-each f ws (rw (q, kept) at a)) ]
-  where
-    here : (All P (kept f ws) → All (λ w. f w ≡ true → P w) ws) → All P (w ∷ kept f ws) → All (λ w. f w ≡ true → P w) (w ∷ ws)
-    here next (also p ps) = also (λ e. p) (next ps)
-
--- the first that passes, and those above it
-pub kept-first : (f : List ℕ → Bool) (ws : List (List ℕ)) (v : List ℕ) → Increasing ws → first f ws ≡ some v → kept f ws ≡ v ∷ kept (λ w. before v w && f w) ws
-unfolding kept first
-kept-first f [] v i h = absurd (let z : _≡_ {A = ℕ} 0 1 = cc in omega arith)
-kept-first f (w ∷ ws) v (more b i) h =
-    elim (test (f w)) [
-      | passes e ↦ let g = rw (e, first) at h in let q : w ≡ v = cc in subst (λ x. kept f (w ∷ ws) ≡ x ∷ kept (λ u. before x u && f u) (w ∷ ws)) q (found e)
-      | fails e ↦ later e (kept-first f ws v i (rw (e, first) at h))
-    ]
-  where
-    found : f w ≡ true → kept f (w ∷ ws) ≡ w ∷ kept (λ u. before w u && f u) (w ∷ ws)
-    found e =
-        rw (e, before-irrefl w, kept) (ap (λ (x : List (List ℕ)). w ∷ x) (kept-cong f (λ u. before w u && f u) ws (all-weaken (λ u l. rw l refl) b)))
-
-    later : f w ≡ false → kept f ws ≡ v ∷ kept (λ u. before v u && f u) ws → kept f (w ∷ ws) ≡ v ∷ kept (λ u. before v u && f u) (w ∷ ws)
-    later e q = rw (not-right (before v w) (f w) e, e, kept) q
 
 -- ---- a step
 

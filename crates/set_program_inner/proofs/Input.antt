@@ -11,10 +11,10 @@ use Rattle.set_text_spec.proofs.First.{printed-first}
 use Rattle.set_text_spec.proofs.Unique.{printed-inside, printed-length}
 use Rattle.program_reading_inner.specs.declared.Most.{Most}
 use Rattle.program_reading_inner.specs.declared.Most.the-variants as M
-use Rattle.set_program_inner.specs.Says.{lineBytes, InputSays}
+use Rattle.set_program_inner.specs.Says.{setLineBytes, InputSays}
 
 module _ (line b : List ℕ) (r : ℕ) (b′ : List ℕ) where
-  pub input-full : lineBytes ≤ length line → Printed line b r b′ → InputSays M.Full line b r b′
+  pub input-full : setLineBytes ≤ length line → Printed line b r b′ → InputSays M.Full line b r b′
   input-full h p = record { inside = printed-inside line b r b′ p; long = printed-length line b r b′ p; output = λ s e. printed-first (length line) s h b r b′ (rw e p) }
 
   pub input-ended : (got : ℕ) → Printed (take got line) b r b′ → InputSays (M.Ended got) line b r b′

@@ -8,11 +8,11 @@ use lib.ListN.{length, take}
 use Rattle.set_text_spec.specs.Prints.{Printed}
 use Rattle.program_reading_inner.specs.declared.Most.{Most}
 use Rattle.program_reading_inner.specs.declared.Most.the-variants as M
-use Rattle.program_reading_inner.specs.Says.{Begins}
+use Rattle.program_reading_inner.specs.Says.{BeginsWith}
 
 -- a line has at most 16 bytes, so 17 tell
-abbrev pub lineBytes : ℕ
-lineBytes = 17
+abbrev pub setLineBytes : ℕ
+setLineBytes = 17
 
 pub record OutputOf (P : Type 0) (b : List ℕ) (r : ℕ) (b′ : List ℕ) : Type 0 where
   pub inside : r ≤ length b
@@ -20,6 +20,6 @@ pub record OutputOf (P : Type 0) (b : List ℕ) (r : ℕ) (b′ : List ℕ) : Ty
   pub output : P
 
 abbrev pub InputSays : Most → List ℕ → List ℕ → ℕ → List ℕ → Type 0
-InputSays M.Full line b r b′ = OutputOf ((s : List ℕ) → Begins s line → Printed s b r b′) b r b′
+InputSays M.Full line b r b′ = OutputOf ((s : List ℕ) → BeginsWith s line → Printed s b r b′) b r b′
 InputSays (M.Ended got) line b r b′ = OutputOf (Printed (take got line) b r b′) b r b′
 InputSays M.Failed line b r b′ = (r ≡ 0) × (b′ ≡ b)

@@ -6,12 +6,12 @@ use program_reading_inner::Most;
 ghost use Prim.Native.Nat.{_≤_};
 ghost use lib.ListN.{length};
 ghost use Rattle.program_reading_inner.specs.Says.{MostSays};
-ghost use Rattle.set_program_inner.specs.Says.{lineBytes, InputSays};
+ghost use Rattle.set_program_inner.specs.Says.{setLineBytes, InputSays};
 
 // The output for an input of which that was read: all of it, or as many bytes as there was room for. There has to be room for 17 bytes, of which a line has at
 // most 16. Where a read failed there is no output.
 fn output_of_input(most: Most, line: &[u8], buf: &mut [u8]) -> usize
-    requires { ⌜ lineBytes ≤ length (now line) ⌝ }
+    requires { ⌜ setLineBytes ≤ length (now line) ⌝ }
     requires { ⌜ MostSays most (now line) ⌝ }
     ensures { λ r. ⌜ InputSays most (now (line .entry)) (now (buf .entry)) r (now (buf .exit)) ⌝ }
 {

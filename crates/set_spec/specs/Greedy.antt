@@ -5,7 +5,7 @@
 --     greedy d left taken ws      the choice from ws, where `taken` are taken and `left` more are wanted: all that are taken then, in the order taken
 --     looked d left taken ws      the words of ws that the choice looks at
 --     offered d taken w           what is taken after the word w was offered
---     kept f ws                   the words of the list that pass, in order
+--     kept f ws                   the words of the list that pass, in order: Passing of `word_list_spec`, passed on
 --     lyndons n k                 the Lyndon words of n and k in increasing order
 --     picked n k d want           the set
 --     lookedAt n k d want         the Lyndon words that were looked at for it
@@ -17,6 +17,7 @@ use lib.ListN.{length, getD}
 use lib.Dec.{ltb}
 use Rattle.words.specs.Search.{allBelow}
 use Rattle.words.specs.Readings.{readings}
+unfoldable pub use Rattle.word_list_spec.specs.Passing.{kept}
 use Rattle.rings.specs.Necklace.{lyndon}
 use Rattle.rings.specs.Alike.{apart}
 
@@ -43,11 +44,6 @@ looked d (suc left) taken (w ∷ ws) = w ∷ elim (clear d taken w) [ true ↦ l
 -- the set after the word w was offered
 unfoldable pub offered : ℕ → List (List ℕ) → List ℕ → List (List ℕ)
 offered d taken w = elim (clear d taken w) [ true ↦ taken ++ (w ∷ []) | false ↦ taken ]
-
--- the words of the list that pass
-unfoldable pub kept : (List ℕ → Bool) → List (List ℕ) → List (List ℕ)
-kept f [] = []
-kept f (w ∷ ws) = elim (f w) [ true ↦ w ∷ kept f ws | false ↦ kept f ws ]
 
 -- the Lyndon words of n and k in increasing order
 unfoldable pub lyndons : ℕ → ℕ → List (List ℕ)

@@ -15,12 +15,13 @@ use Rattle.words.specs.Readings.{bit}
 use Rattle.words.proofs.Split.{lt, eq, gt, tri, both, both-left, not-left, not-right, agree, clash}
 use Rattle.words.proofs.Sequence.{sec}
 use Rattle.words.proofs.Lex.{same-refl, same-false, upTo-not-less}
+use Rattle.word_list_spec.specs.Passing.{countBelow}
 use Rattle.rings.specs.Necklace.{lyndon}
 use Rattle.rings.specs.Open.{open-all}
 use Rattle.ring_laws.proofs.Run.{Lyn, Run, run-shorter, run-through, lyn-through}
 use Rattle.ring_laws.proofs.Lyndon.{lyndon-of}
 use Rattle.ring_laws.proofs.Classes.{not-lyndon}
-use Rattle.shades_next_inner.specs.Raised.{countBelow, newWord, raisedTo}
+use Rattle.shades_next_inner.specs.Raised.{newWord, raisedTo}
 
 -- ---- counting numbers below n
 

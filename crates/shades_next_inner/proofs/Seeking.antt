@@ -30,7 +30,7 @@ use Rattle.ring_laws.proofs.Words.{pre-of}
 use Rattle.ring_laws.proofs.Lyndon.{run-prenecklace, run-lyn}
 use Rattle.ring_laws.proofs.FullWalk.{next-facts}
 use Rattle.shades_next_inner.specs.declared.Sought.{Sought}
-use Rattle.classify_inner.specs.Beginning.{Opened}
+use Rattle.classify_inner.specs.Beginning.{LongestPrenecklace}
 use Rattle.shades_next_inner.specs.Runs.{Repeatable, Repeats}
 use Rattle.shades_raise_inner.specs.Places.{CountedRing, Blocked, Begun, Headed, PlaceFound}
 use Rattle.shades_next_inner.specs.Above.{Finds}
@@ -285,7 +285,7 @@ answers-soon w n k cs r a =
 
 -- ---- where the search starts
 
-module _ (cs : List ℕ) (n k : ℕ) (start : List ℕ) (size : length start ≡ 64) (ready : Ready start n k cs) (e p : ℕ) (opened : Opened (take n start) (record { end = e; lyn = p })) where
+module _ (cs : List ℕ) (n k : ℕ) (start : List ℕ) (size : length start ≡ 64) (ready : Ready start n k cs) (e p : ℕ) (opened : LongestPrenecklace (take n start) (record { end = e; lyn = p })) where
   start-long : length (take n start) ≡ n
   start-long = ready .reading .long
 

@@ -5,7 +5,7 @@
 use Prim.Native.Nat.{ℕ}
 use mathlib.Core.Path.{_≡_, refl}
 use mathlib.Core.List.{List, []}
-use Rattle.stream_spec.specs.Texts.{Prints, Tells, Run}
+use Rattle.stream_spec.specs.Texts.{Prints, Tells, BlockRun}
 use Rattle.stream_spec.proofs.Unique.{one-prints}
 use Rattle.stream_spec.proofs.Cut.{run-prints, cut-anyhow}
 use Rattle.report_laws.proofs.Kept.{report-tells}
@@ -23,8 +23,8 @@ said-tells Count = report-tells
 pub one-said : (kind : Kind) (s t u : List ℕ) → Prints (Said kind) s t → Prints (Said kind) s u → t ≡ u
 one-said kind s t u p q = one-prints (Said kind) (said-tells kind .one) s t u p q
 
-pub said-prints : (kind : Kind) (s text : List ℕ) → Run (Said kind) (mostOf kind) [] s text → Prints (Said kind) s text
+pub said-prints : (kind : Kind) (s text : List ℕ) → BlockRun (Said kind) (mostOf kind) [] s text → Prints (Said kind) s text
 said-prints kind s text r = run-prints (Said kind) (mostOf kind) (said-tells kind) s text r
 
-pub said-anyhow : (kind : Kind) (s t u : List ℕ) → Run (Said kind) (mostOf kind) [] s t → Run (Said kind) (mostOf kind) [] s u → t ≡ u
+pub said-anyhow : (kind : Kind) (s t u : List ℕ) → BlockRun (Said kind) (mostOf kind) [] s t → BlockRun (Said kind) (mostOf kind) [] s u → t ≡ u
 said-anyhow kind s t u p q = cut-anyhow (Said kind) (mostOf kind) (said-tells kind) s t u p q

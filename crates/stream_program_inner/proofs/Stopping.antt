@@ -21,7 +21,7 @@ use Rattle.program_reading_inner.specs.Says.{GotSays}
 use Rattle.stream_spec.specs.Blocks.{BlockSays, EndSays}
 use Rattle.stream_asking_inner.specs.declared.Kind.{Kind}
 use Rattle.stream_asking_inner.specs.Says.{Said, mostOf}
-use Rattle.stream_program_inner.specs.Says.{TurnSays, GoesOn}
+use Rattle.stream_program_inner.specs.Says.{BehindRead, GoesOn}
 
 pub goes-unwritten : (wrote : Bool) (got : Got) (reads : ℕ) → wrote ≡ false → GoesOn wrote got reads false
 goes-unwritten wrote got reads e = rw e refl
@@ -70,17 +70,17 @@ first-long n s m l e = simp length-take (omega (arith, l, e))
 -- ---- a turn
 
 module _ (kind : Kind) (u s b v : List ℕ) (r : ℕ) (b′ : List ℕ) where
-  pub turn-bytes : (got : Got) (n : ℕ) → got ≡ Bytes n → BlockSays (Said kind) (mostOf kind) u (take n s) b v r b′ → TurnSays kind got u s b v r b′
+  pub turn-bytes : (got : Got) (n : ℕ) → got ≡ Bytes n → BlockSays (Said kind) (mostOf kind) u (take n s) b v r b′ → BehindRead kind got u s b v r b′
   turn-bytes got n e t = rw e t
 
-  pub turn-over : (got : Got) → got ≡ Over → EndSays (Said kind) u b r b′ → TurnSays kind got u s b v r b′
+  pub turn-over : (got : Got) → got ≡ Over → EndSays (Said kind) u b r b′ → BehindRead kind got u s b v r b′
   turn-over got e t = rw e t
 
   -- the texts are inside the buffer
-  pub turn-inside : (got : Got) → TurnSays kind got u s b v r b′ → r ≤ length b
+  pub turn-inside : (got : Got) → BehindRead kind got u s b v r b′ → r ≤ length b
   turn-inside (Bytes n) t = t .inside
   turn-inside Over t = t .inside
   turn-inside Failed t = omega (arith, t .0)
 
-pub turn-failed : (kind : Kind) (got : Got) (u s b v : List ℕ) → got ≡ Failed → TurnSays kind got u s b v 0 b
+pub turn-failed : (kind : Kind) (got : Got) (u s b v : List ℕ) → got ≡ Failed → BehindRead kind got u s b v 0 b
 turn-failed kind got u s b v e = rw e (refl, refl)

@@ -1,6 +1,6 @@
 -- What is written behind a read, and why a program stops.
---     Roomy kind got s b          the buffer b has room for a text for each byte of the block s, and what was read is inside it
---     TurnSays                    what stands in the buffer behind a read: the texts of the lines that end in what was read, that of a last line where the input
+--     RoomForRead kind got s b    the buffer b has room for a text for each byte of the block s, and what was read is inside it
+--     BehindRead                  what stands in the buffer behind a read: the texts of the lines that end in what was read, that of a last line where the input
 --                                 is over, and nothing where the read failed; as in `stream_spec`, specs/Blocks
 --     Turns                       the same, of however many bytes that is
 --     GoesOn wrote got reads r    r: does it go on? Where bytes were read and their texts written, unless 2 to the power 64 reads were made
@@ -16,18 +16,18 @@ use Rattle.program_reading_inner.specs.Says.{GotSays}
 use Rattle.program_reading_inner.specs.declared.Got.{Got}
 use Rattle.program_reading_inner.specs.declared.Got.the-variants.{Bytes, Over, Failed}
 
-pub record Roomy (kind : Kind) (got : Got) (s b : List ℕ) : Type 0 where
+pub record RoomForRead (kind : Kind) (got : Got) (s b : List ℕ) : Type 0 where
   pub some : 0 < length s
   pub room : length s * roomOf kind ≤ length b
   pub inside : GotSays got s
 
-abbrev pub TurnSays : Kind → Got → List ℕ → List ℕ → List ℕ → List ℕ → ℕ → List ℕ → Type 0
-TurnSays kind (Bytes n) u s b v r b′ = BlockSays (Said kind) (mostOf kind) u (take n s) b v r b′
-TurnSays kind Over u s b v r b′ = EndSays (Said kind) u b r b′
-TurnSays kind Failed u s b v r b′ = (r ≡ 0) × (b′ ≡ b)
+abbrev pub BehindRead : Kind → Got → List ℕ → List ℕ → List ℕ → List ℕ → ℕ → List ℕ → Type 0
+BehindRead kind (Bytes n) u s b v r b′ = BlockSays (Said kind) (mostOf kind) u (take n s) b v r b′
+BehindRead kind Over u s b v r b′ = EndSays (Said kind) u b r b′
+BehindRead kind Failed u s b v r b′ = (r ≡ 0) × (b′ ≡ b)
 
 abbrev pub Turns : Kind → Got → List ℕ → List ℕ → List ℕ → List ℕ → List ℕ → Type 0
-Turns kind got u s b v b′ = (r : ℕ) × TurnSays kind got u s b v r b′
+Turns kind got u s b v b′ = (r : ℕ) × BehindRead kind got u s b v r b′
 
 abbrev pub GoesOn : Bool → Got → ℕ → Bool → Type 0
 GoesOn true (Bytes n) reads true = reads < 18446744073709551615

@@ -11,7 +11,7 @@ ghost use mathlib.Core.Path.{_≡_};
 ghost use mathlib.Core.Bool.{false};
 ghost use lib.ListN.{length, take};
 ghost use Rattle.stream_asking_inner.specs.Says.{mostOf, roomOf};
-ghost use Rattle.stream_program_inner.specs.Says.{Roomy, TurnSays, Turns, GoesOn};
+ghost use Rattle.stream_program_inner.specs.Says.{RoomForRead, BehindRead, Turns, GoesOn};
 
 // Behind a turn: what its read gave, whether the texts could be written, and how many bytes of the line under way are held.
 pub struct Turned {
@@ -39,9 +39,9 @@ fn place_turn(
 ) -> Behind
     requires { ⌜ length (now line) ≡ mostOf kind ⌝ }
     requires { ⌜ len ≤ length (now line) ⌝ }
-    requires { ⌜ Roomy kind got (now block) (now buf) ⌝ }
+    requires { ⌜ RoomForRead kind got (now block) (now buf) ⌝ }
     ensures { λ r. ⌜ r .len ≤ length (now (line .exit)) ⌝ }
-    ensures { λ r. ⌜ TurnSays kind got (take len (now (line .entry))) (now (block .entry)) (now (buf .entry)) (take (r .len) (now (line .exit))) (r .at) (now (buf .exit)) ⌝ }
+    ensures { λ r. ⌜ BehindRead kind got (take len (now (line .entry))) (now (block .entry)) (now (buf .entry)) (take (r .len) (now (line .exit))) (r .at) (now (buf .exit)) ⌝ }
 {
     match got {
         Got::Bytes(n) => stream_blocks_inner::take_bytes(kind, line, len, &block[..n], buf),

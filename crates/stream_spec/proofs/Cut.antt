@@ -17,7 +17,7 @@ use lib.Seq.{take-take}
 use Rattle.words.proofs.Split.{passes, fails, test}
 use Rattle.text_spec.specs.Ascii.{newline}
 use Rattle.stream_spec.specs.Lines.{ended, under, lastOf, linesFrom, lines}
-use Rattle.stream_spec.specs.Texts.{Relation, Texts, done, more, Prints, Tells, Run, over, block}
+use Rattle.stream_spec.specs.Texts.{Relation, Texts, done, more, Prints, Tells, BlockRun, over, block}
 use Rattle.stream_spec.proofs.Bytes.{ended-newline, ended-other, under-newline, under-other, ended-none, under-none, ended-append, under-append}
 use Rattle.stream_spec.proofs.Unique.{texts-append, one-prints}
 
@@ -89,7 +89,7 @@ module _ (Answers : Relation) (most : ℕ) (tells : Tells Answers most) where
       first x (more {t = y} q r) = more (tells-same u v y e q) r
 
   -- a run prints what the lines from its state on print
-  pub run-lines : (u s text : List ℕ) → Run Answers most u s text → Texts Answers (linesFrom u s) text
+  pub run-lines : (u s text : List ℕ) → BlockRun Answers most u s text → Texts Answers (linesFrom u s) text
   run-lines u s text (over p) = rw (from-none u) p
   run-lines u s text (block {rest = rest} {t = t} {text = y} x p q) =
       let k = take most (under u x) in
@@ -97,10 +97,10 @@ module _ (Answers : Relation) (most : ℕ) (tells : Tells Answers most) where
       rw (lines-append u x rest) (texts-append Answers (ended u x) (linesFrom (under u x) rest) t y p j)
 
   -- a run from the start prints what the whole input prints
-  pub run-prints : (s text : List ℕ) → Run Answers most [] s text → Prints Answers s text
+  pub run-prints : (s text : List ℕ) → BlockRun Answers most [] s text → Prints Answers s text
   unfolding lines
   run-prints s text r = run-lines [] s text r
 
   -- two runs of one input print the same
-  pub cut-anyhow : (s t u : List ℕ) → Run Answers most [] s t → Run Answers most [] s u → t ≡ u
+  pub cut-anyhow : (s t u : List ℕ) → BlockRun Answers most [] s t → BlockRun Answers most [] s u → t ≡ u
   cut-anyhow s t u p q = one-prints Answers (tells .one) s t u (run-prints s t p) (run-prints s u q)

@@ -20,7 +20,7 @@ use borrow.Author.Tests.{eq-eqb, ne-eqb}
 use Rattle.text_spec.specs.Ascii.{newline}
 use Rattle.text_spec.specs.Put.{Placed}
 use Rattle.stream_spec.specs.Lines.{ended, under, lastOf}
-use Rattle.stream_spec.specs.Texts.{Relation, Texts, done, Tells, Run, over, block}
+use Rattle.stream_spec.specs.Texts.{Relation, Texts, done, Tells, BlockRun, over, block}
 use Rattle.stream_spec.specs.Blocks.{Puts, ByteSays, ends, kept, BlockSays, EndSays}
 use Rattle.stream_spec.proofs.Bytes.{ended-none, under-none, ended-on, ended-same, under-on, under-same, last-some, last-none}
 use Rattle.stream_spec.proofs.Unique.{texts-append, texts-one}
@@ -171,10 +171,10 @@ front t b b′ r e l = ap (take r) e ∙ take-at t (drop (length t) b) r (sym l)
 
 module _ (Answers : Relation) (most : ℕ) where
   -- the end
-  pub end-run : (u b : List ℕ) (r : ℕ) (b′ : List ℕ) → EndSays Answers u b r b′ → Run Answers most u [] (take r b′)
+  pub end-run : (u b : List ℕ) (r : ℕ) (b′ : List ℕ) → EndSays Answers u b r b′ → BlockRun Answers most u [] (take r b′)
   end-run u b r b′ e = rw (front (e .text) b b′ r (e .bytes) (e .long)) (over (e .says))
 
   -- a block, and what follows
-  pub block-run : (u s b v : List ℕ) (r : ℕ) (b′ : List ℕ) → BlockSays Answers most u s b v r b′ → (rest text : List ℕ) → Run Answers most v rest text →
-      Run Answers most u (s ++ rest) (take r b′ ++ text)
+  pub block-run : (u s b v : List ℕ) (r : ℕ) (b′ : List ℕ) → BlockSays Answers most u s b v r b′ → (rest text : List ℕ) → BlockRun Answers most v rest text →
+      BlockRun Answers most u (s ++ rest) (take r b′ ++ text)
   block-run u s b v r b′ e rest text q = rw (front (e .text) b b′ r (e .bytes) (e .long)) (block s (e .says) (rw (e .line) at q))

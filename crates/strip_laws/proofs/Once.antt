@@ -20,7 +20,8 @@ use Rattle.words.proofs.Readings.{All, nothing, also, all-weaken, readings-all,
 use Rattle.words.proofs.Count.{sumBelow, sum-cong, count-one}
 use Rattle.ring_total_laws.proofs.Totals.{below-const, total-below, readings-size}
 use Rattle.strip_spec.specs.Strip.{strip}
-use Rattle.strip_spec.specs.Places.{window, countBelow, occurrences, OnceEach, OnePlace}
+use Rattle.word_list_spec.specs.Passing.{countBelow}
+use Rattle.strip_spec.specs.Places.{window, occurrences, OnceEach, OnePlace}
 use Rattle.strip_laws.proofs.Pieces.{length-strip, strip-shades}
 use Rattle.strip_laws.proofs.Found.{placed}
 

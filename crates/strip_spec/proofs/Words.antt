@@ -1,6 +1,6 @@
 -- The strip's words (specs/Strip): each Lyndon word over k shades whose length divides n, nothing else, in increasing order.
 --     dictionary-all, dictionary-in, dictionary-increasing    the dictionary holds words of at most n sectors and of k shades, each of them, in increasing order
---     picked-all, picked-in, picked-increasing                the same of what is picked from a list
+--     kept-in                                                 what passes of a list is kept
 --     words-only, words-each, words-increasing                the same of the strip's words
 use Prim.Native.Nat.{ℕ, zero, suc, _%_, _≤_, _<_, _∣_}
 use mathlib.Core.Path.{_≡_, refl, sym, ap, _∙_}
@@ -15,8 +15,10 @@ use Rattle.words.specs.Order.{before}
 use Rattle.words.specs.Readings.{Reading, fan}
 use Rattle.words.proofs.Split.{passes, fails, test, lt, eq, gt, tri, both, both-left, both-right}
 use Rattle.words.proofs.Readings.{All, nothing, also, all-of-each, all-weaken, Increasing, empty, more, increasing-fan, fan-all, reading-cons, reading-rest}
+use Rattle.word_list_spec.specs.Passing.{kept}
+use Rattle.word_list_spec.proofs.Kept.{kept-all, kept-increasing}
 use Rattle.rings.specs.Necklace.{lyndon}
-use Rattle.strip_spec.specs.Strip.{dictionary, picked, onStrip, stripWords}
+use Rattle.strip_spec.specs.Strip.{dictionary, onStrip, stripWords}
 use Rattle.strip_spec.proofs.Listed.{In, here, there, in-left, in-right, in-map}
 
 -- ---- the dictionary
@@ -58,23 +60,12 @@ dictionary-increasing zero k = more nothing empty
 dictionary-increasing (suc n) k =
     more (fan-all k (dictionary n k) (λ b l. all-of-each (λ w. refl) (dictionary n k))) (increasing-fan k (dictionary n k) (dictionary-increasing n k))
 
--- ---- what is picked
+-- ---- what is kept
 
-pub picked-all : {P : List ℕ → Type 0} (f : List ℕ → Bool) (ws : List (List ℕ)) → All P ws → All (λ u. P u × (f u ≡ true)) (picked f ws)
-unfolding picked
-picked-all f [] nothing = nothing
-picked-all f (w ∷ ws) (also p a) = elim (test (f w)) [ passes e ↦ rw (e, picked) (also (p, e) (picked-all f ws a)) | fails e ↦ rw (e, picked) (picked-all f ws a) ]
-
-pub picked-in : (f : List ℕ → Bool) (v : List ℕ) (ws : List (List ℕ)) → In v ws → f v ≡ true → In v (picked f ws)
-unfolding picked
-picked-in f v (w ∷ ws) (here q) h = rw (ap f (sym q) ∙ h, picked) (here q)
-picked-in f v (w ∷ ws) (there i) h = elim (test (f w)) [ passes e ↦ rw (e, picked) (there (picked-in f v ws i h)) | fails e ↦ rw (e, picked) (picked-in f v ws i h) ]
-
-pub picked-increasing : (f : List ℕ → Bool) (ws : List (List ℕ)) → Increasing ws → Increasing (picked f ws)
-unfolding picked
-picked-increasing f [] empty = empty
-picked-increasing f (w ∷ ws) (more a i) =
-    elim (test (f w)) [ passes e ↦ rw (e, picked) (more (all-weaken (λ u h. h .0) (picked-all f ws a)) (picked-increasing f ws i)) | fails e ↦ rw (e, picked) (picked-increasing f ws i) ]
+kept-in : (f : List ℕ → Bool) (v : List ℕ) (ws : List (List ℕ)) → In v ws → f v ≡ true → In v (kept f ws)
+unfolding kept
+kept-in f v (w ∷ ws) (here q) h = rw (ap f (sym q) ∙ h, kept) (here q)
+kept-in f v (w ∷ ws) (there i) h = elim (test (f w)) [ passes e ↦ rw (e, kept) (there (kept-in f v ws i h)) | fails e ↦ rw (e, kept) (kept-in f v ws i h) ]
 
 -- ---- the strip's words
 
@@ -89,15 +80,15 @@ module _ (n k : ℕ) (z : 0 < n) where
   words-only =
       all-weaken
       (λ u r. (r .0 .0, both-left (lyndon u) (eqb (n % length u) 0) (r .1), dvd-of-mod-eq-zero (length u) (eqb-true (n % length u) 0 (both-right (lyndon u) (eqb (n % length u) 0) (r .1)))))
-      (picked-all (onStrip n) (dictionary n k) (dictionary-all n k))
+      (kept-all (onStrip n) (dictionary n k) (dictionary-all n k))
 
   -- each of them
   pub words-each : (u : List ℕ) → StripWord n k u → In u (stripWords n k)
   unfolding stripWords onStrip
   words-each u (r, l, d) =
-      picked-in (onStrip n) u (dictionary n k) (dictionary-in n k u r (le-of-dvd z d)) (both (lyndon u) (eqb (n % length u) 0) l (eq-eqb (n % length u) 0 (mod-eq-zero-of-dvd (length u) d)))
+      kept-in (onStrip n) u (dictionary n k) (dictionary-in n k u r (le-of-dvd z d)) (both (lyndon u) (eqb (n % length u) 0) l (eq-eqb (n % length u) 0 (mod-eq-zero-of-dvd (length u) d)))
 
   -- in increasing order
   pub words-increasing : Increasing (stripWords n k)
   unfolding stripWords
-  words-increasing = picked-increasing (onStrip n) (dictionary n k) (dictionary-increasing n k)
+  words-increasing = kept-increasing (onStrip n) (dictionary n k) (dictionary-increasing n k)

@@ -11,7 +11,7 @@ use listing_spec::State;
 use refusal::Refusal;
 ghost use Prim.Native.Nat.{_≤_};
 ghost use lib.ListN.{length};
-ghost use Rattle.listing_spec.specs.Paging.{lineRoom};
+ghost use Rattle.listing_spec.specs.Paging.{rowRoom};
 
 // The first place that holds the character, or the length.
 fn find(s: &[u8], character: u8) -> usize
@@ -29,7 +29,7 @@ fn find(s: &[u8], character: u8) -> usize
 
 // A name, and what the program writes for the line behind the mark.
 fn list(case: &[u8], mark: u8, buf: &mut [u8])
-    requires { ⌜ lineRoom ≤ length (now buf) ⌝ }
+    requires { ⌜ rowRoom ≤ length (now buf) ⌝ }
 {
     let at = find(case, mark);
     if at < case.len() {

@@ -4,7 +4,7 @@ use Prim.Native.Nat.{_-_}
 use mathlib.Core.Path.{_≡_, refl, _∙_}
 use native.Mathlib.Omega.{arith}
 use lib.ListN.{length}
-use Rattle.converter_program_inner.specs.Says.{limit, Roomy, Reached}
+use Rattle.converter_program_inner.specs.Says.{limit, BuffersFit, Reached}
 use Rattle.converter_program_inner.proofs.Blocks.{roomy-still}
 use Rattle.converter_program_inner.proofs.Times.{reached-none, at-on, at-done, at-stopped}
 use borrow.Author.Needs.{needs}
@@ -12,7 +12,7 @@ use Rattle.converter_program_inner.proofs.go_once.Statement.{statement}
 use Rattle.converter_program_inner.proofs.go_once.Tie as tie
 
 abbrev Inv-loop : tie.InvT-loop
-Inv-loop writing block₀ new₀ at₀ block new at = Roomy block new × (length block ≡ length block₀) × (length new ≡ length new₀) × Reached writing at
+Inv-loop writing block₀ new₀ at₀ block new at = BuffersFit block new × (length block ≡ length block₀) × (length new ≡ length new₀) × Reached writing at
 
 abbrev μ-loop : tie.MeasureT-loop
 μ-loop writing block₀ new₀ at₀ block new at = limit - at

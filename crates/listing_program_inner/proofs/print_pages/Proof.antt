@@ -3,7 +3,7 @@ use Prim.Native.Nat.{_≤_}
 use mathlib.Core.Path.{_≡_, refl, sym, _∙_}
 use native.Mathlib.Omega.{arith}
 use lib.ListN.{length, length-take}
-use Rattle.listing_spec.specs.Paging.{lineRoom}
+use Rattle.listing_spec.specs.Paging.{rowRoom}
 use Rattle.listing_program_inner.specs.Says.{Turning}
 use Rattle.listing_program_inner.proofs.Turns.{paged-length, turning-next, pagesLeft, pages-fall, goes-bytes}
 use borrow.Author.Tests.{not-true, not-false}
@@ -12,7 +12,7 @@ use Rattle.listing_program_inner.proofs.print_pages.Statement.{statemen
 use Rattle.listing_program_inner.proofs.print_pages.Tie as tie
 
 abbrev Inv-loop : tie.InvT-loop
-Inv-loop buf₀ page₀ buf page = (lineRoom ≤ length buf) × (length buf ≡ length buf₀) × Turning page (length buf)
+Inv-loop buf₀ page₀ buf page = (rowRoom ≤ length buf) × (length buf ≡ length buf₀) × Turning page (length buf)
 
 abbrev μ-loop : tie.MeasureT-loop
 μ-loop buf₀ page₀ buf page = pagesLeft page

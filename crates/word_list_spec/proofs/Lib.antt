@@ -1,0 +1,2 @@
+-- The laws of words kept from a list (Kept).
+pub mod Kept
