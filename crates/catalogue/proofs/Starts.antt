@@ -10,7 +10,7 @@ use lib.Seq.{take-all}
 use Rattle.record_spec.specs.declared.Entry.{Entry}
 use Rattle.record_spec.specs.declared.Entry.the-variants.{Record, End, Refused}
 use Rattle.record_spec.specs.Says.{ReadSays}
-use Rattle.record_spec.specs.Steps.{RecordSays}
+use Rattle.record_body_inner.specs.Steps.{RecordSays}
 
 -- reading the record is reading at s; the part is handed on by its length
 pub record-read : (c : List ℕ) (s : ℕ) (b : List ℕ) (r : Entry) (d : List ℕ) → length b ≡ 64 → s < length c → RecordSays (take (length c - s) (drop s c)) s b r d → ReadSays c s b r d

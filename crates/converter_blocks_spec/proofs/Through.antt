@@ -17,9 +17,8 @@ use Rattle.refusal.specs.declared.Checked.{Checked}
 use Rattle.refusal.specs.declared.Checked.the-variants as C
 use Rattle.converter_spec.specs.declared.Conversion.{Conversion}
 use Rattle.converter_spec.specs.declared.Conversion.the-variants.{Converted, Refused}
-use Rattle.converter_spec.specs.Converts.{Sound, Turned, Damaged, Unconverted, ConvertSays}
+use Rattle.converter_spec.specs.Converts.{Sound, Turned, Damaged, SoundSays, Unconverted, ConvertSays}
 use Rattle.converter_spec.specs.Converts.Unconverted.{room, damaged}
-use Rattle.converter_spec.specs.Steps.{SoundSays}
 use Rattle.converter_spec.proofs.Unique.{turned-sound, one-damage, sound-damaged, one-convert}
 use Rattle.converter_blocks_spec.specs.declared.Stretch.the-variants as S
 use Rattle.converter_blocks_spec.specs.Blocks.{Unfinished, nothing, begun, Stays, StretchSays}

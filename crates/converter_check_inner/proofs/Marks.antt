@@ -8,10 +8,10 @@ use mathlib.Core.List.{List}
 use lib.ListN.{length, getD}
 use Rattle.refusal.specs.declared.Checked.{Checked}
 use Rattle.refusal.specs.declared.Checked.the-variants.{Good, Refused}
-use Rattle.record_spec.specs.Steps.{RestSays}
+use Rattle.record_body_inner.specs.Steps.{RestSays}
 use Rattle.converter_spec.specs.Sides.{Side, sideByte, SideMarked}
 use Rattle.converter_spec.specs.Sides.Side.{front, back}
-use Rattle.converter_spec.specs.Steps.{OldSays}
+use Rattle.converter_check_inner.specs.Old.{OldSays}
 
 -- a second byte of neither mark is of no side
 pub unknown : (t : List ℕ) → (getD t 1 0 ≡ 0x46 → ⊥) → (getD t 1 0 ≡ 0x42 → ⊥) → (x : Side) → SideMarked t x → ⊥

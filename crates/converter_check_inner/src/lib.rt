@@ -8,8 +8,8 @@ use refusal::Checked;
 use refusal::Refusal;
 ghost use Prim.Native.Nat.{_+_};
 ghost use lib.ListN.{length};
-ghost use Rattle.record_spec.specs.Steps.{Held};
-ghost use Rattle.converter_spec.specs.Steps.{OldSays};
+ghost use Rattle.record_body_inner.specs.Steps.{Held};
+ghost use Rattle.converter_check_inner.specs.Old.{OldSays};
 
 // The record that `rest` begins with, at `start` of the catalogue.
 pub fn check_old(rest: &[u8], start: usize) -> Checked

@@ -15,7 +15,7 @@ use Rattle.record_spec.specs.Layout.{nOf}
 use Rattle.converter_spec.specs.Converts.{Sound, Damaged}
 use Rattle.converter_spec.specs.Converts.Sound.{ended, more}
 use Rattle.converter_spec.specs.Converts.Damaged.{here, later}
-use Rattle.converter_spec.specs.Steps.{OldSays}
+use Rattle.converter_check_inner.specs.Old.{OldSays}
 
 -- p is inside, and what is left from p on tells of the whole
 pub record Going (c : List ℕ) (p : ℕ) : Type 0 where

@@ -2,7 +2,7 @@
 
 use record_spec::HEAD;
 use refusal::Checked;
-ghost use Rattle.converter_spec.specs.Steps.{SoundSays};
+ghost use Rattle.converter_spec.specs.Converts.{SoundSays};
 
 // The first record that is not good, refused as the old reader refused it; or that there is none.
 pub fn check_all(old: &[u8]) -> Checked

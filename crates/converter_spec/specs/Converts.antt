@@ -4,6 +4,7 @@
 --     FrontOf x t u           u begins with the front record of the front ring of the record that t begins with, whose side is x
 --     Turned t u              u is t, with each record replaced by the front record of its front ring
 --     Damaged t s r           the records before the first one that is not good are good, and that one the old reader refuses with r
+--     SoundSays c v           checking all of c answers v: it is sound, or the damage
 --     Unconverted c m r       the call is refused with r, where the output has m bytes: 4, and then the damage
 --     ConvertSays c b r d     the answer r
 --     FrontRecords u          u is front records end to end, each of them good as they are now
@@ -13,6 +14,8 @@ use Prim.Native.Nat.{ℕ, _+_, _<_}
 use mathlib.Core.Path.{_≡_}
 use mathlib.Core.List.{List, []}
 use lib.ListN.{length, drop}
+use Rattle.refusal.specs.declared.Checked.{Checked}
+use Rattle.refusal.specs.declared.Checked.the-variants as C
 use Rattle.refusal.specs.declared.Refusal.{Refusal}
 use Rattle.refusal.specs.declared.Refusal.the-variants.{Room}
 use Rattle.refusal.specs.Order.{Given}
@@ -46,6 +49,12 @@ pub data Turned : List ℕ → List ℕ → Type 0 where
 pub data Damaged : List ℕ → ℕ → Refusal → Type 0 where
   here : {t : List ℕ} {s : ℕ} {r : Refusal} → 0 < length t → Given (oldOrder t s) r → Damaged t s r
   later : {t : List ℕ} {s : ℕ} {r : Refusal} (x : Side) → SideMarked t x → After9 t → Damaged (drop (4 + nOf t) t) (s + 4 + nOf t) r → Damaged t s r
+
+-- ---- either
+
+abbrev pub SoundSays : List ℕ → Checked → Type 0
+SoundSays c C.Good = Sound c
+SoundSays c (C.Refused r) = Damaged c 0 r
 
 -- ---- the call
 

@@ -2,8 +2,6 @@
 --     Sides       the two marks of an old catalogue, and the front ring of each
 --     Reads       what the old reader promised
 --     Converts    what the converter promises
---     Steps       what the parts of the converter promise each other; it serves the code alone
 pub mod Sides
 pub mod Reads
 pub mod Converts
-pub mod Steps

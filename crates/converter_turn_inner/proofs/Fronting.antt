@@ -13,7 +13,7 @@ use Rattle.ring_home_laws.proofs.Alike.{length-mirrored}
 use Rattle.word_copy_laws.proofs.Copy.{copied}
 use Rattle.converter_spec.specs.Sides.{Side, SideMarked}
 use Rattle.converter_spec.specs.Sides.Side.{front, back}
-use Rattle.converter_spec.specs.Steps.{Fronted}
+use Rattle.converter_turn_inner.specs.Fronts.{Fronted}
 
 -- a record of no other bytes than a mark's, n, k and sectors, by its side
 laid : (p : List ℕ) (y : ℕ) → 4 ≤ length p → getD p 0 0 ≡ 0x52 → getD p 1 0 ≡ y → p ≡ 0x52 ∷ (y ∷ (getD p 2 0 ∷ (getD p 3 0 ∷ drop 4 p)))

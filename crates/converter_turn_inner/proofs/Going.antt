@@ -18,7 +18,7 @@ use Rattle.converter_spec.specs.Sides.{Side, SideMarked, frontRing}
 use Rattle.converter_spec.specs.Converts.{Sound, Turned}
 use Rattle.converter_spec.specs.Converts.Sound.{ended, more}
 use Rattle.converter_spec.specs.Converts.Turned.{done, replaced}
-use Rattle.converter_spec.specs.Steps.{Fronted}
+use Rattle.converter_turn_inner.specs.Fronts.{Fronted}
 use Rattle.converter_spec.proofs.Fronts.{front-n, bytes-front}
 
 -- p is inside, what is left is good, and with what becomes of it the whole is converted

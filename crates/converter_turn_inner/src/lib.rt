@@ -7,7 +7,7 @@ ghost use mathlib.Core.Path.{_≡_};
 ghost use Prim.Native.Nat.{_<_};
 ghost use lib.ListN.{length};
 ghost use Rattle.converter_spec.specs.Converts.{Sound, Turned};
-ghost use Rattle.converter_spec.specs.Steps.{Fronted};
+ghost use Rattle.converter_turn_inner.specs.Fronts.{Fronted};
 
 // Every record, each at its own place.
 pub fn write_all(old: &[u8], out: &mut [u8])

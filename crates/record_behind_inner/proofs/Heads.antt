@@ -17,7 +17,7 @@ use Rattle.refusal.proofs.More.{upTo2, numbers-refused}
 use Rattle.record_spec.specs.declared.Kind.the-variants.{Front}
 use Rattle.record_spec.specs.Layout.{nOf, kOf, sectorsOf}
 use Rattle.record_spec.specs.Order.{After7}
-use Rattle.record_spec.specs.Steps.{RestSays, BodySays}
+use Rattle.record_body_inner.specs.Steps.{RestSays, BodySays}
 use Rattle.record_spec.proofs.Forms.{good-behind}
 use Rattle.record_spec.proofs.Laws.{length-sectors}
 

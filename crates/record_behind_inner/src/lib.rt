@@ -5,7 +5,7 @@ use refusal::Checked;
 use refusal::Refusal;
 ghost use Prim.Native.Nat.{_+_, _≤_};
 ghost use lib.ListN.{length};
-ghost use Rattle.record_spec.specs.Steps.{Held, HeadNumbersSay, RestSays};
+ghost use Rattle.record_body_inner.specs.Steps.{Held, HeadNumbersSay, RestSays};
 
 // n and k: 1, 2. The check is that of every call; in a record its refusals have places of their own.
 pub fn check_counts(rest: &[u8], start: usize) -> Checked

@@ -1,2 +1,3 @@
--- What checking a record's sectors promises stands in `record_spec`; here is what its parts promise each other (Looks).
+-- What the parts of the reader promise each other (Steps), and the parts of checking a record's sectors (Looks): both serve the code alone.
+pub mod Steps
 pub mod Looks

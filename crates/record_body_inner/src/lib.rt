@@ -8,7 +8,7 @@ ghost use Prim.Native.Nat.{_+_};
 ghost use lib.ListN.{length};
 ghost use Rattle.words.specs.Readings.{Sized, Shaded};
 ghost use Rattle.record_spec.specs.declared.Kind.the-variants.{Front};
-ghost use Rattle.record_spec.specs.Steps.{Held, BodySays};
+ghost use Rattle.record_body_inner.specs.Steps.{Held, BodySays};
 ghost use Rattle.record_body_inner.specs.Looks.{LookSays};
 
 // What sectors are: home; or else which one is the first that is no shade, or, where all are, which one to look at.

@@ -17,7 +17,7 @@ ghost use Rattle.record_spec.specs.declared.Kind.the-variants.{Front};
 ghost use Rattle.record_spec.specs.Layout.{Marked};
 ghost use Rattle.record_spec.specs.Order.{After9};
 ghost use Rattle.record_spec.specs.Says.{Read};
-ghost use Rattle.record_spec.specs.Steps.{Held, RecordSays};
+ghost use Rattle.record_body_inner.specs.Steps.{Held, RecordSays};
 
 // The head and the mark: 7, 8, 16; then the record of its kind.
 pub fn read_head(rest: &[u8], start: usize, out: &mut [u8]) -> Entry

@@ -29,7 +29,7 @@ use Rattle.refusal.specs.Calls.{Below, FirstBad}
 use Rattle.record_spec.specs.declared.Kind.the-variants.{Packed}
 use Rattle.record_spec.specs.Layout.{bodyLength, shown, isClear}
 use Rattle.record_spec.specs.Order.{bodyOrder}
-use Rattle.record_spec.specs.Steps.{BodySays}
+use Rattle.record_body_inner.specs.Steps.{BodySays}
 use Rattle.record_spec.proofs.Forms.{some-bytes, byte-within}
 
 -- bytes of n sectors may be unpacked into m places, where m is n; and what comes of it is the sectors that they hold

@@ -10,7 +10,7 @@ ghost use lib.ListN.{length};
 ghost use Rattle.words.specs.Readings.{Sized, Shaded};
 ghost use Rattle.record_spec.specs.declared.Kind.the-variants.{Packed};
 ghost use Rattle.record_spec.specs.Layout.{bodyLength, shown};
-ghost use Rattle.record_spec.specs.Steps.{Held, BodySays};
+ghost use Rattle.record_body_inner.specs.Steps.{Held, BodySays};
 
 // The sectors are unpacked, and then checked.
 pub fn check_packed_body(bytes: &[u8], start: usize, n: usize, k: usize) -> Checked

@@ -22,7 +22,7 @@ use Rattle.refusal.specs.Order.{Given}
 use Rattle.record_spec.specs.declared.Kind.the-variants.{Packed}
 use Rattle.record_spec.specs.Layout.{bodyLength, nOf, kOf, bodyOf, storedRing}
 use Rattle.record_spec.specs.Order.{behindOrder, After2, After7}
-use Rattle.record_spec.specs.Steps.{BodySays, BehindSays}
+use Rattle.record_body_inner.specs.Steps.{BodySays, BehindSays}
 use Rattle.record_spec.proofs.Forms.{few-bytes, good-behind}
 use Rattle.record_spec.proofs.Laws.{length-body}
 

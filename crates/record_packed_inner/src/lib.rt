@@ -12,7 +12,7 @@ ghost use lib.ListN.{length};
 ghost use Rattle.record_spec.specs.declared.Kind.the-variants.{Packed};
 ghost use Rattle.record_spec.specs.Layout.{Marked};
 ghost use Rattle.record_spec.specs.Order.{GoodRecord};
-ghost use Rattle.record_spec.specs.Steps.{Held, BehindSays, RecordSays};
+ghost use Rattle.record_body_inner.specs.Steps.{Held, BehindSays, RecordSays};
 
 // The checks, and then the ring.
 pub fn read_packed(rest: &[u8], start: usize, out: &mut [u8]) -> Entry

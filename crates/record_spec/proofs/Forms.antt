@@ -18,7 +18,7 @@ use native.Mathlib.Omega.{arith}
 use lib.ListN.{length}
 use Rattle.words.specs.Readings.{Shaded}
 use Rattle.refusal.specs.declared.Refusal.{Refusal}
-use Rattle.refusal.specs.Order.{Passed, Given}
+use Rattle.refusal.specs.Order.{Passed, Given, CheckSays}
 use Rattle.refusal.specs.Calls.{Below}
 use Rattle.refusal.specs.declared.Checked.{Checked}
 use Rattle.refusal.specs.declared.Checked.the-variants as C
@@ -30,8 +30,7 @@ use Rattle.packing_laws.proofs.Packing.{length-packed, length-unpacked, packed-
 use Rattle.record_spec.specs.declared.Kind.{Kind}
 use Rattle.record_spec.specs.declared.Kind.the-variants.{Front, Packed}
 use Rattle.record_spec.specs.Layout.{Marked, MarkedBack, kindByMark, bodyLength, stored, shown, byteAt, isClear, nOf, kOf, bodyOf}
-use Rattle.record_spec.specs.Order.{recordOrder, behindOrder, After7, GoodRecord}
-use Rattle.record_spec.specs.Steps.{BodySays, BehindSays}
+use Rattle.record_spec.specs.Order.{recordOrder, bodyOrder, behindOrder, After7, GoodRecord}
 
 -- ---- bytes and sectors
 
@@ -92,6 +91,6 @@ module _ (x : Kind) (t : List ℕ) (s : ℕ) (m : Marked t x) where
   behind-given r l g = inr (((l, inl (x, m)), not-back t x m), rw (kind-is t x m) g)
 
 -- a record whose numbers and length are good is good, or refused, as its bytes are
-pub good-behind : (x : Kind) (t : List ℕ) (s : ℕ) (v : Checked) → After7 x t → BodySays x (nOf t) (kOf t) (bodyOf x t) s v → BehindSays x t s v
+pub good-behind : (x : Kind) (t : List ℕ) (s : ℕ) (v : Checked) → After7 x t → CheckSays (bodyOrder x (nOf t) (kOf t) (bodyOf x t) s) v → CheckSays (behindOrder x t s) v
 good-behind x t s C.Good a g = (a, g)
 good-behind x t s (C.Refused r) a g = inr (a, g)

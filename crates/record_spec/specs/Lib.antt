@@ -3,9 +3,7 @@
 --     Order     the record reader's own order of checks, and when each refusal is given
 --     Says      what the reader promises
 --     Writes    what the writer promises
---     Steps     what the parts of the reader promise each other; it serves the code alone
 pub mod Layout
 pub mod Order
 pub mod Says
 pub mod Writes
-pub mod Steps

@@ -7,7 +7,7 @@ use lib.ListN.{length, length-append, length-take, length-drop}
 use lib.Seq.{take-at}
 use Rattle.packing_laws.proofs.Packing.{length-unpacked}
 use Rattle.record_spec.specs.declared.Kind.the-variants.{Packed}
-use Rattle.record_spec.specs.Steps.{BodySays}
+use Rattle.record_body_inner.specs.Steps.{BodySays}
 use Rattle.record_packed_body_inner.proofs.Bodies.{unpack-asks, unpacked-held, check-asks}
 use borrow.Author.Needs.{needs}
 use Rattle.record_packed_body_inner.proofs.check_packed_body.Statement.{statement}

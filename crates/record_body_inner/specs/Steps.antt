@@ -1,6 +1,6 @@
 -- What the parts of the reader promise each other; it serves the code alone.
 --     Held m                   a number of the code holds m, so that no place wraps
---     HeadNumbersSay t s v         checking n and k of the record that t begins with, at s, whatever its kind
+--     HeadNumbersSay t s v     checking n and k of the record that t begins with, at s, whatever its kind
 --     BodySays x n k b s v     checking the bytes b behind the head of a record of n sectors and k shades, at s
 --     BehindSays x t s v       checking what stands behind the mark of the record that t begins with, at s, as that of a record of kind x
 --     RestSays t s v           the same where a sector is a byte
