@@ -18,7 +18,7 @@ use Rattle.text_spec.proofs.Digits.{length-decimal}
 use Rattle.text_spec.proofs.Put.{length-refused}
 use Rattle.limits_spec.specs.declared.Planned.the-variants.{Accepted, Refused}
 use Rattle.plan_spec.specs.Plan.{PlanSays}
-use Rattle.plan.proofs.Plans.{plan-number}
+use Rattle.plan_spec.proofs.Numbers.{plan-number}
 use Rattle.listing_spec.specs.declared.State.{State}
 use Rattle.listing_spec.specs.declared.Page.{Page}
 use Rattle.listing_spec.specs.Listing.{opening}

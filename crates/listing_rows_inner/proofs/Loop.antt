@@ -25,7 +25,7 @@ use Rattle.rings.specs.Necklace.{necklace, period, repeatsBy}
 use Rattle.rings.specs.Steps.{nextOf, moves}
 use Rattle.ring_laws.proofs.Words.{necklace-prenecklace}
 use Rattle.ring_laws.proofs.FullWalk.{next-facts}
-use Rattle.walk_moves_inner.specs.Going.{ReadyToStep}
+use Rattle.walk_kind_laws.specs.Kinds.{ReadyToStep}
 use types.Run.{OneOf}
 use denote.Enum.Declared.{tagOf}
 use Rattle.walk_spec.proofs.Outcome.{the-type}

@@ -1,2 +1,3 @@
 pub mod Unique
 pub mod First
+pub mod Numbers

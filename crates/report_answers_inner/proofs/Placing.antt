@@ -19,7 +19,7 @@ use Rattle.limits_spec.specs.declared.Planned.the-variants.{Accepted, Refused}
 use Rattle.limits_spec.specs.Limits.{Listable}
 use Rattle.limits_spec.proofs.Given.{listable-within}
 use Rattle.plan_spec.specs.Plan.{PlanSays}
-use Rattle.plan.proofs.Plans.{plan-number}
+use Rattle.plan_spec.proofs.Numbers.{plan-number}
 use Rattle.how_many_spec.specs.Says.{mostCounted}
 use Rattle.stream_spec.specs.Blocks.{Puts}
 use Rattle.report_spec.specs.Lines.{countsLine, Answers, counted, refused}

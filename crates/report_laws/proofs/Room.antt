@@ -17,7 +17,7 @@ use Rattle.text_spec.specs.Text.{refusedLine}
 use Rattle.text_spec.proofs.Digits.{length-decimal}
 use Rattle.text_spec.proofs.Put.{length-refused}
 use Rattle.limits_spec.specs.Limits.{Listable}
-use Rattle.plan.proofs.Plans.{plan-number}
+use Rattle.plan_spec.proofs.Numbers.{plan-number}
 use Rattle.how_many_spec.specs.Says.{mostCounted}
 use Rattle.report_spec.specs.Lines.{countsLine, Answers, counted, refused}
 use Rattle.report_spec.specs.Blocks.{lineRoom}

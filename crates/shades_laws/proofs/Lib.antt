@@ -2,6 +2,7 @@
 -- ever tried. Read from top to bottom:
 --     Under       one word lies under another: the first difference stands inside both
 --     Copies      lists of words, and rearrangements told by counting copies
+--     Occurs      how often a shade stands in a word
 --     Clear       lists of which no ending lies under the necklace; the letters of a completion are one
 --     Exchange    in such a list some copy of the least word can be joined with some copy of the greatest
 --     Shape       the order in which the pool stands, and that joining keeps it
@@ -14,6 +15,7 @@
 --     Groups      the pool told by its groups of equal words, as a loop over arrays sees it
 pub mod Under
 pub mod Copies
+pub mod Occurs
 pub mod Clear
 pub mod Exchange
 pub mod Shape

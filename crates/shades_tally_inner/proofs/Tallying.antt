@@ -2,8 +2,8 @@
 --     tally-hit, tally-miss, tally-end    how often a shade stands in the first i sectors
 --     counts-at, counts-end, counts-not   what `hasCounts` says of each shade
 --     occurs-at                           each shade of a word occurs in it
---     occurs-past                         a shade past the greatest does not occur
 --     counted-not, counted-is             a prenecklace with a known lyn is a necklace with given counts, or is not
+-- Occurs of `shades_laws` is passed on.
 use Prim.Native.Nat.{ℕ, zero, suc, _+_, _%_, _<_, _≤_}
 use mathlib.Core.Path.{_≡_, refl, sym, ap, _∙_}
 use mathlib.Core.Bool.{Bool, true, false}
@@ -23,23 +23,9 @@ use Rattle.rings.specs.Counts.{occurs, countsOf, hasCounts, countedNecklace}
 use Rattle.ring_laws.proofs.Run.{Run}
 use Rattle.ring_laws.proofs.Lyndon.{run-necklace, necklace-run}
 use Rattle.shades_laws.proofs.Copies.{occurs-append}
+pub use Rattle.shades_laws.proofs.Occurs.{occurs-none, occurs-here, occurs-other, occurs-past}
 
 -- ---- one shade
-
--- none stands in no sectors
-pub occurs-none : (b : ℕ) → occurs b [] ≡ 0
-unfolding occurs
-occurs-none b = refl
-
--- one more where it stands at the front
-pub occurs-here : (a b : ℕ) (w : List ℕ) → a ≡ b → occurs b (a ∷ w) ≡ suc (occurs b w)
-unfolding occurs
-occurs-here a b w e = rw (eq-eqb a b e) (omega arith)
-
--- and none where another stands there
-pub occurs-other : (a b : ℕ) (w : List ℕ) → (a ≡ b → ⊥) → occurs b (a ∷ w) ≡ occurs b w
-unfolding occurs
-occurs-other a b w h = rw (ne-eqb a b h) (omega arith)
 
 -- the shade stands at place i
 pub tally-hit : (b : ℕ) (s : List ℕ) (i x : ℕ) → i < length s → x ≡ occurs b (take i s) → sec s i ≡ b → x + 1 ≡ occurs b (take (i + 1) s)
@@ -52,11 +38,6 @@ tally-miss b s i x h e q = rw (add-one i, take-suc s i 0 h, occurs-append) (omeg
 -- all sectors are counted
 pub tally-end : (b : ℕ) (s : List ℕ) (i x : ℕ) → length s ≤ i → x ≡ occurs b (take i s) → x ≡ occurs b s
 tally-end b s i x h e = e ∙ ap (occurs b) (take-all i s h)
-
--- a shade that no sector has does not occur
-pub occurs-past : (b k : ℕ) (w : List ℕ) → ((i : ℕ) → i < length w → sec w i < k) → k ≤ b → occurs b w ≡ 0
-occurs-past b k [] h l = occurs-none b
-occurs-past b k (a ∷ w) h l = occurs-other a b w (λ e. omega (arith, h 0 (omega arith))) ∙ occurs-past b k w (λ i m. h (suc i) (omega arith)) l
 
 -- each letter of a word occurs in it
 pub occurs-at : (w : List ℕ) (i : ℕ) → i < length w → 0 < occurs (sec w i) w

@@ -25,9 +25,8 @@ use Rattle.ring_laws.proofs.Lyndon.{period-run}
 use Rattle.ring_laws.proofs.Classes.{period-lyn}
 use Rattle.ring_laws.proofs.FullWalk.{zeros, zeros-at, length-zeros, zeros-reading, zeros-prenecklace, next-facts}
 use Rattle.ring_home_laws.proofs.Period.{period-pos, period-le}
-use Rattle.walk_moves_inner.specs.declared.Kind.the-variants.{Necklace}
-use Rattle.walk_moves_inner.specs.Kinds.{kindOf}
-use Rattle.walk_moves_inner.specs.Going.{ReadyToStep}
+use Rattle.walk_kind_laws.specs.declared.Kind.the-variants.{Necklace}
+use Rattle.walk_kind_laws.specs.Kinds.{kindOf, ReadyToStep}
 use Rattle.limits_spec.specs.Limits.{Listable}
 use Rattle.strip_spec.specs.Strip.{strip}
 use Rattle.strip_laws.proofs.Pieces.{length-strip}

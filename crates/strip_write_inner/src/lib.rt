@@ -1,10 +1,10 @@
 // Writing the strip along the frame, necklace after necklace. No public calls: the calls of crate `strip` check what these ask for.
 
-use walk_moves_inner::Kind;
+use walk_kind_laws::Kind;
 ghost use Prim.Native.Nat.{_+_, _^_, _≤_};
 ghost use mathlib.Core.Path.{_≡_};
 ghost use lib.ListN.{length, replicate};
-ghost use Rattle.walk_moves_inner.specs.Going.{ReadyToStep};
+ghost use Rattle.walk_kind_laws.specs.Kinds.{ReadyToStep};
 ghost use Rattle.limits_spec.specs.Limits.{Listable};
 ghost use Rattle.strip_spec.specs.Strip.{strip};
 ghost use Rattle.strip_write_inner.specs.Laying.{LaidDown};

@@ -4,14 +4,14 @@
 use refusal::Checked;
 pub use walk_bracelet_spec::Arrival;
 pub use walk_bracelet_spec::Arrived;
-use walk_moves_inner::Kind;
+use walk_kind_laws::Kind;
 pub use walk_spec::Outcome;
 pub use walk_spec::Started;
 pub use walk_spec::Stepped;
 pub use walk_spec::Walk;
 ghost use Rattle.rings.specs.Necklace.{necklace, lyndon};
 ghost use Rattle.rings.specs.Prenecklace.{prenecklace};
-ghost use Rattle.walk_moves_inner.specs.Kinds.{kindOf};
+ghost use Rattle.walk_kind_laws.specs.Kinds.{kindOf};
 ghost use Rattle.walk_spec.specs.Says.{StartSays, StepSays};
 ghost use Rattle.walk_bracelet_spec.specs.Says.{ArrivalSays};
 

@@ -16,7 +16,7 @@ use Rattle.words.proofs.Lex.{same-true}
 use Rattle.rings.specs.Alike.{bracelet}
 use Rattle.rings.specs.Counts.{occurs, countsOf}
 use Rattle.ring_laws.proofs.FullWalk.{next-facts}
-use Rattle.shades_tally_inner.proofs.Tallying.{occurs-past}
+use Rattle.shades_laws.proofs.Occurs.{occurs-past}
 use Rattle.refusal.specs.declared.Checked.the-variants as C
 use Rattle.refusal.specs.Order.{Passed}
 use Rattle.walk_spec.specs.declared.Walk.{Walk}

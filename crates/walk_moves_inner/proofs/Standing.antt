@@ -1,5 +1,4 @@
 -- What the loop of `advance` knows, over plain lists: `Stands` is `Walked` of the theory, with lyn as the number that rises.
---     kind-at, class-at     the kind and the class of a prenecklace by its lyn
 --     stands-start          at the start
 --     stands-low            what raising asks for
 --     full-necklace         a ring of which no place can be raised is a necklace
@@ -35,64 +34,11 @@ use Rattle.ring_laws.proofs.Classes.{run-lyndon, lyndon-run, lyndon-necklace, c
 use Rattle.ring_laws.proofs.Next.{low-le, low-at, low-none, length-next, next-is-run, next-lyn-low}
 use Rattle.ring_laws.proofs.Walk.{Kind, Walked, walk-start, walk-found, walk-on, walk-done}
 use Rattle.ring_laws.proofs.Bound.{lyn-rises}
-use Rattle.walk_moves_inner.specs.declared.Kind as K
-use Rattle.walk_moves_inner.specs.declared.Kind.the-variants.{Prenecklace, Necklace, Lyndon}
-use Rattle.walk_moves_inner.specs.Kinds.{kindOf, kindAt, classAt}
-use Rattle.walk_moves_inner.specs.Going.{ReadyToStep, Found}
-
--- only prenecklaces are of a kind
-pub kind-only : (kind : K.Kind) → Kind (kindOf kind)
-unfolding kindOf
-kind-only Prenecklace u h = h
-kind-only Necklace u h = necklace-prenecklace u h
-kind-only Lyndon u h = necklace-prenecklace u (lyndon-necklace u h)
-
--- the kind of a prenecklace by its lyn
-pub kind-at : (kind : K.Kind) (v : List ℕ) (p : ℕ) → Run (sec v) (length v) p → kindOf kind v ≡ kindAt kind (length v) p
-unfolding kindOf
-kind-at Prenecklace v p r = run-prenecklace v p r
-kind-at Necklace v p r =
-    agree (necklace v) (eqb (length v % p) 0) (λ h. eq-eqb (length v % p) 0 (necklace-run v p r h)) (λ h. run-necklace v p r (eqb-true (length v % p) 0 h))
-kind-at Lyndon v p r = agree (lyndon v) (eqb p (length v)) (λ h. eq-eqb p (length v) (lyndon-run v p r h)) (λ h. run-lyndon v p r (eqb-true p (length v) h))
-
--- its class
-pub class-at : (v : List ℕ) (p : ℕ) → Run (sec v) (length v) p → classOf v ≡ classAt (length v) p
-unfolding classAt
-class-at v p r = go (test (eqb p (length v))) (test (eqb (length v % p) 0))
-  where
-    go : Test (eqb p (length v)) → Test (eqb (length v % p) 0) → classOf v ≡ classAt (length v) p
-    go (passes e) d = rw (e, classAt) (class-single v p r (eqb-true p (length v) e))
-    go (fails e) (passes d) =
-        rw (e, d, classAt)
-        (class-repeating v p r (eqb-true (length v % p) 0 d)
-        (elim (tri p (length v)) [ lt l ↦ l | eq l ↦ absurd (eqb-false p (length v) e l) | gt l ↦ absurd (omega (arith, r .fits)) ]))
-    go (fails e) (fails d) =
-        rw (e, d, classAt)
-        (class-opening v p r
-        (elim (tri 0 (length v % p)) [ lt l ↦ l | eq l ↦ absurd (eqb-false (length v % p) 0 d (sym l)) | gt l ↦ absurd (omega arith) ]))
-
--- the same, as `class_at` tests it
-pub at-single : (n p : ℕ) → p ≡ n → Single ≡ classAt n p
-unfolding classAt
-at-single n p e = rw (eq-eqb p n e, classAt)
-
-pub at-repeating : (n p : ℕ) → (p ≡ n → ⊥) → n % p ≡ 0 → Repeating p ≡ classAt n p
-unfolding classAt
-at-repeating n p e d = rw (ne-eqb p n e, eq-eqb (n % p) 0 d, classAt)
-
-pub at-opening : (n p : ℕ) → (p ≡ n → ⊥) → (n % p ≡ 0 → ⊥) → Opening p ≡ classAt n p
-unfolding classAt
-at-opening n p e d = rw (ne-eqb p n e, ne-eqb (n % p) 0 d, classAt)
-
--- a prenecklace whose lyn is its length is of every kind
-pub kind-full : (kind : K.Kind) (n : ℕ) → kindAt kind n n ≡ true
-kind-full Prenecklace n = refl
-kind-full Necklace n = eq-eqb (n % n) 0 (mod-self n)
-kind-full Lyndon n = eq-eqb n n refl
-
--- a number of which p is more than half, and not all, is no multiple of p
-pub short-rem : (n p : ℕ) → p < n → n - p < p → n % p ≡ 0 → ⊥
-short-rem n p h k e = omega (arith, sym e ∙ ap (λ (x : ℕ). x % p) (let q : n ≡ p + (n - p) = omega arith in q) ∙ add-mod-left p (n - p) ∙ mod-eq-of-lt k)
+use Rattle.walk_kind_laws.specs.declared.Kind as K
+use Rattle.walk_kind_laws.specs.declared.Kind.the-variants.{Prenecklace, Necklace, Lyndon}
+use Rattle.walk_kind_laws.specs.Kinds.{kindOf, kindAt, ReadyToStep}
+use Rattle.walk_kind_laws.proofs.ByLyn.{kind-only, kind-at, kind-full}
+use Rattle.walk_moves_inner.specs.Going.{Found}
 
 -- where every sector is k - 1 the ring is a necklace
 full-necklace : (k : ℕ) (v : List ℕ) → Reading (length v) k v → 0 < length v → lastLow k v ≡ 0 → necklace v ≡ true

@@ -1,26 +1,14 @@
--- What `advance` asks for and what it comes to. These serve the code alone: the steps' own contract is `walk_spec`, specs/Says.
-use Prim.Native.Nat.{ℕ, _≤_, _<_}
+-- What `advance` comes to. It serves the code alone: the steps' own contract is `walk_spec`, specs/Says.
+use Prim.Native.Nat.{ℕ, _<_}
 use mathlib.Core.Path.{_≡_}
-use mathlib.Core.Bool.{true}
 use mathlib.Core.Option.{none, some}
 use mathlib.Core.List.{List}
-use lib.ListN.{length}
-use Rattle.words.specs.Readings.{Reading}
-use Rattle.rings.specs.Prenecklace.{prenecklace, lyn}
+use Rattle.rings.specs.Prenecklace.{lyn}
 use Rattle.rings.specs.Steps.{nextOf, moves}
-use Rattle.walk_moves_inner.specs.declared.Kind.{Kind}
-use Rattle.walk_moves_inner.specs.declared.Kind.the-variants.{Necklace}
+use Rattle.walk_kind_laws.specs.declared.Kind.{Kind}
+use Rattle.walk_kind_laws.specs.declared.Kind.the-variants.{Necklace}
 use Rattle.walk_moves_inner.specs.declared.Reached.{Reached}
-use Rattle.walk_moves_inner.specs.Kinds.{kindOf}
-
--- the ring is a prenecklace of k shades
-pub record ReadyToStep (k : ℕ) (ring : List ℕ) : Type 0 where
-  pub pos : 0 < length ring
-  pub fits : length ring ≤ 64
-  pub shades : 2 ≤ k
-  pub few : k ≤ 16
-  pub reading : Reading (length ring) k ring
-  pub pre : prenecklace ring ≡ true
+use Rattle.walk_kind_laws.specs.Kinds.{kindOf}
 
 -- where the lyn that it answers is 0 there is none of the kind; else the ring is the next of the kind after the one that it started from, and the lyn is
 -- its own. Where there is no necklace more the ring is as it was

@@ -1,3 +1,2 @@
--- The kinds of step (Kinds), and what `advance` asks for and comes to (Going), which serves the code alone.
-pub mod Kinds
+-- What `advance` comes to (Going), which serves the code alone.
 pub mod Going

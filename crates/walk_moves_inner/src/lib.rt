@@ -2,18 +2,12 @@
 // what `of_kind`, `class_at` and `advance` ask for.
 
 use rings::Class;
+use walk_kind_laws::Kind;
 ghost use mathlib.Core.Path.{_≡_};
 ghost use Prim.Native.Nat.{_%_, _<_, _≤_};
 ghost use lib.Dec.{eqb};
-ghost use Rattle.walk_moves_inner.specs.Kinds.{kindAt, classAt};
-ghost use Rattle.walk_moves_inner.specs.Going.{ReadyToStep, Found};
-
-// The three kinds of step.
-pub enum Kind {
-    Prenecklace,
-    Necklace,
-    Lyndon,
-}
+ghost use Rattle.walk_kind_laws.specs.Kinds.{kindAt, classAt, ReadyToStep};
+ghost use Rattle.walk_moves_inner.specs.Going.{Found};
 
 // Whether p divides n, which is greater. Most are more than half of n: those do not, and nothing is divided.
 fn divides(p: usize, n: usize) -> bool

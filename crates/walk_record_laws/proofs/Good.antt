@@ -33,11 +33,10 @@ use Rattle.refusal.specs.declared.Refusal.the-variants.{OffWalk}
 use Rattle.refusal.specs.Order.{Passed, Given}
 use Rattle.refusal.specs.Calls.{ringLimit, walkRecord, walkStart, oneReading}
 use Rattle.walk_spec.specs.declared.Walk.{Walk}
-use Rattle.walk_moves_inner.specs.declared.Kind as K
-use Rattle.walk_moves_inner.specs.Kinds.{kindOf, classAt}
+use Rattle.walk_kind_laws.specs.declared.Kind as K
+use Rattle.walk_kind_laws.specs.Kinds.{kindOf, classAt, ReadyToStep}
 use Rattle.walk_spec.specs.Record.{ringOf, laidOut, shadeCounts, walkOf, onWalk, walkAsked}
-use Rattle.walk_moves_inner.specs.Going.{ReadyToStep}
-use Rattle.walk_moves_inner.proofs.Standing.{kind-only, class-at}
+use Rattle.walk_kind_laws.proofs.ByLyn.{kind-only, class-at}
 
 -- ---- the answers of `on_walk`
 

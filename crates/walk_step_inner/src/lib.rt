@@ -1,13 +1,12 @@
 // A step from a ring that is known to be good, into a new record or in the ring's own place. No public calls.
 
-use walk_moves_inner::Kind;
+use walk_kind_laws::Kind;
 use walk_spec::Outcome;
 use walk_spec::Stepped;
 use walk_spec::Walk;
 use walk_spec::Went;
 ghost use Rattle.refusal.specs.Order.{Passed};
-ghost use Rattle.walk_moves_inner.specs.Kinds.{kindOf};
-ghost use Rattle.walk_moves_inner.specs.Going.{ReadyToStep};
+ghost use Rattle.walk_kind_laws.specs.Kinds.{kindOf, ReadyToStep};
 ghost use Rattle.walk_spec.specs.Record.{walkAsked};
 ghost use Rattle.walk_spec.specs.Says.{StepSays, WentSays};
 

@@ -1,6 +1,6 @@
 -- `walk::next_prenecklace` meets its contract.
 use borrow.Author.Needs.{needs}
-use Rattle.walk_moves_inner.specs.Kinds.{kindOf}
+use Rattle.walk_kind_laws.specs.Kinds.{kindOf}
 use Rattle.walk.proofs.next_prenecklace.Statement.{statement}
 use Rattle.walk.proofs.next_prenecklace.Tie as tie
 

@@ -1,6 +1,6 @@
 -- `walk_moves_inner::class_at` meets its contract.
 use borrow.Author.Needs.{needs}
-use Rattle.walk_moves_inner.proofs.Standing.{at-single, at-repeating, at-opening}
+use Rattle.walk_kind_laws.proofs.ByLyn.{at-single, at-repeating, at-opening}
 use Rattle.walk_moves_inner.proofs.class_at.Statement.{statement}
 use Rattle.walk_moves_inner.proofs.class_at.Tie as tie
 

@@ -3,7 +3,7 @@ use Prim.Native.Nat.{_-_}
 use mathlib.Core.Path.{sym}
 use borrow.Author.Needs.{needs}
 use borrow.Author.Tests.{ne-eqb}
-use Rattle.walk_moves_inner.proofs.Standing.{short-rem}
+use Rattle.walk_kind_laws.proofs.ByLyn.{short-rem}
 use Rattle.walk_moves_inner.proofs.divides.Statement.{statement}
 use Rattle.walk_moves_inner.proofs.divides.Tie as tie
 

@@ -3,7 +3,7 @@ use mathlib.Core.Path.{sym}
 use native.Mathlib.Omega.{arith}
 use borrow.Author.Needs.{needs}
 use borrow.Author.Tests.{ne-eqb}
-use Rattle.walk_moves_inner.proofs.Standing.{kind-full}
+use Rattle.walk_kind_laws.proofs.ByLyn.{kind-full}
 use Rattle.walk_moves_inner.proofs.of_kind.Statement.{statement}
 use Rattle.walk_moves_inner.proofs.of_kind.Tie as tie
 

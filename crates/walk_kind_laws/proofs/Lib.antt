@@ -1,0 +1,2 @@
+-- The kind and the class of a prenecklace by its lyn (ByLyn).
+pub mod ByLyn
