@@ -1,14 +1,15 @@
 -- What the checks leave to the functions behind them.
 --     first-asks, first-found     what filling the output asks, and what it leaves there
---     next-asks, next-found, next-done    what the search for the next ring asks, and what it answers
-use Prim.Native.Nat.{ℕ}
-use mathlib.Core.Path.{_≡_, refl, sym, ap, _∙_}
+--     cap-asks    what lowering the reading to the shades that are counted asks
+--     next-asks, next-found, next-done    what the search for the next ring asks from there, and what it answers
+use Prim.Native.Nat.{ℕ, _<_}
+use mathlib.Core.Path.{_≡_, sym, ap, _∙_}
 use mathlib.Core.Bool.{true, false}
 use mathlib.Core.Option.{none, some}
-use mathlib.Core.List.{List, _++_}
+use mathlib.Core.List.{List}
 use native.Mathlib.Omega.{arith}
 use lib.ListN.{length, take}
-use lib.Seq.{take-all, take-append-seam}
+use lib.Seq.{take-all}
 use Rattle.rings.specs.Counts.{countedNecklace}
 use Rattle.rings.specs.Steps.{firstOf, nextOf}
 use Rattle.refusal.specs.Order.{Passed}
@@ -16,6 +17,8 @@ use Rattle.refusal.specs.Calls.{countedFirst, countedNext}
 use Rattle.words.specs.Sum.{sumOf}
 use Rattle.shades_laws.proofs.Letters.{letters}
 use Rattle.shades_fill_inner.specs.Fillable.{Fillable}
+use Rattle.shades_cap_inner.specs.Capped.{CountedTo, Cappable, Capped}
+use Rattle.shades_cap_inner.proofs.Capping.{counted-long, sum-counted, some-counted, capped-reading, capped-next}
 use Rattle.shades_next_inner.specs.declared.Sought.{Sought}
 use Rattle.shades_raise_inner.specs.Ready.{Ready}
 use Rattle.shades_next_inner.specs.Above.{Finds}
@@ -34,26 +37,35 @@ module _ (n k : ℕ) (cs : List ℕ) (passed : Passed (countedFirst n k cs)) whe
   pub first-found : (l : ℕ) (o : List ℕ) → length o ≡ n → l ≡ sumOf cs → take l o ≡ letters cs → firstOf (countedNecklace cs) n k ≡ some o
   first-found l o e q h = first-letters n k cs (passed .0 .1 .0) (passed .0 .1 .1) ∙ ap some (sym h ∙ take-all l o (omega (arith, q, passed .0 .1 .1)))
 
-module _ (w : List ℕ) (k m : ℕ) (cs t rest : List ℕ) (passed : Passed (countedNext w k m cs)) (e : t ≡ w) where
-  -- the reading stands in the first sectors of an array
-  front : take (length w) (t ++ rest) ≡ w
-  front = rw e (take-append-seam w rest)
+module _ (w : List ℕ) (k m : ℕ) (cs : List ℕ) (passed : Passed (countedNext w k m cs)) (j : ℕ) (to : CountedTo cs j) where
+  -- some shade is counted
+  some-shade : 0 < j
+  some-shade = some-counted cs j to (omega (arith, passed .0 .1 .1, passed .0 .0 .0 .0 .0 .0 .0))
 
-  -- what the search for the next ring asks
-  pub next-asks : Ready (t ++ rest) (length w) k cs
-  next-asks = record {
-    pos = passed .0 .0 .0 .0 .0 .0 .0;
-    size = passed .0 .0 .0 .0 .0 .0 .1;
-    shades = passed .0 .0 .0 .0 .1 .1;
-    many = passed .0 .1 .0;
-    whole = passed .0 .1 .1;
-    reading = rw front (record { long = refl; shades = passed .0 .0 .0 .1 });
-  }
+  -- what lowering the reading to the shades that are counted asks
+  pub cap-asks : Cappable w j
+  cap-asks = record { size = passed .0 .0 .0 .0 .0 .0 .1; some = some-shade; shades = omega (arith, to .within, passed .0 .1 .0, passed .0 .0 .0 .0 .1 .1) }
 
-  -- what it answers is the next ring
-  pub next-found : (r : Sought) → Finds (t ++ rest) (length w) k cs r → r .some ≡ true → (o : List ℕ) → o ≡ take (length w) (r .ring) → nextOf (countedNecklace cs) k w ≡ some o
-  next-found r a h o q = (rw front at (a .ring h)) ∙ ap some (sym q)
+  module _ (t : List ℕ) (capped : Capped w j (take (length w) t)) where
+    -- what the search for the next ring asks
+    pub next-asks : Ready t (length w) j (take j cs)
+    next-asks = record {
+      pos = passed .0 .0 .0 .0 .0 .0 .0;
+      size = passed .0 .0 .0 .0 .0 .0 .1;
+      shades = cap-asks .shades;
+      many = counted-long cs j to;
+      whole = sum-counted cs j to ∙ passed .0 .1 .1;
+      reading = capped-reading w j (take (length w) t) capped some-shade;
+    }
 
-  -- or that there is none
-  pub next-done : (r : Sought) → Finds (t ++ rest) (length w) k cs r → r .some ≡ false → nextOf (countedNecklace cs) k w ≡ none
-  next-done r a h = rw front at (a .done h)
+    -- the next ring above the lowered reading is that above the reading
+    same-next : nextOf (countedNecklace cs) k w ≡ nextOf (countedNecklace (take j cs)) j (take (length w) t)
+    same-next = sym (capped-next w (take (length w) t) cs j k (passed .0 .1 .0) some-shade to capped)
+
+    -- what it answers is the next ring
+    pub next-found : (r : Sought) → Finds t (length w) j (take j cs) r → r .some ≡ true → (o : List ℕ) → o ≡ take (length w) (r .ring) → nextOf (countedNecklace cs) k w ≡ some o
+    next-found r a h o q = same-next ∙ a .ring h ∙ ap some (sym q)
+
+    -- or that there is none
+    pub next-done : (r : Sought) → Finds t (length w) j (take j cs) r → r .some ≡ false → nextOf (countedNecklace cs) k w ≡ none
+    next-done r a h = same-next ∙ a .done h

@@ -27,9 +27,9 @@ pub fn next_ring(s: &[u8], k: usize, counts: &[usize], out: &mut [u8]) -> NextAn
         Checked::Refused(r) => NextAnswer::Refused(r),
         Checked::Good => {
             let n = s.len();
-            let mut start = [0u8; 64];
-            bytes::copy(s, &mut start[..n]);
-            let found = shades_next_inner::above(start, n, k, counts);
+            let j = shades_cap_inner::counted_to(counts);
+            let start = shades_cap_inner::cap(s, j);
+            let found = shades_next_inner::above(start, n, j, &counts[..j]);
             if !found.some {
                 return NextAnswer::Done;
             }

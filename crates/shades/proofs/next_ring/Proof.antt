@@ -1,12 +1,12 @@
--- `shades::next_ring` meets its contract. Behind the checks, the search answers the next ring or that there is none.
-use mathlib.Core.Path.{_≡_, _∙_, sym, refl}
+-- `shades::next_ring` meets its contract. Behind the checks, the search with the counts up to the last and the reading lowered to their shades answers the next ring or that there is none.
+use mathlib.Core.Path.{_≡_, sym, refl}
 use native.Mathlib.Omega.{arith}
 use lib.ListN.{length, take, length-take}
 use borrow.Author.Needs.{needs}
 use lib.Seq.{length-take-le}
 use borrow.Author.Tests.{not-true, not-false}
 use Rattle.word_copy_laws.proofs.Copy.{copied}
-use Rattle.shades.proofs.Asking.{next-asks, next-found, next-done}
+use Rattle.shades.proofs.Asking.{cap-asks, next-asks, next-found, next-done}
 use Rattle.shades.proofs.next_ring.Statement.{statement}
 use Rattle.shades.proofs.next_ring.Tie as tie
 
@@ -19,29 +19,61 @@ enum-known-r c = search needs
 enum-told : tie.Need-enum-told
 enum-told c = search needs
 
-array-borrow-prefix-start : tie.Need-array-borrow-prefix-start
-array-borrow-prefix-start c = let p = (rw (c .enum-told .given .1) at (c .before .before .check-next .ensures)) in omega (arith, p .0 .0 .0 .0 .0 .0 .1)
+counted-to-requires : tie.Need-counted-to-requires
+counted-to-requires c κs = search needs
 
-slice-aggregate-copy : tie.Need-slice-aggregate-copy
-slice-aggregate-copy c = let p = (rw (c .before .enum-told .given .1) at (c .before .before .before .check-next .ensures)) in sym (length-take-le _ _ (omega (arith, p .0 .0 .0 .0 .0 .0 .1)))
+cap-requires : tie.Need-cap-requires
+cap-requires c κs =
+    let a = c .before .before .before .before .before .before .before .args in
+    let p = (rw (c .before .enum-told .given .1)
+    at (c .before .before .before .check-next .ensures)) in
+    cap-asks (a .s .now) (a .k) (length (a .out .now)) (a .counts .now) p _
+    (c .counted-to .ensures)
 
-copy-requires : tie.Need-copy-requires
-copy-requires c κs = let p = (rw (c .before .enum-told .given .1) at (c .before .before .before .check-next .ensures)) in let h = p .0 .0 .0 .0 .0 .0 .1 in simp length-take (omega arith)
+slice-aggregate-above : tie.Need-slice-aggregate-above
+slice-aggregate-above c = sym (length-take-le _ _ (c .before .before .counted-to .ensures .within))
 
 above-requires : tie.Need-above-requires
-above-requires c κs = let p = (rw (c .before .before .before .enum-told .given .1) at (c .before .before .before .before .before .check-next .ensures)) in let a = c .before .before .before .before .before .before .before .before .before .args in next-asks (a .s .now) (a .k) (length (a .out .now)) (a .counts .now) _ _ p (copied (a .s .now) _ _ (c .before .copy .ensures .1) (let h = p .0 .0 .0 .0 .0 .0 .1 in simp length-take (omega arith)))
+above-requires c κs =
+    let a = c .before .before .before .before .before .before .before .before .before .args in
+    let p = (rw (c .before .before .before .enum-told .given .1)
+    at (c .before .before .before .before .before .check-next .ensures)) in
+    next-asks (a .s .now) (a .k) (length (a .out .now)) (a .counts .now) p _
+    (c .before .before .counted-to .ensures) _ (c .before .cap .ensures)
 
 returns : tie.Need-returns
-returns c = let p = (rw (c .before .before .before .before .before .before .enum-told .given .1) at (c .before .before .before .before .before .before .before .before .check-next .ensures)) in let a = c .before .before .before .before .before .before .before .before .before .before .before .before .args in (p, next-done (a .s .now) (a .k) (length (a .out .now)) (a .counts .now) _ _ p (copied (a .s .now) _ _ (c .before .before .before .before .copy .ensures .1) (let h = p .0 .0 .0 .0 .0 .0 .1 in simp length-take (omega arith))) _ (c .before .before .above .ensures) (not-true _ (c .if1 .taken)), refl)
+returns c =
+    let a = c .before .before .before .before .before .before .before .before .before .before .before .before .args in
+    let p = (rw (c .before .before .before .before .before .before .enum-told .given .1)
+    at (c .before .before .before .before .before .before .before .before .check-next .ensures)) in (
+      p,
+      next-done (a .s .now) (a .k) (length (a .out .now)) (a .counts .now) p _
+          (c .before .before .before .before .before .counted-to .ensures) _ (c .before .before .before .before .cap .ensures) _ (c .before .before .above .ensures) (not-true _ (c .if1 .taken)),
+      refl,
+    )
 
 array-share-prefix-ring : tie.Need-array-share-prefix-ring
-array-share-prefix-ring c = let p = (rw (c .before .before .before .before .before .before .before .enum-told .given .1) at (c .before .before .before .before .before .before .before .before .before .check-next .ensures)) in let z : length (c .before .before .before .above .result .ring) ≡ 64 = search needs in omega (arith, p .0 .0 .0 .0 .0 .0 .1)
+array-share-prefix-ring c =
+    let p = (rw (c .before .before .before .before .before .before .before .enum-told .given .1)
+    at (c .before .before .before .before .before .before .before .before .before .check-next .ensures)) in
+    let z : length (c .before .before .before .above .result .ring) ≡ 64 = search needs in
+    omega (arith, p .0 .0 .0 .0 .0 .0 .1)
 
-slice-aggregate-copy-2 : tie.Need-slice-aggregate-copy-2
-slice-aggregate-copy-2 c = let p = (rw (c .before .before .before .before .before .before .before .before .enum-told .given .1) at (c .before .before .before .before .before .before .before .before .before .before .check-next .ensures)) in let z : length (c .before .before .before .before .above .result .ring) ≡ 64 = search needs in sym (length-take-le _ _ (omega (arith, p .0 .0 .0 .0 .0 .0 .1)))
+slice-aggregate-copy : tie.Need-slice-aggregate-copy
+slice-aggregate-copy c =
+    let p = (rw (c .before .before .before .before .before .before .before .before .enum-told .given .1)
+    at (c .before .before .before .before .before .before .before .before .before .before .check-next .ensures)) in
+    let z : length (c .before .before .before .before .above .result .ring) ≡ 64 = search needs in
+    sym (length-take-le _ _ (omega (arith, p .0 .0 .0 .0 .0 .0 .1)))
 
-copy-requires-2 : tie.Need-copy-requires-2
-copy-requires-2 c κs = let p = (rw (c .before .before .before .before .before .before .before .before .before .enum-told .given .1) at (c .before .before .before .before .before .before .before .before .before .before .before .check-next .ensures)) in let z : length (c .before .before .before .before .before .above .result .ring) ≡ 64 = search needs in let h = p .0 .0 .0 .0 .0 .0 .1 in let e = p .0 .0 .1 in simp length-take (omega arith)
+copy-requires : tie.Need-copy-requires
+copy-requires c κs =
+    let p = (rw (c .before .before .before .before .before .before .before .before .before .enum-told .given .1)
+    at (c .before .before .before .before .before .before .before .before .before .before .before .check-next .ensures)) in
+    let z : length (c .before .before .before .before .before .above .result .ring) ≡ 64 = search needs in
+    let h = p .0 .0 .0 .0 .0 .0 .1 in
+    let e = p .0 .0 .1 in
+    simp length-take (omega arith)
 
 returns-2 : tie.Need-returns-2
 returns-2 c = (rw (c .before .r .given .1) at (c .before .before .before .check-next .ensures), refl)
@@ -50,23 +82,25 @@ same-length : tie.Need-same-length
 same-length c = search needs
 
 returns-3 : tie.Need-returns-3
-returns-3 c = let p = (rw (c .before .before .before .before .before .before .before .before .before .before .before .before .enum-told .given .1) at (c .before .before .before .before .before .before .before .before .before .before .before .before .before .before .check-next .ensures)) in let a = c .before .before .before .before .before .before .before .before .before .before .before .before .before .before .before .before .before .before .args in (p, next-found (a .s .now) (a .k) (length (a .out .now)) (a .counts .now) _ _ p (copied (a .s .now) _ _ (c .before .before .before .before .before .before .before .before .before .before .copy .ensures .1) (let h = p .0 .0 .0 .0 .0 .0 .1 in simp length-take (omega arith))) _ (c .before .before .before .before .before .before .before .before .above .ensures) (not-false _ (c .before .before .before .before .before .before .if1 .left)) _ (let z : length (c .before .before .before .before .before .before .before .before .above .result .ring) ≡ 64 = search needs in let h = p .0 .0 .0 .0 .0 .0 .1 in let e = p .0 .0 .1 in copied (take (length (a .s .now)) (c .before .before .before .before .before .before .before .before .above .result .ring)) (a .out .now) _ (c .before .before .copy2 .ensures .1) (simp length-take (omega arith))))
+returns-3 c =
+    let a = c .before .before .before .before .before .before .before .before .before .before .before .before .before .before .before .before .before .before .args in
+    let p = (rw (c .before .before .before .before .before .before .before .before .before .before .before .before .enum-told .given .1)
+    at (c .before .before .before .before .before .before .before .before .before .before .before .before .before .before .check-next .ensures)) in
+    let z : length (c .before .before .before .before .before .before .before .before .above .result .ring) ≡ 64 = search needs in
+    let h = p .0 .0 .0 .0 .0 .0 .1 in
+    let e = p .0 .0 .1 in (
+      p,
+      next-found (a .s .now) (a .k) (length (a .out .now)) (a .counts .now) p _
+          (c .before .before .before .before .before .before .before .before .before .before .before .counted-to .ensures) _
+          (c .before .before .before .before .before .before .before .before .before .before .cap .ensures) _
+          (c .before .before .before .before .before .before .before .before .above .ensures)
+          (not-false _ (c .before .before .before .before .before .before .if1 .left)) _
+          (copied (take (length (a .s .now)) (c .before .before .before .before .before .before .before .before .above .result .ring)) (a .out .now) _
+          (c .before .before .copy .ensures .1) (simp length-take (omega arith))),
+    )
 
 pub next-ring-spec : {M : Type 1} → statement M
 next-ring-spec =
     tie.close
-    (tie.spec
-    check-next-requires
-    enum-known-r
-    enum-told
-    array-borrow-prefix-start
-    slice-aggregate-copy
-    copy-requires
-    above-requires
-    returns
-    array-share-prefix-ring
-    slice-aggregate-copy-2
-    copy-requires-2
-    returns-2
-    same-length
-    returns-3)
+    (tie.spec check-next-requires enum-known-r enum-told counted-to-requires cap-requires slice-aggregate-above above-requires returns array-share-prefix-ring slice-aggregate-copy
+    copy-requires returns-2 same-length returns-3)
