@@ -1,7 +1,9 @@
--- `shades_raise_inner::find` meets its contract. The loop: each place behind i is blocked, and rem is what the counts leave beside the sectors before i.
+-- `shades_raise_inner::find` meets its contract. The loop: each place behind i is blocked, rem is what the counts leave beside the sectors before i, and al is w: a test hands back both as
+-- they came.
 use Prim.Native.Nat.{_-_}
+use mathlib.Core.Path.{_≡_, refl, sym, ap, _∙_}
 use native.Mathlib.Omega.{arith}
-use lib.ListN.{getD}
+use lib.ListN.{length, getD}
 use Rattle.shades_raise_inner.specs.Places.{Seeking}
 use Rattle.shades_raise_inner.proofs.Blocking.{find-asks, find-found, find-end, find-more, find-shade, find-count}
 use borrow.Author.Needs.{needs}
@@ -9,93 +11,105 @@ use Rattle.shades_raise_inner.proofs.find.Statement.{statement}
 use Rattle.shades_raise_inner.proofs.find.Tie as tie
 
 abbrev Inv-loop : tie.InvT-loop
-Inv-loop n k p counts w i₀ rem₀ i rem = Seeking w n k counts i rem
+Inv-loop n k p counts w i₀ rem₀ al₀ i rem al = Seeking w n k counts i rem × (al ≡ w)
 
 abbrev μ-loop : tie.MeasureT-loop
-μ-loop n k p counts w i₀ rem₀ i rem = i
+μ-loop n k p counts w i₀ rem₀ al₀ i rem al = i
 
 reach-requires : tie.Need-reach-requires Inv-loop μ-loop
 reach-requires c κs = c .before .pre
 
 loop-holds : tie.Need-loop-holds Inv-loop μ-loop
-loop-holds c = c .before .reach .ensures
+loop-holds c = (c .before .reach .ensures, refl)
+
+slice-aggregate-lift : tie.Need-slice-aggregate-lift Inv-loop μ-loop
+slice-aggregate-lift c =
+    let z : length (c .before .before .before .before .before .args .t1) ≡ 64 = search needs in
+    sym (ap length (c .before .loop .inv .1) ∙ z)
+
+slice-aggregate-lift-2 : tie.Need-slice-aggregate-lift-2 Inv-loop μ-loop
+slice-aggregate-lift-2 c = search needs
 
 lift-requires : tie.Need-lift-requires Inv-loop μ-loop
-lift-requires c κs = find-asks _ _ _ _ (search needs) (c .before .before .before .before .before .before .pre .0) _ _ (c .before .before .loop .inv)
+lift-requires c κs = let l = c .before .before .loop in rw (l .inv .1) (find-asks _ _ _ _ (search needs) (c .before .before .before .before .before .before .pre .0) _ _ (l .inv .0))
 
-add-t16 : tie.Need-add-t16 Inv-loop μ-loop
-add-t16 c = omega (arith, c .before .before .before .before .loop .inv .inside, c .before .before .before .before .before .before .before .before .pre .0 .ready .size)
+add-t19 : tie.Need-add-t19 Inv-loop μ-loop
+add-t19 c =
+    let l = c .before .before .before .before .before .before .loop in
+    let o = c .before .before .before .before .before .before .before .before .before .before .pre .0 in
+    omega (arith, l .inv .0 .inside, o .ready .size)
 
 returns : tie.Need-returns Inv-loop μ-loop
 returns c =
-    find-found _ _ _ _ (search needs) (c .before .before .before .before .before .before .before .before .pre .0) _ _
-    (c .before .before .before .before .loop .inv) _ (c .before .lift .ensures) (c .if1 .taken)
+    let l = c .before .before .before .before .before .before .loop in
+    let o = c .before .before .before .before .before .before .before .before .before .before .pre .0 in
+    let e = c .before .before .before .lift .ensures in
+    find-found _ _ _ _ (search needs) o _ _ (l .inv .0) _ (rw (l .inv .1) at (e .0)) (c .if1 .taken)
 
 returns-2 : tie.Need-returns-2 Inv-loop μ-loop
 returns-2 c =
-    find-end _ _ _ _ (search needs) (c .before .before .before .before .before .before .before .before .before .pre .0) _ _
-    (c .before .before .before .before .before .loop .inv) _ (c .before .before .lift .ensures) (λ h. omega (arith, c .before .if1 .left))
-    (c .if2 .taken)
+    let l = c .before .before .before .before .before .before .before .loop in
+    let o = c .before .before .before .before .before .before .before .before .before .before .before .pre .0 in
+    let e = c .before .before .before .before .lift .ensures in
+    find-end _ _ _ _ (search needs) o _ _ (l .inv .0) _ (rw (l .inv .1) at (e .0)) (λ h. omega (arith, c .before .if1 .left)) (c .if2 .taken)
 
 sub-i : tie.Need-sub-i Inv-loop μ-loop
 sub-i c = search needs
 
 array-read-x : tie.Need-array-read-x Inv-loop μ-loop
-array-read-x c = omega (arith, c .before .before .before .before .before .loop .inv .inside, c .before .before .before .before .before .before .before .before .before .pre .0 .ready .size)
+array-read-x c =
+    let l = c .before .before .before .before .before .before .before .loop in
+    let o = c .before .before .before .before .before .before .before .before .before .before .before .pre .0 in
+    omega (arith, l .inv .0 .inside, o .ready .size)
 
 cast-x : tie.Need-cast-x Inv-loop μ-loop
 cast-x c =
-    omega (
-      arith,
-      find-shade _ _ _ _ (search needs) (c .before .before .before .before .before .before .before .before .before .pre .0) _ _
-          (c .before .before .before .before .before .loop .inv) _ (c .before .before .lift .ensures) (c .if2 .left),
-    )
+    let l = c .before .before .before .before .before .before .before .loop in
+    let o = c .before .before .before .before .before .before .before .before .before .before .before .pre .0 in
+    let e = c .before .before .before .before .lift .ensures in
+    omega (arith, find-shade _ _ _ _ (search needs) o _ _ (l .inv .0) _ (rw (l .inv .1) at (e .0)) (c .if2 .left))
 
 mul-rem : tie.Need-mul-rem Inv-loop μ-loop
 mul-rem c =
-    omega (
-      arith,
-      find-shade _ _ _ _ (search needs) (c .before .before .before .before .before .before .before .before .before .pre .0) _ _
-          (c .before .before .before .before .before .loop .inv) _ (c .before .before .lift .ensures) (c .if2 .left),
-    )
+    let l = c .before .before .before .before .before .before .before .loop in
+    let o = c .before .before .before .before .before .before .before .before .before .before .before .pre .0 in
+    let e = c .before .before .before .before .lift .ensures in
+    omega (arith, find-shade _ _ _ _ (search needs) o _ _ (l .inv .0) _ (rw (l .inv .1) at (e .0)) (c .if2 .left))
 
 array-read-rem : tie.Need-array-read-rem Inv-loop μ-loop
 array-read-rem c =
-    omega (
-      arith,
-      find-shade _ _ _ _ (search needs) (c .before .before .before .before .before .before .before .before .before .pre .0) _ _
-          (c .before .before .before .before .before .loop .inv) _ (c .before .before .lift .ensures) (c .if2 .left),
-      c .before .before .before .before .before .loop .inv .remains .size,
-    )
+    let l = c .before .before .before .before .before .before .before .loop in
+    let o = c .before .before .before .before .before .before .before .before .before .before .before .pre .0 in
+    let e = c .before .before .before .before .lift .ensures in
+    omega (arith, find-shade _ _ _ _ (search needs) o _ _ (l .inv .0) _ (rw (l .inv .1) at (e .0)) (c .if2 .left), l .inv .0 .remains .size)
 
 add-rem : tie.Need-add-rem Inv-loop μ-loop
 add-rem c =
-    omega (
-      arith,
-      find-count _ _ _ _ (search needs) (c .before .before .before .before .before .before .before .before .before .pre .0) _ _
-          (c .before .before .before .before .before .loop .inv) _ (c .before .before .lift .ensures)
-          (getD (c .before .before .before .before .before .before .before .before .before .args .t1)
-          (c .before .before .before .before .before .loop .i - 1) 0),
-    )
+    let l = c .before .before .before .before .before .before .before .loop in
+    let o = c .before .before .before .before .before .before .before .before .before .before .before .pre .0 in
+    let e = c .before .before .before .before .lift .ensures in
+    let w = c .before .before .before .before .before .before .before .before .before .before .before .args .t1 in
+    rw (e .1 .1) (omega (arith, find-count _ _ _ _ (search needs) o _ _ (l .inv .0) _ (rw (l .inv .1) at (e .0)) (getD w (l .i - 1) 0)))
 
 array-write-rem : tie.Need-array-write-rem Inv-loop μ-loop
 array-write-rem c =
-    omega (
-      arith,
-      find-shade _ _ _ _ (search needs) (c .before .before .before .before .before .before .before .before .before .pre .0) _ _
-          (c .before .before .before .before .before .loop .inv) _ (c .before .before .lift .ensures) (c .if2 .left),
-      c .before .before .before .before .before .loop .inv .remains .size,
-    )
+    let l = c .before .before .before .before .before .before .before .loop in
+    let o = c .before .before .before .before .before .before .before .before .before .before .before .pre .0 in
+    let e = c .before .before .before .before .lift .ensures in
+    omega (arith, find-shade _ _ _ _ (search needs) o _ _ (l .inv .0) _ (rw (l .inv .1) at (e .0)) (c .if2 .left), l .inv .0 .remains .size)
 
 loop-less : tie.Need-loop-less Inv-loop μ-loop
 loop-less c = search needs
 
 loop-again : tie.Need-loop-again Inv-loop μ-loop
 loop-again c =
-    find-more _ _ _ _ (search needs) (c .before .before .before .before .before .before .before .before .before .pre .0) _ _
-    (c .before .before .before .before .before .loop .inv) _ (c .before .before .lift .ensures) (λ h. omega (arith, c .before .if1 .left))
-    (c .if2 .left)
+    let l = c .before .before .before .before .before .before .before .loop in
+    let o = c .before .before .before .before .before .before .before .before .before .before .before .pre .0 in
+    let e = c .before .before .before .before .lift .ensures in
+    (rw (e .1 .1) (find-more _ _ _ _ (search needs) o _ _ (l .inv .0) _ (rw (l .inv .1) at (e .0)) (λ h. omega (arith, c .before .if1 .left)) (c .if2 .left)), e .1 .0 ∙ l .inv .1)
 
 pub find-spec : {M : Type 1} → statement M
 find-spec =
-    tie.close (tie.spec Inv-loop μ-loop reach-requires loop-holds lift-requires add-t16 returns returns-2 sub-i array-read-x cast-x mul-rem array-read-rem add-rem array-write-rem loop-less loop-again)
+    tie.close
+    (tie.spec Inv-loop μ-loop reach-requires loop-holds slice-aggregate-lift slice-aggregate-lift-2 lift-requires add-t19 returns returns-2 sub-i
+    array-read-x cast-x mul-rem array-read-rem add-rem array-write-rem loop-less loop-again)

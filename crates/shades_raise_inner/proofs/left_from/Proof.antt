@@ -18,8 +18,8 @@ loop-holds c = left-start _ _ _ (c .pre .0)
 mul-if1 : tie.Need-mul-if1 Inv-loop μ-loop
 mul-if1 c = search needs
 
-element-copy-out-if1 : tie.Need-element-copy-out-if1 Inv-loop μ-loop
-element-copy-out-if1 c = omega (arith, c .loop-test .taken, c .before .before .pre .1)
+shared-slice-read-if1 : tie.Need-shared-slice-read-if1 Inv-loop μ-loop
+shared-slice-read-if1 c = omega (arith, c .before .loop-test .taken, c .before .before .before .pre .1)
 
 returns : tie.Need-returns Inv-loop μ-loop
 returns c = left-end _ _ _ _ (c .before .before .before .loop .inv) (λ h e. c .if1 .taken e)
@@ -37,4 +37,4 @@ returns-2 : tie.Need-returns-2 Inv-loop μ-loop
 returns-2 c = left-end _ _ _ _ (c .before .loop .inv) (λ h. absurd (omega (arith, c .loop-test .left)))
 
 pub left-from-spec : {M : Type 1} → statement M
-left-from-spec = tie.close (tie.spec Inv-loop μ-loop loop-holds mul-if1 element-copy-out-if1 returns add-x loop-less loop-again returns-2)
+left-from-spec = tie.close (tie.spec Inv-loop μ-loop loop-holds mul-if1 shared-slice-read-if1 returns add-x loop-less loop-again returns-2)

@@ -1,13 +1,13 @@
 -- `shades_raise_inner::lift` meets its contract. Where the least shade that is left is barred, each is.
-use Prim.Native.Nat.{_-_}
+use mathlib.Core.Path.{refl}
 use native.Mathlib.Omega.{arith}
 use Rattle.shades_raise_inner.proofs.Barring.{lift-none, lift-asks, lift-found, lift-not}
 use borrow.Author.Needs.{needs}
 use Rattle.shades_raise_inner.proofs.lift.Statement.{statement}
 use Rattle.shades_raise_inner.proofs.lift.Tie as tie
 
-element-copy-out-left-from : tie.Need-element-copy-out-left-from
-element-copy-out-left-from c = omega (arith, c .pre .inside, c .pre .size)
+slice-read-left-from : tie.Need-slice-read-left-from
+slice-read-left-from c = let p = c .before .before .before .before .pre in omega (arith, p .inside, p .size)
 
 cast-left-from : tie.Need-cast-left-from
 cast-left-from c = search needs
@@ -16,23 +16,44 @@ add-left-from : tie.Need-add-left-from
 add-left-from c = search needs
 
 left-from-requires : tie.Need-left-from-requires
-left-from-requires c κs = (omega (arith, c .before .pre .low), c .before .pre .shades)
+left-from-requires c κs = let p = c .before .before .before .before .pre in (omega (arith, p .low), omega (arith, p .shades, p .slots))
+
+same-length : tie.Need-same-length
+same-length c = search needs
 
 returns : tie.Need-returns
-returns c = lift-none _ _ _ _ _ (c .before .before .before .pre) (c .before .left-from .ensures) (c .if1 .taken)
+returns c = (lift-none _ _ _ _ _ (c .before .before .before .before .before .before .pre) (c .before .left-from .ensures) (c .if1 .taken), (refl, refl))
 
 possible-requires : tie.Need-possible-requires
-possible-requires c κs = lift-asks _ _ _ _ _ (c .before .before .before .pre) (c .before .left-from .ensures) (c .if1 .left)
+possible-requires c κs = lift-asks _ _ _ _ _ (c .before .before .before .before .before .before .before .before .pre) (c .before .before .before .left-from .ensures) (c .before .before .if1 .left)
+
+same-length-2 : tie.Need-same-length-2
+same-length-2 c = search needs
+
+same-length-3 : tie.Need-same-length-3
+same-length-3 c = search needs
 
 returns-2 : tie.Need-returns-2
 returns-2 c =
-    lift-found _ _ _ _ _ (c .before .before .before .before .before .pre) (c .before .before .before .left-from .ensures)
-    (c .before .before .if1 .left) (c .before .possible .ensures .yes (c .if2 .taken))
+    let e = c .before .before .before .before .before .possible .ensures in
+    let f = c .before .before .before .before .before .before .before .before .before .left-from .ensures in
+    let h = c .before .before .before .before .before .before .before .before .if1 .left in
+    (lift-found _ _ _ _ _ (c .before .before .before .before .before .before .before .before .before .before .before .before .before .before .pre) f h (e .0 .yes (c .if2 .taken)), e .1)
+
+same-length-4 : tie.Need-same-length-4
+same-length-4 c = search needs
+
+same-length-5 : tie.Need-same-length-5
+same-length-5 c = search needs
 
 returns-3 : tie.Need-returns-3
 returns-3 c =
-    lift-not _ _ _ _ _ (c .before .before .before .before .before .pre) (c .before .before .before .left-from .ensures) (c .before .before .if1 .left)
-    (c .before .possible .ensures .no (c .if2 .left))
+    let e = c .before .before .before .before .before .possible .ensures in
+    let f = c .before .before .before .before .before .before .before .before .before .left-from .ensures in
+    let h = c .before .before .before .before .before .before .before .before .if1 .left in
+    (lift-not _ _ _ _ _ (c .before .before .before .before .before .before .before .before .before .before .before .before .before .before .pre) f h (e .0 .no (c .if2 .left)), e .1)
 
 pub lift-spec : {M : Type 1} → statement M
-lift-spec = tie.close (tie.spec element-copy-out-left-from cast-left-from add-left-from left-from-requires returns possible-requires returns-2 returns-3)
+lift-spec =
+    tie.close
+    (tie.spec slice-read-left-from cast-left-from add-left-from left-from-requires same-length returns possible-requires same-length-2 same-length-3 returns-2 same-length-4 same-length-5 returns-3)
