@@ -2,6 +2,7 @@
 
 use record_spec::FRONT_MARK;
 use record_spec::HEAD;
+use record_spec::Kind;
 use record_spec::MARK;
 use record_spec::RETIRED_MARK;
 use refusal::Checked;
@@ -23,10 +24,10 @@ pub fn check_old(rest: &[u8], start: usize) -> Checked
         return Checked::Refused(Refusal::Mark(start));
     }
     if rest[1] == FRONT_MARK {
-        return record_behind_inner::check_rest(rest, start);
+        return record_behind_inner::check_behind(Kind::Front, rest, start);
     }
     if rest[1] == RETIRED_MARK {
-        return record_behind_inner::check_rest(rest, start);
+        return record_behind_inner::check_behind(Kind::Front, rest, start);
     }
     Checked::Refused(Refusal::Mark(start))
 }

@@ -13,10 +13,9 @@ ghost use mathlib.Core.Path.{_≡_};
 ghost use Prim.Native.Nat.{_+_, _≤_};
 ghost use lib.ListN.{length, getD};
 ghost use lib.Dec.{eqb};
-ghost use Rattle.record_spec.specs.declared.Kind.the-variants.{Front};
-ghost use Rattle.record_spec.specs.Layout.{Marked};
-ghost use Rattle.record_spec.specs.Order.{After9};
-ghost use Rattle.record_spec.specs.Says.{Read};
+ghost use Rattle.words.specs.Readings.{Shaded};
+ghost use Rattle.record_spec.specs.Layout.{bodyLength, shown, Marked};
+ghost use Rattle.record_spec.specs.Order.{GoodRecord};
 ghost use Rattle.record_body_inner.specs.Steps.{Held, RecordSays};
 
 // The head and the mark: 7, 8, 16; then the record of its kind.
@@ -34,22 +33,22 @@ pub fn read_head(rest: &[u8], start: usize, out: &mut [u8]) -> Entry
         return Entry::Refused(Refusal::Retired(start));
     }
     if rest[1] == FRONT_MARK {
-        return read_front(rest, start, out);
+        return read_kind(Kind::Front, rest, start, out);
     }
     if rest[1] == PACKED_MARK {
-        return record_packed_inner::read_packed(rest, start, out);
+        return read_kind(Kind::Packed, rest, start, out);
     }
     Entry::Refused(Refusal::Mark(start))
 }
 
-// A front record: the checks behind the mark, and then the ring.
-fn read_front(rest: &[u8], start: usize, out: &mut [u8]) -> Entry
-    requires { ⌜ Held (start + length (now rest)) × (length (now out) ≡ 64) × (4 ≤ length (now rest)) × Marked (now rest) Front ⌝ }
+// A record of the kind: the checks behind the mark, and then the ring.
+fn read_kind(kind: Kind, rest: &[u8], start: usize, out: &mut [u8]) -> Entry
+    requires { ⌜ Held (start + length (now rest)) × (length (now out) ≡ 64) × (4 ≤ length (now rest)) × Marked (now rest) kind ⌝ }
     ensures { λ r. ⌜ RecordSays (now (rest .entry)) start (now (out .entry)) r (now (out .exit)) ⌝ }
 {
-    match record_behind_inner::check_rest(rest, start) {
+    match record_behind_inner::check_behind(kind, rest, start) {
         Checked::Refused(r) => Entry::Refused(r),
-        Checked::Good => read_good(rest, start, out),
+        Checked::Good => read_good(kind, rest, start, out),
     }
 }
 
@@ -61,19 +60,36 @@ fn is_retired(rest: &[u8]) -> bool
     rest[1] == RETIRED_MARK
 }
 
-// Writes the ring of a good front record, and answers what it is.
-fn read_good(rest: &[u8], start: usize, out: &mut [u8]) -> Entry
-    requires { ⌜ Held (start + length (now rest)) × (length (now out) ≡ 64) × After9 (now rest) × Marked (now rest) Front ⌝ }
+// Writes the ring of a good record of the kind, and answers what it is.
+fn read_good(kind: Kind, rest: &[u8], start: usize, out: &mut [u8]) -> Entry
+    requires { ⌜ Held (start + length (now rest)) × (length (now out) ≡ 64) × GoodRecord kind (now rest) × Marked (now rest) kind ⌝ }
     ensures { λ r. ⌜ RecordSays (now (rest .entry)) start (now (out .entry)) r (now (out .exit)) ⌝ }
 {
     let n = rest[2] as usize;
     let k = rest[3] as usize;
-    let e = HEAD + n;
-    bytes::copy(&rest[HEAD..e], out);
+    let e = HEAD + record_stored_inner::body_length(kind, n, k);
+    show(kind, &rest[HEAD..e], k, &mut out[..n]);
     Entry::Record {
         n: n,
         k: k,
-        kind: Kind::Front,
+        kind: kind,
         next: start + e,
+    }
+}
+
+// Writes the sectors that the bytes behind the head hold, in the form of the kind.
+fn show(kind: Kind, body: &[u8], k: usize, out: &mut [u8])
+    requires { ⌜ Shaded k × (length (now body) ≡ bodyLength kind (length (now out)) k) ⌝ }
+    ensures { λ r. ⌜ now (out .exit) ≡ shown kind (length (now (out .entry))) k (now (body .entry)) ⌝ }
+{
+    match kind {
+        Kind::Front => {
+            bytes::copy(body, out);
+        }
+        Kind::Packed => packing_unpack_inner::unpack_into(
+            body,
+            packing_bits_inner::width_of(k),
+            out,
+        ),
     }
 }

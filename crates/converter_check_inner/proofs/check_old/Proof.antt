@@ -20,20 +20,20 @@ returns-2 c = inl (inr (search needs, (refl, λ k. c .if2 .taken (k .1 .0))))
 shared-slice-read-if3 : tie.Need-shared-slice-read-if3
 shared-slice-read-if3 c = search needs
 
-check-rest-requires : tie.Need-check-rest-requires
-check-rest-requires c κs = search needs
+check-behind-requires : tie.Need-check-behind-requires
+check-behind-requires c κs = search needs
 
 returns-3 : tie.Need-returns-3
-returns-3 c = let a = c .before .before .before .before .before .before .before .args in rest-checked (a .rest .now) (a .start) front (c .check-rest .result) (search needs) (c .before .before .before .if2 .left, c .before .if3 .taken) (c .check-rest .ensures)
+returns-3 c = let a = c .before .before .before .before .before .before .before .args in rest-checked (a .rest .now) (a .start) front (c .check-behind .result) (search needs) (c .before .before .before .if2 .left, c .before .if3 .taken) (c .check-behind .ensures)
 
 shared-slice-read-if4 : tie.Need-shared-slice-read-if4
 shared-slice-read-if4 c = search needs
 
-check-rest-requires-2 : tie.Need-check-rest-requires-2
-check-rest-requires-2 c κs = search needs
+check-behind-requires-2 : tie.Need-check-behind-requires-2
+check-behind-requires-2 c κs = search needs
 
 returns-4 : tie.Need-returns-4
-returns-4 c = let a = c .before .before .before .before .before .before .before .before .before .args in rest-checked (a .rest .now) (a .start) back (c .check-rest2 .result) (search needs) (c .before .before .before .before .before .if2 .left, c .before .if4 .taken) (c .check-rest2 .ensures)
+returns-4 c = let a = c .before .before .before .before .before .before .before .before .before .args in rest-checked (a .rest .now) (a .start) back (c .check-behind2 .result) (search needs) (c .before .before .before .before .before .if2 .left, c .before .if4 .taken) (c .check-behind2 .ensures)
 
 returns-5 : tie.Need-returns-5
 returns-5 c =
@@ -48,9 +48,9 @@ check-old-spec =
     shared-slice-read-if2
     returns-2
     shared-slice-read-if3
-    check-rest-requires
+    check-behind-requires
     returns-3
     shared-slice-read-if4
-    check-rest-requires-2
+    check-behind-requires-2
     returns-4
     returns-5)

@@ -29,8 +29,8 @@ returns-3 c =
 shared-slice-read-if4 : tie.Need-shared-slice-read-if4
 shared-slice-read-if4 c = search needs
 
-read-front-requires : tie.Need-read-front-requires
-read-front-requires c κs = search needs
+read-kind-requires : tie.Need-read-kind-requires
+read-kind-requires c κs = search needs
 
 same-length : tie.Need-same-length
 same-length c = search needs
@@ -41,8 +41,8 @@ returns-4 c = search needs
 shared-slice-read-if5 : tie.Need-shared-slice-read-if5
 shared-slice-read-if5 c = search needs
 
-read-packed-requires : tie.Need-read-packed-requires
-read-packed-requires c κs = search needs
+read-kind-requires-2 : tie.Need-read-kind-requires-2
+read-kind-requires-2 c κs = search needs
 
 same-length-2 : tie.Need-same-length-2
 same-length-2 c = search needs
@@ -65,11 +65,11 @@ read-head-spec =
     is-retired-requires
     returns-3
     shared-slice-read-if4
-    read-front-requires
+    read-kind-requires
     same-length
     returns-4
     shared-slice-read-if5
-    read-packed-requires
+    read-kind-requires-2
     same-length-2
     returns-5
     returns-6)
