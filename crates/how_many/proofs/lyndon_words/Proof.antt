@@ -1,26 +1,12 @@
--- `how_many::lyndon_words` meets its contract.
-use borrow.Author.Needs.{needs}
-use native.Mathlib.Omega.{arith}
-use Rattle.limits_spec.proofs.Given.{accepted-listable, listable-within}
+-- `how_many::lyndon_words` meets its contract: the refusal of the numbers, or how many Lyndon words the formula says.
+use Rattle.limits_spec.proofs.Given.{accepted-listable}
 use Rattle.how_many_spec.specs.Says.{mostCounted}
+use borrow.Author.Needs.{needs}
 use Rattle.how_many.proofs.lyndon_words.Statement.{statement}
 use Rattle.how_many.proofs.lyndon_words.Tie as tie
 
-plan-numbers-requires : tie.Need-plan-numbers-requires
-plan-numbers-requires c κs = search needs
-
-enum-known-r : tie.Need-enum-known-r
-enum-known-r c = search needs
-
-enum-told : tie.Need-enum-told
-enum-told c = search needs
-
 lyndon-of-requires : tie.Need-lyndon-of-requires
-lyndon-of-requires c κs =
-    let g = c .enum-told .given in
-    let a = c .before .before .before .args in
-    let p = c .before .before .plan-numbers in
-    listable-within _ mostCounted (a .k) (a .n) (accepted-listable _ (a .k) (a .n) (g .0 .0) (g .0 .1 .0) (p .result) (g .1) (p .ensures)) (omega arith)
+lyndon-of-requires c κs = let g = c .enum-told .given in accepted-listable mostCounted _ _ (g .0 .0) (g .0 .1 .0) _ (g .1) (c .before .before .plan-numbers .ensures)
 
 returns : tie.Need-returns
 returns c = rw (c .before .r .given .1) at (c .before .before .before .plan-numbers .ensures)
@@ -28,9 +14,7 @@ returns c = rw (c .before .r .given .1) at (c .before .before .before .plan-numb
 returns-2 : tie.Need-returns-2
 returns-2 c =
     let g = c .before .enum-told .given in
-    let a = c .before .before .before .before .args in
-    let p = c .before .before .before .plan-numbers in
-    (listable-within _ mostCounted (a .k) (a .n) (accepted-listable _ (a .k) (a .n) (g .0 .0) (g .0 .1 .0) (p .result) (g .1) (p .ensures)) (omega arith), c .lyndon-of .ensures)
+    (accepted-listable mostCounted _ _ (g .0 .0) (g .0 .1 .0) _ (g .1) (c .before .before .before .plan-numbers .ensures), c .lyndon-of .ensures)
 
 pub lyndon-words-spec : {M : Type 1} → statement M
-lyndon-words-spec = tie.close (tie.spec plan-numbers-requires enum-known-r enum-told lyndon-of-requires returns returns-2)
+lyndon-words-spec = tie.close (tie.spec (λ c κs. search needs) (λ c. search needs) (λ c. search needs) lyndon-of-requires returns returns-2)
