@@ -11,26 +11,11 @@ use Rattle.converter_check_inner.proofs.check_old.Tie as tie
 returns : tie.Need-returns
 returns c = inl (inl (refl, λ h. omega (arith, c .if1 .taken)))
 
-shared-slice-read-if2 : tie.Need-shared-slice-read-if2
-shared-slice-read-if2 c = search needs
-
 returns-2 : tie.Need-returns-2
 returns-2 c = inl (inr (search needs, (refl, λ k. c .if2 .taken (k .1 .0))))
 
-shared-slice-read-if3 : tie.Need-shared-slice-read-if3
-shared-slice-read-if3 c = search needs
-
-check-behind-requires : tie.Need-check-behind-requires
-check-behind-requires c κs = search needs
-
 returns-3 : tie.Need-returns-3
 returns-3 c = let a = c .before .before .before .before .before .before .before .args in rest-checked (a .rest .now) (a .start) front (c .check-behind .result) (search needs) (c .before .before .before .if2 .left, c .before .if3 .taken) (c .check-behind .ensures)
-
-shared-slice-read-if4 : tie.Need-shared-slice-read-if4
-shared-slice-read-if4 c = search needs
-
-check-behind-requires-2 : tie.Need-check-behind-requires-2
-check-behind-requires-2 c κs = search needs
 
 returns-4 : tie.Need-returns-4
 returns-4 c = let a = c .before .before .before .before .before .before .before .before .before .args in rest-checked (a .rest .now) (a .start) back (c .check-behind2 .result) (search needs) (c .before .before .before .before .before .if2 .left, c .before .if4 .taken) (c .check-behind2 .ensures)
@@ -45,12 +30,12 @@ check-old-spec =
     tie.close
     (tie.spec
     returns
-    shared-slice-read-if2
+    (λ c. search needs)
     returns-2
-    shared-slice-read-if3
-    check-behind-requires
+    (λ c. search needs)
+    (λ c κs. search needs)
     returns-3
-    shared-slice-read-if4
-    check-behind-requires-2
+    (λ c. search needs)
+    (λ c κs. search needs)
     returns-4
     returns-5)

@@ -10,26 +10,8 @@ use borrow.Author.Needs.{needs}
 use Rattle.record_body_inner.proofs.check_body.Statement.{statement}
 use Rattle.record_body_inner.proofs.check_body.Tie as tie
 
-look-requires : tie.Need-look-requires
-look-requires c κs = search needs
-
-enum-told : tie.Need-enum-told
-enum-told c = search needs
-
-enum-known-i : tie.Need-enum-known-i
-enum-known-i c = search needs
-
-add-t8 : tie.Need-add-t8
-add-t8 c = search needs
-
 add-t9 : tie.Need-add-t9
 add-t9 c = let g = rw (c .before .i .given .1) at (c .before .before .before .look .ensures) in omega (arith, g .within)
-
-enum-known-i-2 : tie.Need-enum-known-i-2
-enum-known-i-2 c = search needs
-
-add-t11 : tie.Need-add-t11
-add-t11 c = search needs
 
 add-t12 : tie.Need-add-t12
 add-t12 c = let e = c .before .before .before .before .before in let g = rw (c .before .i2 .given .1) at (c .before .before .before .look .ensures) in omega (arith, look-in (e .args .body .now) (c .before .i2 .given .0 .0) (e .pre .1) (g .0))
@@ -47,13 +29,13 @@ pub check-body-spec : {M : Type 1} → statement M
 check-body-spec =
     tie.close
     (tie.spec
-    look-requires
-    enum-told
-    enum-known-i
-    add-t8
+    (λ c κs. search needs)
+    (λ c. search needs)
+    (λ c. search needs)
+    (λ c. search needs)
     add-t9
-    enum-known-i-2
-    add-t11
+    (λ c. search needs)
+    (λ c. search needs)
     add-t12
     returns
     returns-2

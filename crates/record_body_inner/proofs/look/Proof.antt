@@ -6,26 +6,8 @@ use borrow.Author.Needs.{needs}
 use Rattle.record_body_inner.proofs.look.Statement.{statement}
 use Rattle.record_body_inner.proofs.look.Tie as tie
 
-classify-requires : tie.Need-classify-requires
-classify-requires c κs = search needs
-
-enum-known-r : tie.Need-enum-known-r
-enum-known-r c = search needs
-
-place-requires : tie.Need-place-requires
-place-requires c κs = search needs
-
-enum-known-c : tie.Need-enum-known-c
-enum-known-c c = search needs
-
-is-necklace-requires : tie.Need-is-necklace-requires
-is-necklace-requires c κs = search needs
-
 returns : tie.Need-returns
 returns c = let a = c .before .before .before .before .before .before .before .args in let g = rw (c .before .before .before .c .given .1) at (c .before .before .before .before .before .classify .ensures) in (g .0 .0 .0 .0 .1, sym (necklace-class (a .sectors .now) _ (g .1)) ∙ sym (c .before .is-necklace .ensures) ∙ c .if1 .taken)
-
-loose-place-requires : tie.Need-loose-place-requires
-loose-place-requires c κs = search needs
 
 returns-2 : tie.Need-returns-2
 returns-2 c = let a = c .before .before .before .before .before .before .args in let p = c .before .before .before .before .before .before .pre in rw (c .place .ensures) (only-sector (a .sectors .now) (a .k) (p .0) (p .1) (c .before .before .r .given .0 .0) (rw (c .before .before .r .given .1) at (c .before .before .before .before .classify .ensures)))
@@ -37,12 +19,12 @@ pub look-spec : {M : Type 1} → statement M
 look-spec =
     tie.close
     (tie.spec
-    classify-requires
-    enum-known-r
-    place-requires
-    enum-known-c
-    is-necklace-requires
+    (λ c κs. search needs)
+    (λ c. search needs)
+    (λ c κs. search needs)
+    (λ c. search needs)
+    (λ c κs. search needs)
     returns
-    loose-place-requires
+    (λ c κs. search needs)
     returns-2
     returns-3)

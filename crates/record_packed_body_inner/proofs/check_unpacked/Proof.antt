@@ -7,29 +7,11 @@ use borrow.Author.Needs.{needs}
 use Rattle.record_packed_body_inner.proofs.check_unpacked.Statement.{statement}
 use Rattle.record_packed_body_inner.proofs.check_unpacked.Tie as tie
 
-width-of-requires : tie.Need-width-of-requires
-width-of-requires c κs = search needs
-
 padding-clear-requires : tie.Need-padding-clear-requires
 padding-clear-requires c κs = let e = c .before .before .before in let a = e .args in pad-asks (a .k) (length (a .sectors .now)) _ (a .bytes .now) (e .pre .1) (e .pre .2) (c .width-of .ensures) (e .pre .3)
 
-add-last : tie.Need-add-last
-add-last c = search needs
-
 sub-last : tie.Need-sub-last
 sub-last c = let e = c .before .before .before .before in let a = e .args in omega (arith, byte-there (a .sectors .now) (a .bytes .now) (a .k) (a .start) _ (e .pre .3) (e .pre .4) (c .before .width-of .ensures) (e .pre .1) (e .pre .2))
-
-add-last-2 : tie.Need-add-last-2
-add-last-2 c = search needs
-
-look-requires : tie.Need-look-requires
-look-requires c κs = search needs
-
-enum-known-i : tie.Need-enum-known-i
-enum-known-i c = search needs
-
-add-t15 : tie.Need-add-t15
-add-t15 c = search needs
 
 byte-of-requires : tie.Need-byte-of-requires
 byte-of-requires c κs = let e = c .before .before .before .before .before .before .before .before in let a = e .args in let g = rw (c .before .i .given .1) at (c .before .before .before .look .ensures) in byte-asks (a .k) (length (a .sectors .now)) _ _ (e .pre .1) (e .pre .2) (c .before .before .before .before .before .width-of .ensures) (omega (arith, g .within))
@@ -37,17 +19,8 @@ byte-of-requires c κs = let e = c .before .before .before .before .before .befo
 add-t17 : tie.Need-add-t17
 add-t17 c = let e = c .before .before .before .before .before .before .before .before .before in let a = e .args in let g = rw (c .before .before .i .given .1) at (c .before .before .before .before .look .ensures) in omega (arith, e .pre .0, byte-in (a .sectors .now) (a .bytes .now) (a .k) (a .start) _ (e .pre .3) (e .pre .4) (c .before .before .before .before .before .before .width-of .ensures) _ _ (e .pre .2) (omega (arith, g .within)) (c .byte-of .ensures))
 
-enum-told : tie.Need-enum-told
-enum-told c = search needs
-
 returns : tie.Need-returns
 returns c = let e = c .before .before .before .before .before .before .before .before in let a = e .args in let g = rw (c .before .enum-told .given .1) at (c .before .before .before .look .ensures) in is-good (a .sectors .now) (a .bytes .now) (a .k) (a .start) _ (e .pre .3) (e .pre .4) (c .before .before .before .before .before .width-of .ensures) (g .0) (c .before .before .before .before .padding-clear .result) (c .before .before .before .before .padding-clear .ensures) (g .1) (c .if1 .taken)
-
-enum-known-j : tie.Need-enum-known-j
-enum-known-j c = search needs
-
-add-t22 : tie.Need-add-t22
-add-t22 c = search needs
 
 byte-of-requires-2 : tie.Need-byte-of-requires-2
 byte-of-requires-2 c κs = let e = c .before .before .before .before .before .before .before .before .before in let a = e .args in let g = rw (c .before .before .j .given .1) at (c .before .before .before .before .look .ensures) in byte-asks (a .k) (length (a .sectors .now)) _ _ (e .pre .1) (e .pre .2) (c .before .before .before .before .before .before .width-of .ensures) (omega (arith, look-in (a .sectors .now) _ (e .pre .1) (g .0)))
@@ -71,20 +44,20 @@ pub check-unpacked-spec : {M : Type 1} → statement M
 check-unpacked-spec =
     tie.close
     (tie.spec
-    width-of-requires
+    (λ c κs. search needs)
     padding-clear-requires
-    add-last
+    (λ c. search needs)
     sub-last
-    add-last-2
-    look-requires
-    enum-known-i
-    add-t15
+    (λ c. search needs)
+    (λ c κs. search needs)
+    (λ c. search needs)
+    (λ c. search needs)
     byte-of-requires
     add-t17
-    enum-told
+    (λ c. search needs)
     returns
-    enum-known-j
-    add-t22
+    (λ c. search needs)
+    (λ c. search needs)
     byte-of-requires-2
     add-t24
     returns-2

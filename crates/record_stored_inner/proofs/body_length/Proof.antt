@@ -6,20 +6,8 @@ use borrow.Author.Needs.{needs}
 use Rattle.record_stored_inner.proofs.body_length.Statement.{statement}
 use Rattle.record_stored_inner.proofs.body_length.Tie as tie
 
-enum-told : tie.Need-enum-told
-enum-told c = search needs
-
-enum-told-2 : tie.Need-enum-told-2
-enum-told-2 c = search needs
-
-width-of-requires : tie.Need-width-of-requires
-width-of-requires c κs = search needs
-
 packed-length-requires : tie.Need-packed-length-requires
 packed-length-requires c κs = let e = c .before .before .before in (omega (arith, c .width-of .ensures, narrow (e .args .k) (e .pre .1)), e .pre .0 .1)
-
-returns : tie.Need-returns
-returns c = search needs
 
 returns-2 : tie.Need-returns-2
 returns-2 c = let a = c .before .before .before .before .args in rw (c .before .before .enum-told2 .given .1) (length-told (a .n) (a .k) _ _ (c .before .width-of .ensures) (c .packed-length .ensures))
@@ -28,9 +16,9 @@ pub body-length-spec : {M : Type 1} → statement M
 body-length-spec =
     tie.close
     (tie.spec
-    enum-told
-    enum-told-2
-    width-of-requires
+    (λ c. search needs)
+    (λ c. search needs)
+    (λ c κs. search needs)
     packed-length-requires
-    returns
+    (λ c. search needs)
     returns-2)

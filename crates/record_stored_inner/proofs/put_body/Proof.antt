@@ -3,26 +3,14 @@ use borrow.Author.Needs.{needs}
 use Rattle.record_stored_inner.proofs.put_body.Statement.{statement}
 use Rattle.record_stored_inner.proofs.put_body.Tie as tie
 
-enum-told : tie.Need-enum-told
-enum-told c = search needs
-
 put-home-requires : tie.Need-put-home-requires
 put-home-requires c κs = let e = c .before .before .before .before .before in (e .pre .0 .0 .0 .0 .0 .0 .0 .0, rw (c .before .enum-told .given .1) at (e .pre .1))
-
-enum-told-2 : tie.Need-enum-told-2
-enum-told-2 c = search needs
 
 put-packed-requires : tie.Need-put-packed-requires
 put-packed-requires c κs = let e = c .before .before .before .before .before in (e .pre .0, rw (c .before .enum-told2 .given .1) at (e .pre .1))
 
-same-length : tie.Need-same-length
-same-length c = search needs
-
 returns : tie.Need-returns
 returns c = rw (c .before .before .before .before .enum-told .given .1) (c .before .before .put-home .ensures)
-
-same-length-2 : tie.Need-same-length-2
-same-length-2 c = search needs
 
 returns-2 : tie.Need-returns-2
 returns-2 c = rw (c .before .before .before .before .enum-told2 .given .1) (c .before .before .put-packed .ensures)
@@ -31,11 +19,11 @@ pub put-body-spec : {M : Type 1} → statement M
 put-body-spec =
     tie.close
     (tie.spec
-    enum-told
+    (λ c. search needs)
     put-home-requires
-    enum-told-2
+    (λ c. search needs)
     put-packed-requires
-    same-length
+    (λ c. search needs)
     returns
-    same-length-2
+    (λ c. search needs)
     returns-2)

@@ -4,12 +4,9 @@ use Rattle.walk_kind_laws.specs.Kinds.{kindOf}
 use Rattle.walk.proofs.next_prenecklace.Statement.{statement}
 use Rattle.walk.proofs.next_prenecklace.Tie as tie
 
-step-requires : tie.Need-step-requires
-step-requires c κs = search needs
-
 returns : tie.Need-returns
 unfolding kindOf
 returns c = c .step .ensures
 
 pub next-prenecklace-spec : {M : Type 1} → statement M
-next-prenecklace-spec = tie.close (tie.spec step-requires returns)
+next-prenecklace-spec = tie.close (tie.spec (λ c κs. search needs) returns)
