@@ -1,7 +1,6 @@
 // A ring seen from the other side, made where it is to stand: no second copy of it. No public calls: the callers check what these ask for.
 
 ghost use mathlib.Core.Path.{_≡_};
-ghost use mathlib.Core.List.{reverse};
 ghost use Prim.Native.Nat.{_<_, _≤_};
 ghost use lib.ListN.{length};
 ghost use Rattle.words.specs.Turn.{turn};
@@ -13,17 +12,8 @@ pub fn turn_over(s: &[u8], out: &mut [u8])
     requires { ⌜ (0 < length (now s)) × (length (now out) ≡ length (now s)) ⌝ }
     ensures { λ r. ⌜ now (out .exit) ≡ mirrored (now (s .entry)) ⌝ }
 {
-    write_reversed(s, out);
+    home_reverse_inner::write_reversed(s, out);
     settle(out);
-}
-
-// Writes the reversed sectors.
-fn write_reversed(s: &[u8], out: &mut [u8])
-    requires { ⌜ length (now out) ≡ length (now s) ⌝ }
-    ensures { λ r. ⌜ now (out .exit) ≡ reverse (now (s .entry)) ⌝ }
-{
-    let n = bytes::copy(s, out);
-    bytes::reverse(out, 0, n);
 }
 
 // Brings a reading home where it stands.

@@ -1,5 +1,6 @@
 // Bringing a reading home, and comparing readings (01, 'Rules the work stands on').
 
+pub use home_spec::Closest;
 pub use home_spec::Distance;
 pub use home_spec::Homed;
 pub use home_spec::Told;
@@ -8,7 +9,8 @@ use refusal::Refusal;
 ghost use lib.Dec.{ltb};
 ghost use Rattle.refusal.specs.Calls.{oneReading, twoReadings};
 ghost use Rattle.rings.specs.Alike.{evenHanded, sameRing, apart};
-ghost use Rattle.home_spec.specs.Says.{HomeSays, ToldSays, DistanceSays};
+ghost use Rattle.home_spec.specs.Turns.{steady};
+ghost use Rattle.home_spec.specs.Says.{HomeSays, ToldSays, DistanceSays, ClosestSays};
 
 // Writes the home reading and answers its shift and period, or refusal 1, 2, 3 or 4.
 pub fn bring_home(s: &[u8], k: usize, out: &mut [u8]) -> Homed
@@ -78,6 +80,38 @@ pub fn nearer(a: &[u8], b: &[u8], k: usize, d: usize) -> Told
         Checked::Refused(r) => Told::Refused(r),
         Checked::Good => {
             if home_nearest_inner::is_nearer(a, b, d) {
+                return Told::Yes;
+            }
+            Told::No
+        }
+    }
+}
+
+// How far apart two readings are, and by how many left turns the first comes so near to the second, the fewest that do; or refusal 1, 10, 2 or 3.
+pub fn nearest(a: &[u8], b: &[u8], k: usize) -> Closest
+    ensures { λ r. ⌜ ClosestSays (now (a .entry)) (now (b .entry)) k r ⌝ }
+{
+    match check_readings_inner::check_pair(a, b, k) {
+        Checked::Refused(r) => Closest::Refused(r),
+        Checked::Good => {
+            let best = home_nearest_inner::fewest_differing(a, b);
+            let i = home_nearest_inner::nearest_turn(a, b, best);
+            Closest::At {
+                distance: best,
+                shift: i,
+            }
+        }
+    }
+}
+
+// Whether each turn of a reading but itself differs from it at d places at least, or refusal 1, 2 or 3.
+pub fn steady(s: &[u8], k: usize, d: usize) -> Told
+    ensures { λ r. ⌜ ToldSays (oneReading (now (s .entry)) k) (steady d (now (s .entry))) r ⌝ }
+{
+    match check_readings_inner::check_reading(s, k) {
+        Checked::Refused(r) => Told::Refused(r),
+        Checked::Good => {
+            if home_nearest_inner::is_steady(s, d) {
                 return Told::Yes;
             }
             Told::No

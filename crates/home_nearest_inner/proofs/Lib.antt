@@ -1,3 +1,4 @@
--- What the loops rest on, over plain lists: the search for the nearest turn (Fewest), and for one that is near enough (Nearer).
+-- What the loops rest on, over plain lists: the search for the nearest turn (Fewest), for one that is near enough (Nearer), and for the first that is (Turning).
 pub mod Fewest
 pub mod Nearer
+pub mod Turning

@@ -1,4 +1,4 @@
-// How far apart two lent readings are. No public call: the calls of `home` check what these ask for.
+// How far apart two lent readings are, and by which turn they come so near. No public call: the calls of `home` check what these ask for.
 
 ghost use mathlib.Core.Path.{_≡_};
 ghost use Prim.Native.Nat.{_≤_, _<_, min};
@@ -6,6 +6,7 @@ ghost use lib.ListN.{length};
 ghost use lib.Dec.{ltb};
 ghost use Rattle.words.specs.Turn.{turn};
 ghost use Rattle.rings.specs.Alike.{differing, apart};
+ghost use Rattle.home_spec.specs.Turns.{nearestTurn, steady};
 
 // At how many places a turned by i and b differ, or limit where these are not fewer: it gives up once it has found so many.
 pub fn differing_below(a: &[u8], i: usize, b: &[u8], limit: usize) -> usize
@@ -60,4 +61,38 @@ pub fn is_nearer(a: &[u8], b: &[u8], d: usize) -> bool
         j += 1;
     }
     false
+}
+
+// The fewest left turns of a after which it differs from b at `best` places, which is as few as there can be.
+pub fn nearest_turn(a: &[u8], b: &[u8], best: usize) -> usize
+    requires { ⌜ (0 < length (now a)) × (length (now a) ≡ length (now b)) × (best ≡ apart (now a) (now b)) ⌝ }
+    ensures { λ r. ⌜ r ≡ nearestTurn (now (a .entry)) (now (b .entry)) ⌝ }
+{
+    let n = a.len();
+    let limit = best + 1;
+    let mut t = 0;
+    while t < n {
+        let d = differing_below(a, t, b, limit);
+        if d == best {
+            return t;
+        }
+        t += 1;
+    }
+    0
+}
+
+// Whether each turn of s but itself differs from it at d places at least. The turns by more than half of its length are those the other way round.
+pub fn is_steady(s: &[u8], d: usize) -> bool
+    requires { ⌜ 0 < length (now s) ⌝ }
+    ensures { λ r. ⌜ r ≡ steady d (now (s .entry)) ⌝ }
+{
+    let n = s.len();
+    let mut j = 1;
+    while j <= n - j {
+        if differing_below(s, j, s, d) < d {
+            return false;
+        }
+        j += 1;
+    }
+    true
 }

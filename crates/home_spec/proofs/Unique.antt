@@ -1,7 +1,8 @@
 -- No call has two answers, the lent output included.
 --     one-homed       bringing home: one answer, and one output after it
---     one-told        same ring, even-handed and nearer
+--     one-told        same ring, even-handed, nearer and steady
 --     one-distance    apart
+--     one-closest     nearest
 use Prim.Native.Nat.{ℕ}
 use mathlib.Core.Path.{_≡_, refl, sym, ap, _∙_}
 use mathlib.Core.Bool.{Bool}
@@ -17,7 +18,9 @@ use Rattle.home_spec.specs.declared.Told.{Told}
 use Rattle.home_spec.specs.declared.Told.the-variants as T
 use Rattle.home_spec.specs.declared.Distance.{Distance}
 use Rattle.home_spec.specs.declared.Distance.the-variants as D
-use Rattle.home_spec.specs.Says.{HomeSays, ToldSays, DistanceSays}
+use Rattle.home_spec.specs.declared.Closest.{Closest}
+use Rattle.home_spec.specs.declared.Closest.the-variants as C
+use Rattle.home_spec.specs.Says.{HomeSays, ToldSays, DistanceSays, ClosestSays}
 
 -- bringing home has one answer, and leaves the output in one way
 pub one-homed : (w : List ℕ) (k : ℕ) (b : List ℕ) (x y : Homed) (u v : List ℕ) → HomeSays w k b x u → HomeSays w k b y v → (x ≡ y) × (u ≡ v)
@@ -44,3 +47,10 @@ one-distance v w k (D.Apart d) (D.Apart e) s t = ap D.Apart (s .1 ∙ sym (t .1)
 one-distance v w k (D.Apart d) (D.Refused r) s t = absurd (never-both (twoReadings v w k) r t (s .0))
 one-distance v w k (D.Refused r) (D.Apart e) s t = absurd (never-both (twoReadings v w k) r s (t .0))
 one-distance v w k (D.Refused r) (D.Refused o) s t = ap D.Refused (one-refusal (twoReadings v w k) r o s t)
+
+-- two readings have one distance, and one first turn that comes so near
+pub one-closest : (v w : List ℕ) (k : ℕ) (x y : Closest) → ClosestSays v w k x → ClosestSays v w k y → x ≡ y
+one-closest v w k (C.At d i) (C.At e j) s t = cc (s .1, s .2, t .1, t .2)
+one-closest v w k (C.At d i) (C.Refused r) s t = absurd (never-both (twoReadings v w k) r t (s .0))
+one-closest v w k (C.Refused r) (C.At e j) s t = absurd (never-both (twoReadings v w k) r s (t .0))
+one-closest v w k (C.Refused r) (C.Refused o) s t = ap C.Refused (one-refusal (twoReadings v w k) r o s t)

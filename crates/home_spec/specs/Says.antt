@@ -1,7 +1,9 @@
--- What the calls of this crate promise (01, 'Rules the work stands on'; 'Refusal numbers': home 1, 2, 3, 4; same ring, apart and nearer 1, 10, 2, 3; even-handed 1, 2, 3).
+-- What the calls of this crate promise (01, 'Rules the work stands on'; 'Refusal numbers': home 1, 2, 3, 4; same ring, apart, nearer and nearest 1, 10, 2, 3;
+-- even-handed and steady 1, 2, 3).
 --     HomeSays w k b r c        bringing w home: the answer r, where the output held b before and holds c after
 --     ToldSays a t r            a question with the checks a: the answer r, where t is the truth
 --     DistanceSays v w k r      how far apart v and w are: the answer r
+--     ClosestSays v w k r       how far apart they are, and the first turn of v that comes so near: the answer r
 -- That no two answers satisfy one, the output included: proofs/Unique.
 use Prim.Native.Nat.{ℕ}
 use mathlib.Core.Path.{_≡_}
@@ -19,6 +21,9 @@ use Rattle.home_spec.specs.declared.Told.{Told}
 use Rattle.home_spec.specs.declared.Told.the-variants as T
 use Rattle.home_spec.specs.declared.Distance.{Distance}
 use Rattle.home_spec.specs.declared.Distance.the-variants as D
+use Rattle.home_spec.specs.declared.Closest.{Closest}
+use Rattle.home_spec.specs.declared.Closest.the-variants as C
+use Rattle.home_spec.specs.Turns.{nearestTurn}
 
 -- the output holds the home reading, and the answer has its shift and the period
 pub record Came (w : List ℕ) (k : ℕ) (b : List ℕ) (i p : ℕ) (c : List ℕ) : Type 0 where
@@ -40,3 +45,7 @@ ToldSays a t (T.Refused r) = Given a r
 abbrev pub DistanceSays : List ℕ → List ℕ → ℕ → Distance → Type 0
 DistanceSays v w k (D.Apart d) = Passed (twoReadings v w k) × (d ≡ apart v w)
 DistanceSays v w k (D.Refused r) = Given (twoReadings v w k) r
+
+abbrev pub ClosestSays : List ℕ → List ℕ → ℕ → Closest → Type 0
+ClosestSays v w k (C.At d i) = Passed (twoReadings v w k) × (d ≡ apart v w) × (i ≡ nearestTurn v w)
+ClosestSays v w k (C.Refused r) = Given (twoReadings v w k) r

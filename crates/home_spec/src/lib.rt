@@ -1,4 +1,4 @@
-// What bringing home, same ring, even-handed and apart answer and promise, and that they have one answer. No functions.
+// What bringing home, same ring, even-handed, apart, nearest and steady answer and promise, and that they have one answer. No functions.
 
 use refusal::Refusal;
 
@@ -18,5 +18,11 @@ pub enum Told {
 // How far apart two readings are.
 pub enum Distance {
     Apart(usize),
+    Refused(Refusal),
+}
+
+// How far apart two readings are, and by how many left turns of the first they come so near, the fewest that do.
+pub enum Closest {
+    At { distance: usize, shift: usize },
     Refused(Refusal),
 }

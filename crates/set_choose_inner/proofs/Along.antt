@@ -1,6 +1,6 @@
 -- The loop of `choose`. The walk has come to a ring, and the choice from the Lyndon words above it, from those taken so far on, is the set.
---     Along n k d want w p q t      that invariant: the walk w, the places p, their tallies q and the number taken t
---     started, along-start          the walk starts from the all-zero ring, which is taken where n is 1, and then its tally is one of shade 0
+--     Along rule n k d want w p q t    that invariant: the walk w, the places p, their tallies q and the number taken t
+--     started, along-start          the walk starts from the all-zero ring, which is taken where n is 1 and the rule is that of 02, 'g', and then its tally is one of shade 0
 --     came, along-on, along-less    a step to a next Lyndon word, which is offered; fewer readings are above
 --     stops, along-ended            there is none: not full
 --     along-full                    there are enough
@@ -14,16 +14,17 @@ use native.Mathlib.Omega.{arith}
 use lib.ListN.{length, getD, take, length-append, length-set}
 use lib.Seq.{ext-getD, getD-take, length-take-le}
 use lib.Dec.{eqb}
-use borrow.Author.Tests.{eq-eqb, ne-eqb}
+use borrow.Author.Tests.{lt-ltb, eq-eqb, ne-eqb}
 use types.Run.{OneOf}
 use denote.Enum.Declared.{tagOf}
 use Rattle.walk_spec.proofs.Outcome.{the-type}
 use Rattle.words.specs.Order.{before}
 use Rattle.words.specs.Search.{tab}
-use Rattle.words.specs.Readings.{Sized, Shaded, Reading, readings, count, bit}
+use Rattle.words.specs.Readings.{Sized, Shaded, Reading, readings, count}
 use Rattle.words.proofs.Split.{passes, fails, test, lt, eq, gt, tri}
 use Rattle.rings.specs.Necklace.{lyndon}
 use Rattle.rings.specs.Prenecklace.{prenecklace}
+use Rattle.rings.specs.Open.{open-all}
 use Rattle.rings.specs.Steps.{nextOf}
 use Rattle.ring_laws.proofs.Classes.{lyndon-necklace}
 use Rattle.ring_laws.proofs.Words.{necklace-prenecklace}
@@ -42,18 +43,23 @@ use Rattle.walk_spec.specs.Says.{StartSays, StepSays, Onto, Ended}
 use Rattle.walk_record_laws.proofs.Good.{ring-of, walk-good}
 use Rattle.walk_spec.proofs.Unique.{one-start}
 use Rattle.walk_laws.proofs.OneRing.{handed-out}
-use Rattle.set_spec.specs.Greedy.{greedy, picked}
+use Rattle.set_spec.specs.Greedy.{greedyBy, farFrom, clear, lyndons, picked}
 use Rattle.set_spec.specs.Places.{laid}
 use Rattle.set_pick_spec.specs.Order.{Askable}
-use Rattle.set_pick_spec.specs.Says.{Chosen}
+use Rattle.set_pick_spec.specs.Says.{SetChosen}
+use Rattle.guard_spec.specs.declared.Rule.{Rule}
+use Rattle.guard_spec.specs.declared.Rule.the-variants.{Plain, Guarded}
+use Rattle.guard_spec.specs.Choice.{joins, guarded, mayJoin, chosenBy}
+use Rattle.set_choose_inner.specs.Says.{zeroTaken}
 use Rattle.set_places_inner.specs.Says.{Fit, tallyAt, HoldsSet, Stocked, OfferSays}
 use Rattle.set_laws.proofs.Kept.{rest, rest-step, rest-end, lyndons-one, lyndons-more}
-use Rattle.set_laws.proofs.Choice.{greedy-none, greedy-enough, greedy-first, offered, offered-most, greedy-offer}
+use Rattle.set_laws.proofs.Choice.{greedy-take, greedy-skip, greedy-none, greedy-enough, offeredBy, offered-most, greedy-offer}
+use Rattle.set_laws.proofs.Worth.{nothing-near}
 use Rattle.set_laws.proofs.Places.{laid-length, laid-zeros}
 
 -- ---- the invariant
 
-pub record Along (n k d want : ℕ) (w : Walk) (p q : List ℕ) (t : ℕ) : Type 0 where
+pub record Along (rule : Rule) (n k d want : ℕ) (w : Walk) (p q : List ℕ) (t : ℕ) : Type 0 where
   pub last : List ℕ
   pub set : List (List ℕ)
   pub walk : w ≡ walkOf k last
@@ -61,7 +67,7 @@ pub record Along (n k d want : ℕ) (w : Walk) (p q : List ℕ) (t : ℕ) : Type
   pub pre : prenecklace last ≡ true
   pub holds : HoldsSet n k set p q t
   pub within : t ≤ want
-  pub rests : greedy d (want - length set) set (rest k last) ≡ picked n k d want
+  pub rests : greedyBy (mayJoin rule d) (want - length set) set (rest k last) ≡ chosenBy rule n k d want
 
 -- ---- the start
 
@@ -78,66 +84,98 @@ started n k s h v w a e p =
     ap (λ (x : Started). x .walk) (one-start (zeros n) k w (o .first) a C.Good q (o .started)) ∙ o .started .1
 
 -- at most one ring is taken at the start
-pub taken-few : (n t : ℕ) → t ≡ bit (eqb n 1) → t ≤ 1
-taken-few n t e = elim (test (eqb n 1)) [ passes q ↦ omega (arith, rw q at e) | fails q ↦ omega (arith, rw q at e) ]
+pub taken-few : (rule : Rule) (n t : ℕ) → t ≡ zeroTaken rule n → t ≤ 1
+taken-few Plain n t e = elim (test (eqb n 1)) [ passes q ↦ omega (arith, rw q at e) | fails q ↦ omega (arith, rw q at e) ]
+taken-few Guarded n t e = omega arith
 
 -- the tally of the one sector 0
 one-zero : tallyAt (lib.ListN.set (zeros 512) 0 1) 0 ≡ countsOf 16 (zeros 1)
 unfolding countsOf tab occurs
 one-zero = refl
 
-pub along-start : (n k d want : ℕ) (w : Walk) (t : ℕ) → Askable n k d want → w ≡ walkOf k (zeros n) → t ≡ bit (eqb n 1) → Along n k d want w (zeros 768) (lib.ListN.set (zeros 512) 0 t) t
-unfolding picked
-along-start n k d want w t ask e f =
-    elim (tri n 1) [ lt q ↦ absurd (omega (arith, ask .numbers .sized)) | eq q ↦ one q (rw (eq-eqb n 1 q) at f) | gt q ↦ two q (rw (ne-eqb n 1 (λ z. omega arith)) at f) ]
-  where
-    one : n ≡ 1 → t ≡ 1 → Along n k d want w (zeros 768) (lib.ListN.set (zeros 512) 0 t) t
-    one q g =
-        record {
-          last = zeros n;
-          set = zeros 1 ∷ [];
-          walk = e;
-          reading = zeros-reading n k (omega (arith, ask .numbers .shaded));
-          pre = zeros-prenecklace n;
-          holds = record {
-            places = laid-zeros (zeros 1 ∷ []) blank;
-            number = g;
-            each = λ j b. let z : j ≡ 0 = omega arith in rw (z, q) (zeros-reading 1 k (omega (arith, ask .numbers .shaded)));
-            room = length-set (zeros 512) 0 t ∙ length-zeros 512;
-            tallies = λ j b. let z : j ≡ 0 = omega arith in rw (z, g) one-zero;
-          };
-          within = omega (arith, ask .settable);
-          rests = rw q (sym (ap (greedy d want []) (lyndons-one k (omega (arith, ask .numbers .shaded))) ∙ ap (λ (x : ℕ). greedy d x [] (zeros 1 ∷ rest k (zeros 1))) more-one ∙ greedy-first d (want - 1) (rest k (zeros 1)) (zeros 1)));
-        }
-      where
-        blank : (j y : ℕ) → getD (getD (zeros 1 ∷ []) j []) y 0 ≡ 0
-        blank zero y = zeros-at 1 y
-        blank (suc j) y = refl
+-- the one sector 0 joins no guarded set
+zero-kept-out : (d : ℕ) → 1 ≤ d → joins d [] (zeros 1) ≡ false
+unfolding joins clear farFrom open-all
+zero-kept-out d h = rw (lt-ltb 0 d h) refl
 
-        more-one : want ≡ suc (want - 1)
-        more-one = omega (arith, ask .settable)
+-- the set is chosen from the Lyndon words
+chosen-from : (rule : Rule) (n k d want : ℕ) → chosenBy rule n k d want ≡ greedyBy (mayJoin rule d) want [] (lyndons n k)
+unfolding picked guarded
+chosen-from Plain n k d want = refl
+chosen-from Guarded n k d want = refl
 
-    two : 1 < n → t ≡ 0 → Along n k d want w (zeros 768) (lib.ListN.set (zeros 512) 0 t) t
-    two q g =
-        record {
-          last = zeros n;
-          set = [];
-          walk = e;
-          reading = zeros-reading n k (omega (arith, ask .numbers .shaded));
-          pre = zeros-prenecklace n;
-          holds = record {
-            places = laid-zeros [] (λ j y. refl);
-            number = g;
-            each = λ j b. absurd (omega arith);
-            room = length-set (zeros 512) 0 t ∙ length-zeros 512;
-            tallies = λ j b. absurd (omega arith);
-          };
-          within = omega arith;
-          rests = ap (λ (x : ℕ). greedy d x [] (rest k (zeros n))) zero-less ∙ sym (ap (greedy d want []) (lyndons-more n k (omega arith)));
-        }
-      where
-        zero-less : want - 0 ≡ want
-        zero-less = omega arith
+module _ (n k d want : ℕ) (w : Walk) (t : ℕ) (ask : Askable n k d want) (e : w ≡ walkOf k (zeros n)) where
+  -- none is taken, and all that may join stand above the all-zero ring
+  none-taken : (rule : Rule) → t ≡ 0 → greedyBy (mayJoin rule d) want [] (lyndons n k) ≡ greedyBy (mayJoin rule d) want [] (rest k (zeros n)) → Along rule n k d want w (zeros 768) (lib.ListN.set (zeros 512) 0 t) t
+  none-taken rule g f =
+      record {
+        last = zeros n;
+        set = [];
+        walk = e;
+        reading = zeros-reading n k (omega (arith, ask .numbers .shaded));
+        pre = zeros-prenecklace n;
+        holds = record {
+          places = laid-zeros [] (λ j y. refl);
+          number = g;
+          each = λ j b. absurd (omega arith);
+          room = length-set (zeros 512) 0 t ∙ length-zeros 512;
+          tallies = λ j b. absurd (omega arith);
+        };
+        within = omega arith;
+        rests = ap (λ (x : ℕ). greedyBy (mayJoin rule d) x [] (rest k (zeros n))) zero-less ∙ sym f ∙ sym (chosen-from rule n k d want);
+      }
+    where
+      zero-less : want - 0 ≡ want
+      zero-less = omega arith
+
+  -- the one sector 0 is taken
+  one-taken : n ≡ 1 → t ≡ 1 → Along Plain n k d want w (zeros 768) (lib.ListN.set (zeros 512) 0 t) t
+  one-taken q g =
+      record {
+        last = zeros n;
+        set = zeros 1 ∷ [];
+        walk = e;
+        reading = zeros-reading n k (omega (arith, ask .numbers .shaded));
+        pre = zeros-prenecklace n;
+        holds = record {
+          places = laid-zeros (zeros 1 ∷ []) blank;
+          number = g;
+          each = λ j b. let z : j ≡ 0 = omega arith in rw (z, q) (zeros-reading 1 k (omega (arith, ask .numbers .shaded)));
+          room = length-set (zeros 512) 0 t ∙ length-zeros 512;
+          tallies = λ j b. let z : j ≡ 0 = omega arith in rw (z, g) one-zero;
+        };
+        within = omega (arith, ask .settable);
+        rests = sym (chosen-from Plain n k d want ∙ rw q (ap (greedyBy (clear d) want []) (lyndons-one k (omega (arith, ask .numbers .shaded))) ∙ ap (λ (x : ℕ). greedyBy (clear d) x [] (zeros 1 ∷ rest k (zeros 1))) more-one ∙ first-clear));
+      }
+    where
+      blank : (j y : ℕ) → getD (getD (zeros 1 ∷ []) j []) y 0 ≡ 0
+      blank zero y = zeros-at 1 y
+      blank (suc j) y = refl
+
+      more-one : want ≡ suc (want - 1)
+      more-one = omega (arith, ask .settable)
+
+      first-clear : greedyBy (clear d) (suc (want - 1)) [] (zeros 1 ∷ rest k (zeros 1)) ≡ greedyBy (clear d) (want - 1) (zeros 1 ∷ []) (rest k (zeros 1))
+      first-clear = greedy-take (clear d) (want - 1) [] (rest k (zeros 1)) (zeros 1) (nothing-near d (zeros 1))
+
+  -- the one sector 0 is offered to a guarded set, and left out
+  one-left : n ≡ 1 → greedyBy (joins d) want [] (lyndons n k) ≡ greedyBy (joins d) want [] (rest k (zeros n))
+  one-left q =
+      rw q (ap (greedyBy (joins d) want []) (lyndons-one k (omega (arith, ask .numbers .shaded))) ∙ ap (λ (x : ℕ). greedyBy (joins d) x [] (zeros 1 ∷ rest k (zeros 1))) more-one
+      ∙ greedy-skip (joins d) (want - 1) [] (rest k (zeros 1)) (zeros 1) (zero-kept-out d (omega (arith, ask .settable))) ∙ ap (λ (x : ℕ). greedyBy (joins d) x [] (rest k (zeros 1))) (sym more-one))
+    where
+      more-one : want ≡ suc (want - 1)
+      more-one = omega (arith, ask .settable)
+
+  -- where there are more sectors the all-zero ring is no Lyndon word
+  two-start : (rule : Rule) → 1 < n → t ≡ 0 → Along rule n k d want w (zeros 768) (lib.ListN.set (zeros 512) 0 t) t
+  two-start rule q g = none-taken rule g (ap (greedyBy (mayJoin rule d) want []) (lyndons-more n k (omega arith)))
+
+  pub along-start : (rule : Rule) → t ≡ zeroTaken rule n → Along rule n k d want w (zeros 768) (lib.ListN.set (zeros 512) 0 t) t
+  along-start Plain f =
+      elim (tri n 1) [ lt q ↦ absurd (omega (arith, ask .numbers .sized)) | eq q ↦ one-taken q (rw (eq-eqb n 1 q) at f) | gt q ↦ two-start Plain q (rw (ne-eqb n 1 (λ z. omega arith)) at f) ]
+  along-start Guarded f =
+      elim (tri n 1) [ lt q ↦ absurd (omega (arith, ask .numbers .sized)) | eq q ↦ none-taken Guarded f (one-left q) | gt q ↦ two-start Guarded q f ]
 
 -- ---- a turn
 
@@ -146,7 +184,7 @@ pub record Came (k : ℕ) (u : List ℕ) (w′ : Walk) : Type 0 where
   pub next : nextOf lyndon k u ≡ some ring
   pub handed : w′ ≡ walkOf k ring
 
-module _ (n k d want : ℕ) (ask : Askable n k d want) (w : Walk) (p q : List ℕ) (t : ℕ) (a : Along n k d want w p q t) where
+module _ (rule : Rule) (n k d want : ℕ) (ask : Askable n k d want) (w : Walk) (p q : List ℕ) (t : ℕ) (a : Along rule n k d want w p q t) where
   sized : Sized n
   sized = omega (arith, ask .numbers .sized)
 
@@ -168,25 +206,25 @@ module _ (n k d want : ℕ) (ask : Askable n k d want) (w : Walk) (p q : List �
   along-room = a .holds .room
 
   -- none is left
-  pub along-ended : nextOf lyndon k (a .last) ≡ none → t < want → Chosen n k d want p t false
+  pub along-ended : nextOf lyndon k (a .last) ≡ none → t < want → SetChosen n k d want (chosenBy rule n k d want) p t false
   along-ended e h =
-      let f : a .set ≡ picked n k d want = sym (greedy-none d (want - length (a .set)) (a .set)) ∙ ap (greedy d (want - length (a .set)) (a .set)) (sym (rest-end k (a .last) e)) ∙ a .rests in
+      let f : a .set ≡ chosenBy rule n k d want = sym (greedy-none (mayJoin rule d) (want - length (a .set)) (a .set)) ∙ ap (greedyBy (mayJoin rule d) (want - length (a .set)) (a .set)) (sym (rest-end k (a .last) e)) ∙ a .rests in
       record {
         asked = ask;
         places = a .holds .places ∙ ap laid f;
         number = a .holds .number ∙ ap length f;
-        full = sym (ne-eqb (length (picked n k d want)) want (λ z. omega (arith, z, a .holds .number, ap length f)));
+        full = sym (ne-eqb (length (chosenBy rule n k d want)) want (λ z. omega (arith, z, a .holds .number, ap length f)));
       }
 
   -- there are enough
-  pub along-full : want ≤ t → Chosen n k d want p t true
+  pub along-full : want ≤ t → SetChosen n k d want (chosenBy rule n k d want) p t true
   along-full h =
-      let f : a .set ≡ picked n k d want = sym (greedy-enough d (want - length (a .set)) (a .set) (rest k (a .last)) (omega (arith, a .holds .number))) ∙ a .rests in
+      let f : a .set ≡ chosenBy rule n k d want = sym (greedy-enough (mayJoin rule d) (want - length (a .set)) (a .set) (rest k (a .last)) (omega (arith, a .holds .number))) ∙ a .rests in
       record {
         asked = ask;
         places = a .holds .places ∙ ap laid f;
         number = a .holds .number ∙ ap length f;
-        full = sym (eq-eqb (length (picked n k d want)) want (omega (arith, a .within, a .holds .number, ap length f)));
+        full = sym (eq-eqb (length (chosenBy rule n k d want)) want (omega (arith, a .within, a .holds .number, ap length f)));
       }
 
   module _ (w′ : Walk) (c : Came k (a .last) w′) where
@@ -217,17 +255,17 @@ module _ (n k d want : ℕ) (ask : Askable n k d want) (w : Walk) (p q : List �
     along-less =
         rw (c .handed, a .walk, ring-of k (c .ring), ring-of k (a .last)) (fewer-above n k (a .last) (c .ring) came-reading (next-facts lyndon k (a .last) (c .ring) (c .next) .1))
 
-    pub along-on : (r : ℕ) (p′ q′ : List ℕ) → t < want → OfferSays k d p q t (take n (w′ .ring)) r p′ q′ → Along n k d want w′ p′ q′ r
+    pub along-on : (r : ℕ) (p′ q′ : List ℕ) → t < want → OfferSays rule k d p q t (take n (w′ .ring)) r p′ q′ → Along rule n k d want w′ p′ q′ r
     along-on r p′ q′ h o =
-        let o′ : OfferSays k d p q t (c .ring) r p′ q′ = rw came-ring at o in
-        let now : HoldsSet n k (offered d (a .set) (c .ring)) p′ q′ r = subst (λ x. HoldsSet x k (a .set) p q t → HoldsSet x k (offered d (a .set) (c .ring)) p′ q′ r) (came-reading .long) (o′ (a .set)) (a .holds) in
+        let o′ : OfferSays rule k d p q t (c .ring) r p′ q′ = rw came-ring at o in
+        let now : HoldsSet n k (offeredBy (mayJoin rule d) (a .set) (c .ring)) p′ q′ r = subst (λ x. HoldsSet x k (a .set) p q t → HoldsSet x k (offeredBy (mayJoin rule d) (a .set) (c .ring)) p′ q′ r) (came-reading .long) (o′ (a .set)) (a .holds) in
         record {
           last = c .ring;
-          set = offered d (a .set) (c .ring);
+          set = offeredBy (mayJoin rule d) (a .set) (c .ring);
           walk = c .handed;
           reading = came-reading;
           pre = necklace-prenecklace (c .ring) (lyndon-necklace (c .ring) (next-facts lyndon k (a .last) (c .ring) (c .next) .2));
           holds = now;
-          within = omega (arith, now .number, offered-most d (a .set) (c .ring), a .holds .number);
-          rests = sym (greedy-offer d want (a .set) (rest k (c .ring)) (c .ring) (omega (arith, a .holds .number))) ∙ ap (greedy d (want - length (a .set)) (a .set)) (sym (rest-step k (a .last) (c .ring) (c .next))) ∙ a .rests;
+          within = omega (arith, now .number, offered-most (mayJoin rule d) (a .set) (c .ring), a .holds .number);
+          rests = sym (greedy-offer (mayJoin rule d) want (a .set) (rest k (c .ring)) (c .ring) (omega (arith, a .holds .number))) ∙ ap (greedyBy (mayJoin rule d) (want - length (a .set)) (a .set)) (sym (rest-step k (a .last) (c .ring) (c .next))) ∙ a .rests;
         }

@@ -1,112 +1,113 @@
--- The greedy choice is worth what is asked of a set (02, 'g').
---     picked-most      it takes at most the wanted number
---     picked-worth     every sentence of `Worth`, where `full` says whether the wanted number was taken
-use Prim.Native.Nat.{ℕ, zero, suc, _<_, _≤_}
-use mathlib.Core.Path.{_≡_, refl, sym, subst, _∙_}
-use mathlib.Core.Bool.{Bool, true, false}
-use mathlib.Core.List.{List, []}
+-- The greedy choice by distance is worth what is asked of a set (02, 'g').
+--     far-le, near-lt           what the test says of two words
+--     clear-at, not-clear, nothing-near    and of a word and all taken, or none
+--     spread-more               one that is clear leaves any two at least d apart
+--     picked-most               it takes at most the wanted number
+--     picked-worth              every sentence of `Worth`, where `full` says whether the wanted number was taken
+use Prim.Native.Nat.{ℕ, _<_, _≤_}
+use mathlib.Core.Path.{_≡_, refl, sym, _∙_}
+use mathlib.Core.Bool.{Bool, true, false, not}
+use mathlib.Core.List.{List, [], _∷_, _++_}
 use native.Mathlib.Omega.{arith}
 use lib.ListN.{length, getD}
-use lib.Dec.{eqb}
-use borrow.Author.Tests.{eqb-true, eqb-false}
-use Rattle.words.specs.Order.{upTo}
-use Rattle.words.specs.Readings.{readings}
-use Rattle.words.proofs.Readings.{All, nothing, all-weaken, Increasing, empty, readings-all, readings-increasing, each-reading}
-use Rattle.rings.specs.Necklace.{lyndon}
-use Rattle.set_spec.specs.Greedy.{greedy, looked, lyndons, picked, lookedAt}
-use Rattle.set_spec.specs.Worth.{OneOf, lastTaken, LyndonOf, LyndonWords, Rising, Spread, Settled, Worth}
-use Rattle.set_laws.proofs.Lists.{all-place, place-all, increasing-rising, begins-down}
-use Rattle.set_laws.proofs.Kept.{kept-all, kept-each, kept-increasing}
-use Rattle.set_laws.proofs.Choice.{Ordered, greedy-all, greedy-spread, greedy-most, greedy-increasing, greedy-settles, greedy-looked, greedy-last, looked-begins, short-looked}
+use lib.Dec.{ltb, eqb}
+use borrow.Author.Tests.{ltb-true, ltb-false, eqb-true}
+use Rattle.words.specs.Order.{before}
+use Rattle.words.specs.Search.{allBelow}
+use Rattle.words.proofs.Split.{passes, fails, test, lt, eq, gt, tri, clash}
+use Rattle.words.proofs.Search.{all-at, not-all}
+use Rattle.words.proofs.Readings.{All}
+use Rattle.rings.specs.Alike.{apart}
+use Rattle.set_spec.specs.Greedy.{farFrom, clear, picked, lookedAt}
+use Rattle.set_spec.specs.Worth.{Spread, Near, Settled, took, left-out, Worth}
+use Rattle.set_laws.proofs.Lists.{length-more, at-old, at-new, all-place}
+use Rattle.set_laws.proofs.Choice.{Extends, Settling}
+use Rattle.set_laws.proofs.Chosen.{chosen-most, chosen-members, chosen-rising, chosen-looked, chosen-last, chosen-keeps, chosen-fewer, chosen-settled, chosen-all}
 
--- where all that are wanted are taken, the last one taken is the last one looked at; both are none where none is wanted
-last-of-all : (d want : ℕ) (ws : List (List ℕ)) → length (greedy d want [] ws) ≡ want → lastTaken (greedy d want [] ws) ≡ lastTaken (looked d want [] ws)
-unfolding greedy looked
-last-of-all d zero ws e = refl
-last-of-all d (suc left) ws e = greedy-last d left [] ws (omega arith)
+-- ---- far and near
+
+pub far-le : (d : ℕ) (t w : List ℕ) → farFrom d t w ≡ true → d ≤ apart t w
+unfolding farFrom
+far-le d t w h =
+    elim (test (ltb (apart t w) d)) [ passes e ↦ clash (not (ltb (apart t w) d)) h (rw e refl) | fails e ↦ ltb-false (apart t w) d e ]
+
+pub near-lt : (d : ℕ) (t w : List ℕ) → farFrom d t w ≡ false → apart t w < d
+unfolding farFrom
+near-lt d t w h =
+    elim (test (ltb (apart t w) d)) [ passes e ↦ ltb-true (apart t w) d e | fails e ↦ clash (not (ltb (apart t w) d)) (rw e refl) h ]
+
+-- a word that is clear is far from each taken
+pub clear-at : (d : ℕ) (ts : List (List ℕ)) (w : List ℕ) → clear d ts w ≡ true → (i : ℕ) → i < length ts → d ≤ apart (getD ts i []) w
+unfolding clear
+clear-at d ts w h i l = far-le d (getD ts i []) w (all-at (length ts) (λ m. farFrom d (getD ts m []) w) h i l)
+
+-- one that is not is near to one taken
+pub not-clear : (d : ℕ) (ts : List (List ℕ)) (w : List ℕ) → clear d ts w ≡ false → (i : ℕ) × (i < length ts) × (apart (getD ts i []) w < d)
+unfolding clear
+not-clear d ts w h = found (not-all (length ts) (λ m. farFrom d (getD ts m []) w) h)
+  where
+    found : (i : ℕ) × (i < length ts) × (farFrom d (getD ts i []) w ≡ false) → (i : ℕ) × (i < length ts) × (apart (getD ts i []) w < d)
+    found (i, l, e) = (i, l, near-lt d (getD ts i []) w e)
+
+-- where none is taken each word is clear
+pub nothing-near : (d : ℕ) (w : List ℕ) → clear d [] w ≡ true
+unfolding clear allBelow
+nothing-near d w = refl
+
+-- one that is clear leaves any two at least d apart
+pub spread-more : (d : ℕ) (ts : List (List ℕ)) (w : List ℕ) → Spread d ts → clear d ts w ≡ true → Spread d (ts ++ (w ∷ []))
+spread-more d ts w s h i j b l =
+    let n = length-more ts w in
+    elim (tri j (length ts)) [
+      | lt e ↦ rw (at-old ts w i (omega arith), at-old ts w j e) (s i j b e)
+      | eq e ↦ rw (at-old ts w i (omega arith), e, at-new ts w) (clear-at d ts w h i (omega arith))
+      | gt e ↦ absurd (omega arith)
+    ]
+
+-- one that is not is nearer than d to one taken earlier
+pub near-one : (d : ℕ) (ts : List (List ℕ)) (w : List ℕ) → All (λ t. before t w ≡ true) ts → clear d ts w ≡ false → Near d ts w
+near-one d ts w a h = at (not-clear d ts w h)
+  where
+    at : (i : ℕ) × (i < length ts) × (apart (getD ts i []) w < d) → Near d ts w
+    at (i, l, q) = record { at = i; inside = l; earlier = all-place a i l; near = q }
+
+-- a word near one taken is near one of any set that has those taken
+pub near-stays : (d : ℕ) (ts us : List (List ℕ)) (w : List ℕ) → Extends ts us → Near d ts w → Near d us w
+near-stays d ts us w x n =
+    let r = x (n .at) (n .inside) in
+    record { at = n .at; inside = r .0; earlier = rw (r .1) (n .earlier); near = rw (r .1) (n .near) }
+
+-- ---- the set
+
+-- taken, or nearer than d to an earlier one taken
+settling : (d : ℕ) → Settling (clear d) (Settled d)
+settling d = record { member = λ ts w o. took o; kept-out = λ ts w a h. left-out (near-one d ts w a h); stays = stays }
+  where
+    stays : (ts us : List (List ℕ)) (w : List ℕ) → Extends ts us → Settled d ts w → Settled d us w
+    stays ts us w x (took o) = let r = x (o .at) (o .inside) in took (record { at = o .at; inside = r .0; is = r .1 ∙ o .is })
+    stays ts us w x (left-out n) = left-out (near-stays d ts us w x n)
 
 module _ (n k d want : ℕ) where
-  rises : Increasing (lyndons n k)
-  unfolding lyndons
-  rises = kept-increasing lyndon (readings n k) (readings-increasing n k)
-
-  ordered : Ordered [] (lyndons n k)
-  ordered = record { rising = empty; coming = rises; behind = nothing }
-
-  all-lyndon : All (LyndonOf n k) (lyndons n k)
-  unfolding lyndons
-  all-lyndon = all-weaken (λ w p. record { reading = p .0; is = p .1 }) (kept-all lyndon (readings n k) (readings-all n k))
-
-  -- what holds of all Lyndon words in the list holds of each
-  each-lyndon : {P : List ℕ → Type 0} → All P (lyndons n k) → (u : List ℕ) → LyndonOf n k u → P u
-  unfolding lyndons
-  each-lyndon {P} a u l = each-reading {P = λ w. lyndon w ≡ true → P w} n k (kept-each {P = P} lyndon (readings n k) a) u (l .reading) (l .is)
-
-  -- each has its place in the list
-  lyndon-place : (u : List ℕ) → LyndonOf n k u → OneOf (lyndons n k) u
-  lyndon-place = each-lyndon {P = OneOf (lyndons n k)} (place-all (lyndons n k) (λ j h. record { at = j; inside = h; is = refl }))
-
-  -- each one looked at is settled
-  settles : All (Settled d (picked n k d want)) (lookedAt n k d want)
-  unfolding picked lookedAt
-  settles = greedy-settles d want [] (lyndons n k) ordered
-
   pub picked-most : length (picked n k d want) ≤ want
   unfolding picked
-  picked-most = omega (arith, greedy-most d want [] (lyndons n k))
-
-  members : LyndonWords n k (picked n k d want)
-  unfolding picked
-  members = all-place (greedy-all d want [] (lyndons n k) nothing all-lyndon)
-
-  rising : Rising (picked n k d want)
-  unfolding picked
-  rising = increasing-rising (greedy-increasing d want [] (lyndons n k) ordered)
+  picked-most = chosen-most (clear d) n k want
 
   spread : Spread d (picked n k d want)
   unfolding picked
-  spread = greedy-spread d want [] (lyndons n k) (λ i j b h. absurd (omega arith))
-
-  -- each one taken was looked at
-  looked-at : (i : ℕ) → i < length (picked n k d want) → OneOf (lookedAt n k d want) (getD (picked n k d want) i [])
-  unfolding picked lookedAt
-  looked-at =
-      all-place (greedy-looked {P = OneOf (lookedAt n k d want)} d want [] (lyndons n k) nothing (place-all (lookedAt n k d want) (λ j h. record { at = j; inside = h; is = refl })))
-
-  -- a Lyndon word up to one that was looked at was looked at, and so it is settled
-  settled : (u v : List ℕ) → LyndonOf n k u → OneOf (lookedAt n k d want) v → upTo u v ≡ true → Settled d (picked n k d want) u
-  unfolding lookedAt
-  settled u v l o h =
-      let p = lyndon-place u l in
-      let q : upTo (getD (lyndons n k) (p .at) []) (getD (lookedAt n k d want) (o .at) []) ≡ true = rw (p .is, o .is) h in
-      let b = begins-down (looked-begins d want [] (lyndons n k)) rises (o .at) (p .at) (o .inside) (p .inside) q in
-      rw (b .1, p .is) at (all-place settles (p .at) (b .0))
-
-  -- where fewer are taken than wanted, each was looked at
-  all-settled : length (picked n k d want) < want → (u : List ℕ) → LyndonOf n k u → Settled d (picked n k d want) u
-  unfolding picked lookedAt
-  all-settled h =
-      each-lyndon {P = Settled d (picked n k d want)} (subst (All (Settled d (picked n k d want))) (short-looked d want [] (lyndons n k) (omega arith)) settles)
-
-  -- not full is fewer
-  fewer : (full : Bool) → full ≡ eqb (length (picked n k d want)) want → full ≡ false → length (picked n k d want) < want
-  fewer full e f = omega (arith, picked-most, eqb-false (length (picked n k d want)) want (sym e ∙ f))
-
-  -- full: the last one taken is the last one looked at
-  last-looked : length (picked n k d want) ≡ want → lastTaken (picked n k d want) ≡ lastTaken (lookedAt n k d want)
-  unfolding picked lookedAt
-  last-looked e = last-of-all d want (lyndons n k) e
+  spread = chosen-keeps (clear d) n k want (Spread d) (λ ts w s l h. spread-more d ts w s h) (λ i j b h. absurd (omega arith))
 
   pub picked-worth : (full : Bool) → full ≡ eqb (length (picked n k d want)) want → Worth n k d want (picked n k d want) (lookedAt n k d want) full
+  unfolding picked lookedAt
   picked-worth full e =
+      let fewer = chosen-fewer (clear d) n k want full e in
       record {
-        members = members;
-        rising = rising;
+        members = chosen-members (clear d) n k want;
+        rising = chosen-rising (clear d) n k want;
         spread = spread;
-        looked-at = looked-at;
-        last-looked = λ f. last-looked (eqb-true (length (picked n k d want)) want (sym e ∙ f));
-        settled = settled;
+        looked-at = chosen-looked (clear d) n k want;
+        last-looked = λ f. chosen-last (clear d) n k want (eqb-true (length (picked n k d want)) want (sym e ∙ f));
+        settled = chosen-settled (clear d) n k want (Settled d) (settling d);
         enough = λ f. eqb-true (length (picked n k d want)) want (sym e ∙ f);
-        short = fewer full e;
-        none-left = λ f. all-settled (fewer full e f);
+        short = fewer;
+        none-left = λ f. chosen-all (clear d) n k want (Settled d) (settling d) (fewer f);
       }

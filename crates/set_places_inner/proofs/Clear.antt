@@ -1,6 +1,7 @@
 -- The loop over the places: a ring compared with the readings that they hold, the last one first.
 --     stock-length           the places are 768 sectors
 --     ClearFrom d p t w i    w is at least d apart from the readings in the places i to t
+--     one-good, pair-good    a ring, and two of them, pass the checks of the library
 --     part-good, part-counts the part of the places that the code lends is a reading, and the part of the tallies has its counts
 --     part-far               what is told of that part
 --     clear-start, clear-on, clear-ends, clear-all    the loop
@@ -16,7 +17,7 @@ use Rattle.words.proofs.Split.{lt, eq, gt, tri, clash, refuted}
 use Rattle.words.proofs.Search.{all-at, all-of}
 use Rattle.rings.specs.Counts.{countsOf}
 use Rattle.refusal.specs.Order.{Passed}
-use Rattle.refusal.specs.Calls.{twoReadings}
+use Rattle.refusal.specs.Calls.{oneReading, twoReadings}
 use Rattle.set_spec.specs.Greedy.{farFrom}
 use Rattle.set_spec.specs.Places.{placeAt}
 use Rattle.set_laws.proofs.Places.{laid-length, place-laid}
@@ -37,6 +38,33 @@ clear-start d p t w j h l = absurd (omega arith)
 pub clear-all : (d : ℕ) (p : List ℕ) (t : ℕ) (w : List ℕ) (i : ℕ) → ClearFrom d p t w i → i ≤ 0 → true ≡ clearIn (length w) d p t w
 clear-all d p t w i c h = sym (all-of t (λ j. farFrom d (placeAt (length w) p j) w) (λ j l. c j (omega arith) l))
 
+-- ---- the checks of the library
+
+-- a ring of n and k passes those of a call on one reading
+pub one-good : (w : List ℕ) (k : ℕ) → Fit (length w) k → Reading (length w) k w → Passed (oneReading w k)
+one-good w k fit r = (((((((fit .some, omega (arith, fit .short)), tt), fit .shaded), r .shades), tt), tt), refl)
+
+-- two of them pass those of a call on two
+pub pair-good : (v w : List ℕ) (k : ℕ) → Fit (length w) k → Reading (length w) k v → Reading (length w) k w → Passed (twoReadings v w k)
+pair-good v w k fit q r = (((((((omega (arith, q .long, fit .some), omega (arith, q .long, fit .short)), sym (q .long)), fit .shaded), below), tt), tt), refl)
+  where
+    past : (i : ℕ) → length w ≤ i → i < length w + length w → getD (v ++ w) i 0 < k
+    past i l m =
+        let e : length v + (i - length w) ≡ i = omega (arith, q .long) in
+        let f : getD (v ++ w) i 0 ≡ getD w (i - length w) 0 = ap (λ (x : ℕ). getD (v ++ w) x 0) (sym e) ∙ getD-append-add v w (i - length w) 0 in
+        rw f (r .shades (i - length w) (omega arith))
+
+    below : (i : ℕ) → i < length (v ++ w) → getD (v ++ w) i 0 < k
+    below i h =
+        let s : i < length w + length w = omega (arith, length-append v w, q .long) in
+        elim (tri i (length w)) [
+          | lt l ↦ rw (List·getD-append v w 0 i (omega (arith, q .long))) (q .shades i l)
+          | eq l ↦ past i (omega arith) s
+          | gt l ↦ past i (omega arith) s
+        ]
+
+-- ---- the places
+
 -- the reading in place j, and the ring
 module _ (p q w : List ℕ) (t k j : ℕ) (fit : Fit (length w) k) (reading : Reading (length w) k w) (stock : Stocked (length w) k p q t) (most : t ≤ 32) (b : j < t) where
   there : j < length (stock .set)
@@ -48,28 +76,8 @@ module _ (p q w : List ℕ) (t k j : ℕ) (fit : Fit (length w) k) (reading : Re
   place-reading : Reading (length w) k (placeAt (length w) p j)
   place-reading = rw place-is (stock .holds .each j there)
 
-  place-length : length (placeAt (length w) p j) ≡ length w
+  pub place-length : length (placeAt (length w) p j) ≡ length w
   place-length = place-reading .long
-
-  -- both are readings of n and k
-  pair-good : Passed (twoReadings (placeAt (length w) p j) w k)
-  pair-good =
-      (((((((omega (arith, place-length, fit .some, fit .short), omega (arith, place-length, fit .some, fit .short)), sym place-length), fit .shaded), below), tt), tt), refl)
-    where
-      past : (i : ℕ) → length w ≤ i → i < length w + length w → getD (placeAt (length w) p j ++ w) i 0 < k
-      past i l m =
-          let e : length (placeAt (length w) p j) + (i - length w) ≡ i = omega (arith, place-length) in
-          let f : getD (placeAt (length w) p j ++ w) i 0 ≡ getD w (i - length w) 0 = ap (λ (x : ℕ). getD (placeAt (length w) p j ++ w) x 0) (sym e) ∙ getD-append-add (placeAt (length w) p j) w (i - length w) 0 in
-          rw f (reading .shades (i - length w) (omega arith))
-
-      below : (i : ℕ) → i < length (placeAt (length w) p j ++ w) → getD (placeAt (length w) p j ++ w) i 0 < k
-      below i h =
-          let s : i < length w + length w = omega (arith, length-append (placeAt (length w) p j) w, place-length) in
-          elim (tri i (length w)) [
-            | lt l ↦ rw (List·getD-append (placeAt (length w) p j) w 0 i (omega (arith, place-length))) (place-reading .shades i l)
-            | eq l ↦ past i (omega arith) s
-            | gt l ↦ past i (omega arith) s
-          ]
 
   -- the parts of the places and of the tallies that the code lends
   module _ (at end first past : ℕ) (e : at ≡ 24 * j) (f : end ≡ at + length w) (g : first ≡ 16 * j) (h : past ≡ first + 16) where
@@ -77,7 +85,7 @@ module _ (p q w : List ℕ) (t k j : ℕ) (fit : Fit (length w) k) (reading : Re
     part-is = let m : end - at ≡ length w = omega arith in rw (m, e) refl
 
     pub part-good : Passed (twoReadings (take (end - at) (drop at p)) w k)
-    part-good = subst (λ x. Passed (twoReadings x w k)) (sym part-is) pair-good
+    part-good = subst (λ x. Passed (twoReadings x w k)) (sym part-is) (pair-good (placeAt (length w) p j) w k fit place-reading reading)
 
     pub part-counts : take (past - first) (drop first q) ≡ countsOf 16 (take (end - at) (drop at p))
     part-counts = let m : past - first ≡ 16 = omega arith in rw (m, g) (stock .holds .tallies j there) ∙ ap (countsOf 16) (sym (part-is ∙ place-is))

@@ -1,3 +1,4 @@
--- What is read from the places (Clear), and what is put there (Offering).
+-- What is read from the places (Clear), the test of a rule (Joining), and what is put there (Offering).
 pub mod Clear
+pub mod Joining
 pub mod Offering

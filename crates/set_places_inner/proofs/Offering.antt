@@ -1,39 +1,25 @@
--- Offering a ring: what the test in the places says, and what is put there.
---     clear-in              read from the places, the test is that of the definition
+-- Offering a ring: what is put into the places.
 --     offer-no, offer-yes   the ring is not taken, or it is
 --     copied-over           a ring copied over its part of the places, or counts over theirs of the tallies
-use Prim.Native.Nat.{ℕ, zero, suc, _+_, _-_, _*_, _<_, _≤_}
+use Prim.Native.Nat.{ℕ, _+_, _-_, _*_, _<_, _≤_}
 use mathlib.Core.Path.{_≡_, refl, sym, ap, _∙_}
-use mathlib.Core.Bool.{Bool, true, false}
+use mathlib.Core.Bool.{true, false}
 use mathlib.Core.List.{List, [], _∷_, _++_}
 use native.Mathlib.Omega.{arith}
 use lib.ListN.{length, getD, take, drop, length-drop}
 use lib.Seq.{ext-getD, getD-take, getD-drop, length-take-le, drop-drop}
-use Rattle.words.specs.Search.{allBelow}
 use Rattle.words.specs.Readings.{Reading}
 use Rattle.words.proofs.Split.{lt, eq, gt, tri}
 use Rattle.word_copy_laws.proofs.Copy.{copied}
 use Rattle.rings.specs.Counts.{countsOf}
 use Rattle.set_far_inner.proofs.Far.{counts-sixteen}
-use Rattle.set_spec.specs.Greedy.{farFrom, clear}
-use Rattle.set_spec.specs.Places.{laid, placeAt}
 use Rattle.set_laws.proofs.Lists.{length-more, at-old, at-new}
-use Rattle.set_laws.proofs.Choice.{offered, offered-yes, offered-no}
-use Rattle.set_laws.proofs.Places.{place-laid, over, over-length, over-before, over-inside, put-laid}
-use Rattle.set_places_inner.specs.Says.{tallyAt, HoldsSet, clearIn}
-
-all-cong : (n : ℕ) (f g : ℕ → Bool) → ((i : ℕ) → i < n → f i ≡ g i) → allBelow n f ≡ allBelow n g
-unfolding allBelow
-all-cong zero f g h = refl
-all-cong (suc n) f g h = rw (h n (omega arith), all-cong n f g (λ i b. h i (omega arith))) refl
-
--- read from the places, it is the test of the definition
-clear-in : (n k d : ℕ) (ts : List (List ℕ)) (p q : List ℕ) (t : ℕ) (w : List ℕ) → n ≤ 24 → t ≤ 32 → HoldsSet n k ts p q t → clearIn n d p t w ≡ clear d ts w
-unfolding clear
-clear-in n k d ts p q t w short most h =
-    rw (h .places, h .number)
-    (all-cong (length ts) (λ j. farFrom d (placeAt n (laid ts) j) w) (λ j. farFrom d (getD ts j []) w)
-    (λ j b. ap (λ (x : List ℕ). farFrom d x w) (place-laid n ts j short (omega (arith, h .number)) b (h .each j b .long))))
+use Rattle.set_laws.proofs.Choice.{offeredBy, offered-yes, offered-no}
+use Rattle.set_laws.proofs.Places.{over, over-length, over-before, over-inside, put-laid}
+use Rattle.guard_spec.specs.declared.Rule.{Rule}
+use Rattle.guard_spec.specs.Choice.{mayJoin}
+use Rattle.set_places_inner.specs.Says.{tallyAt, HoldsSet, mayIn}
+use Rattle.set_places_inner.proofs.Joining.{may-in}
 
 -- ---- the tallies
 
@@ -67,14 +53,14 @@ module _ (q c : List ℕ) (t : ℕ) (size : length q ≡ 512) (most : t < 32) (m
 -- ---- the offer
 
 -- what offering the ring w to places that hold t promises
-module _ (k d : ℕ) (p q w : List ℕ) (t : ℕ) (s : length w ≤ 24) (most : t < 32) where
-  pub offer-no : clearIn (length w) d p t w ≡ false → (ts : List (List ℕ)) → HoldsSet (length w) k ts p q t → HoldsSet (length w) k (offered d ts w) p q t
-  offer-no e ts h = rw (offered-no d ts w (sym (clear-in (length w) k d ts p q t w s (omega arith) h) ∙ e)) h
+module _ (rule : Rule) (k d : ℕ) (p q w : List ℕ) (t : ℕ) (s : length w ≤ 24) (most : t < 32) where
+  pub offer-no : mayIn rule (length w) d p t w ≡ false → (ts : List (List ℕ)) → HoldsSet (length w) k ts p q t → HoldsSet (length w) k (offeredBy (mayJoin rule d) ts w) p q t
+  offer-no e ts h = rw (offered-no (mayJoin rule d) ts w (sym (may-in rule (length w) k d ts p q t w s (omega arith) h) ∙ e)) h
 
-  pub offer-yes : (p′ q′ c : List ℕ) → Reading (length w) k w → clearIn (length w) d p t w ≡ true → c ≡ countsOf 16 w → p′ ≡ over p (24 * t) w → q′ ≡ over q (16 * t) c →
-      (ts : List (List ℕ)) → HoldsSet (length w) k ts p q t → HoldsSet (length w) k (offered d ts w) p′ q′ (t + 1)
+  pub offer-yes : (p′ q′ c : List ℕ) → Reading (length w) k w → mayIn rule (length w) d p t w ≡ true → c ≡ countsOf 16 w → p′ ≡ over p (24 * t) w → q′ ≡ over q (16 * t) c →
+      (ts : List (List ℕ)) → HoldsSet (length w) k ts p q t → HoldsSet (length w) k (offeredBy (mayJoin rule d) ts w) p′ q′ (t + 1)
   offer-yes p′ q′ c r e m f g ts h =
-      rw (offered-yes d ts w (sym (clear-in (length w) k d ts p q t w s (omega arith) h) ∙ e), g)
+      rw (offered-yes (mayJoin rule d) ts w (sym (may-in rule (length w) k d ts p q t w s (omega arith) h) ∙ e), g)
       (record {
         places = f ∙ rw (h .places, h .number) (put-laid ts w (omega (arith, h .number)) s);
         number = omega (arith, h .number, length-more ts w);

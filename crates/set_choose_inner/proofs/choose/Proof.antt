@@ -14,10 +14,10 @@ use Rattle.set_choose_inner.proofs.choose.Statement.{statement}
 use Rattle.set_choose_inner.proofs.choose.Tie as tie
 
 abbrev Inv-loop : tie.InvT-loop
-Inv-loop n k d wanted w₀ places₀ tallies₀ taken₀ w places tallies taken = Along n k d wanted w places tallies taken
+Inv-loop rule n k d wanted w₀ places₀ tallies₀ taken₀ w places tallies taken = Along rule n k d wanted w places tallies taken
 
 abbrev μ-loop : tie.MeasureT-loop
-μ-loop n k d wanted w₀ places₀ tallies₀ taken₀ w places tallies taken = count (before (ringOf w)) (readings n k)
+μ-loop rule n k d wanted w₀ places₀ tallies₀ taken₀ w places tallies taken = count (before (ringOf w)) (readings n k)
 
 array-share-prefix-zeros : tie.Need-array-share-prefix-zeros Inv-loop μ-loop
 array-share-prefix-zeros c = omega (arith, c .pre .short)
@@ -32,7 +32,7 @@ zero-taken-requires : tie.Need-zero-taken-requires Inv-loop μ-loop
 zero-taken-requires c κs = search needs
 
 cast-tallies : tie.Need-cast-tallies Inv-loop μ-loop
-cast-tallies c = omega (arith, taken-few (c .before .before .before .before .args .n) (c .zero-taken .result) (c .zero-taken .ensures))
+cast-tallies c = omega (arith, taken-few (c .before .before .before .before .args .rule) (c .before .before .before .before .args .n) (c .zero-taken .result) (c .zero-taken .ensures))
 
 array-write-tallies : tie.Need-array-write-tallies Inv-loop μ-loop
 array-write-tallies c = search needs
@@ -44,7 +44,7 @@ loop-holds c =
     let st = c .before .before .start in
     along-start (a .n) (a .k) (a .d) (a .wanted) _ (c .zero-taken .result) q
     (started (a .n) (a .k) (omega (arith, q .numbers .sized)) (q .numbers .shaded) _ (st .result .walk) (st .result .answer)
-    (zeros-part (a .n) 64 (omega (arith, q .short))) (st .ensures)) (c .zero-taken .ensures)
+    (zeros-part (a .n) 64 (omega (arith, q .short))) (st .ensures)) (a .rule) (c .zero-taken .ensures)
 
 next-word-requires : tie.Need-next-word-requires Inv-loop μ-loop
 next-word-requires c κs = search needs
@@ -58,8 +58,8 @@ returns c =
     let q = c .before .before .before .before .before .before .before .before .pre in
     let l = c .before .before .before .loop in
     let r = c .before .next-word in
-    along-ended (a .n) (a .k) (a .d) (a .wanted) q (l .w) (l .places) (l .tallies) (l .taken) (l .inv)
-    (stops (a .n) (a .k) (a .d) (a .wanted) q (l .w) (l .places) (l .tallies) (l .taken) (l .inv) (r .result .walk) (r .result .outcome) (c .match .keys2)
+    along-ended (a .rule) (a .n) (a .k) (a .d) (a .wanted) q (l .w) (l .places) (l .tallies) (l .taken) (l .inv)
+    (stops (a .rule) (a .n) (a .k) (a .d) (a .wanted) q (l .w) (l .places) (l .tallies) (l .taken) (l .inv) (r .result .walk) (r .result .outcome) (c .match .keys2)
     (r .ensures)) (omega (arith, c .before .before .loop-test .taken))
 
 slice-aggregate-offer : tie.Need-slice-aggregate-offer Inv-loop μ-loop
@@ -67,14 +67,14 @@ slice-aggregate-offer c =
     let a = c .before .before .before .before .before .before .before .before .before .before .before .before .before .args in
     let q = c .before .before .before .before .before .before .before .before .before .before .before .before .before .pre in
     let l = c .before .before .before .before .before .before .before .before .loop in
-    sym (along-size (a .n) (a .k) (a .d) (a .wanted) q (l .w) (l .places) (l .tallies) (l .taken) (l .inv))
+    sym (along-size (a .rule) (a .n) (a .k) (a .d) (a .wanted) q (l .w) (l .places) (l .tallies) (l .taken) (l .inv))
 
 slice-aggregate-offer-2 : tie.Need-slice-aggregate-offer-2 Inv-loop μ-loop
 slice-aggregate-offer-2 c =
     let a = c .before .before .before .before .before .before .before .before .before .before .before .before .before .before .args in
     let q = c .before .before .before .before .before .before .before .before .before .before .before .before .before .before .pre in
     let l = c .before .before .before .before .before .before .before .before .before .loop in
-    sym (along-room (a .n) (a .k) (a .d) (a .wanted) q (l .w) (l .places) (l .tallies) (l .taken) (l .inv))
+    sym (along-room (a .rule) (a .n) (a .k) (a .d) (a .wanted) q (l .w) (l .places) (l .tallies) (l .taken) (l .inv))
 
 array-share-prefix-ring : tie.Need-array-share-prefix-ring Inv-loop μ-loop
 array-share-prefix-ring c =
@@ -83,9 +83,9 @@ array-share-prefix-ring c =
     let l = c .before .before .before .before .before .before .before .before .before .loop in
     let r = c .before .before .before .before .before .before .before .next-word in
     let o = c .before .before .before .before .before .enum-told .given in
-    let cm = came (a .n) (a .k) (a .d) (a .wanted) q (l .w) (l .places) (l .tallies) (l .taken) (l .inv) (r .result .walk) (o .0 .0)
+    let cm = came (a .rule) (a .n) (a .k) (a .d) (a .wanted) q (l .w) (l .places) (l .tallies) (l .taken) (l .inv) (r .result .walk) (o .0 .0)
     (rw (o .1) at (r .ensures)) in
-    came-size (a .n) (a .k) (a .d) (a .wanted) q (l .w) (l .places) (l .tallies) (l .taken) (l .inv) (r .result .walk) cm
+    came-size (a .rule) (a .n) (a .k) (a .d) (a .wanted) q (l .w) (l .places) (l .tallies) (l .taken) (l .inv) (r .result .walk) cm
 
 slice-aggregate-offer-3 : tie.Need-slice-aggregate-offer-3 Inv-loop μ-loop
 slice-aggregate-offer-3 c =
@@ -94,9 +94,9 @@ slice-aggregate-offer-3 c =
     let l = c .before .before .before .before .before .before .before .before .before .before .loop in
     let r = c .before .before .before .before .before .before .before .before .next-word in
     let o = c .before .before .before .before .before .before .enum-told .given in
-    let cm = came (a .n) (a .k) (a .d) (a .wanted) q (l .w) (l .places) (l .tallies) (l .taken) (l .inv) (r .result .walk) (o .0 .0)
+    let cm = came (a .rule) (a .n) (a .k) (a .d) (a .wanted) q (l .w) (l .places) (l .tallies) (l .taken) (l .inv) (r .result .walk) (o .0 .0)
     (rw (o .1) at (r .ensures)) in
-    sym (length-take-le (a .n) (r .result .walk .ring) (came-size (a .n) (a .k) (a .d) (a .wanted) q (l .w) (l .places) (l .tallies) (l .taken) (l .inv)
+    sym (length-take-le (a .n) (r .result .walk .ring) (came-size (a .rule) (a .n) (a .k) (a .d) (a .wanted) q (l .w) (l .places) (l .tallies) (l .taken) (l .inv)
     (r .result .walk) cm))
 
 slice-aggregate-offer-4 : tie.Need-slice-aggregate-offer-4 Inv-loop μ-loop
@@ -109,15 +109,15 @@ offer-requires c κs =
     let l = c .before .before .before .before .before .before .before .before .before .before .before .loop in
     let r = c .before .before .before .before .before .before .before .before .before .next-word in
     let o = c .before .before .before .before .before .before .before .enum-told .given in
-    let cm = came (a .n) (a .k) (a .d) (a .wanted) q (l .w) (l .places) (l .tallies) (l .taken) (l .inv) (r .result .walk) (o .0 .0)
+    let cm = came (a .rule) (a .n) (a .k) (a .d) (a .wanted) q (l .w) (l .places) (l .tallies) (l .taken) (l .inv) (r .result .walk) (o .0 .0)
     (rw (o .1) at (r .ensures)) in (
-      came-fit (a .n) (a .k) (a .d) (a .wanted) q (l .w) (l .places) (l .tallies) (l .taken) (l .inv) (r .result .walk) cm,
+      came-fit (a .rule) (a .n) (a .k) (a .d) (a .wanted) q (l .w) (l .places) (l .tallies) (l .taken) (l .inv) (r .result .walk) cm,
       (
-        came-reads (a .n) (a .k) (a .d) (a .wanted) q (l .w) (l .places) (l .tallies) (l .taken) (l .inv) (r .result .walk) cm,
+        came-reads (a .rule) (a .n) (a .k) (a .d) (a .wanted) q (l .w) (l .places) (l .tallies) (l .taken) (l .inv) (r .result .walk) cm,
         (
-          came-counts (a .n) (a .k) (a .d) (a .wanted) q (l .w) (l .places) (l .tallies) (l .taken) (l .inv) (r .result .walk) cm,
+          came-counts (a .rule) (a .n) (a .k) (a .d) (a .wanted) q (l .w) (l .places) (l .tallies) (l .taken) (l .inv) (r .result .walk) cm,
           (
-            came-stock (a .n) (a .k) (a .d) (a .wanted) q (l .w) (l .places) (l .tallies) (l .taken) (l .inv) (r .result .walk) cm,
+            came-stock (a .rule) (a .n) (a .k) (a .d) (a .wanted) q (l .w) (l .places) (l .tallies) (l .taken) (l .inv) (r .result .walk) cm,
             omega
                 (arith, q .settable, c .before .before .before .before .before .before .before .before .before .before .loop-test .taken),
           ),
@@ -134,9 +134,9 @@ loop-less c =
     let l = c .before .before .before .before .before .before .before .before .before .before .before .before .before .before .loop in
     let r = c .before .before .before .before .before .before .before .before .before .before .before .before .next-word in
     let o = c .before .before .before .before .before .before .before .before .before .before .enum-told .given in
-    let cm = came (a .n) (a .k) (a .d) (a .wanted) q (l .w) (l .places) (l .tallies) (l .taken) (l .inv) (r .result .walk) (o .0 .0)
+    let cm = came (a .rule) (a .n) (a .k) (a .d) (a .wanted) q (l .w) (l .places) (l .tallies) (l .taken) (l .inv) (r .result .walk) (o .0 .0)
     (rw (o .1) at (r .ensures)) in
-    along-less (a .n) (a .k) (a .d) (a .wanted) q (l .w) (l .places) (l .tallies) (l .taken) (l .inv) (r .result .walk) cm
+    along-less (a .rule) (a .n) (a .k) (a .d) (a .wanted) q (l .w) (l .places) (l .tallies) (l .taken) (l .inv) (r .result .walk) cm
 
 loop-again : tie.Need-loop-again Inv-loop μ-loop
 loop-again c =
@@ -147,9 +147,9 @@ loop-again c =
     let l = c .before .before .before .before .before .before .before .before .before .before .before .before .before .before .loop in
     let r = c .before .before .before .before .before .before .before .before .before .before .before .before .next-word in
     let o = c .before .before .before .before .before .before .before .before .before .before .enum-told .given in
-    let cm = came (a .n) (a .k) (a .d) (a .wanted) q (l .w) (l .places) (l .tallies) (l .taken) (l .inv) (r .result .walk) (o .0 .0)
+    let cm = came (a .rule) (a .n) (a .k) (a .d) (a .wanted) q (l .w) (l .places) (l .tallies) (l .taken) (l .inv) (r .result .walk) (o .0 .0)
     (rw (o .1) at (r .ensures)) in
-    along-on (a .n) (a .k) (a .d) (a .wanted) q (l .w) (l .places) (l .tallies) (l .taken) (l .inv) (r .result .walk) cm _ _ _
+    along-on (a .rule) (a .n) (a .k) (a .d) (a .wanted) q (l .w) (l .places) (l .tallies) (l .taken) (l .inv) (r .result .walk) cm _ _ _
     (omega (arith, c .before .before .before .before .before .before .before .before .before .before .before .before .before .loop-test .taken))
     (c .before .before .offer .ensures)
 
@@ -158,7 +158,7 @@ returns-2 c =
     let a = c .before .before .before .before .before .before .args in
     let q = c .before .before .before .before .before .before .pre in
     let l = c .before .loop in
-    along-full (a .n) (a .k) (a .d) (a .wanted) q (l .w) (l .places) (l .tallies) (l .taken) (l .inv) (omega (arith, c .loop-test .left))
+    along-full (a .rule) (a .n) (a .k) (a .d) (a .wanted) q (l .w) (l .places) (l .tallies) (l .taken) (l .inv) (omega (arith, c .loop-test .left))
 
 pub choose-spec : {M : Type 1} → statement M
 choose-spec =

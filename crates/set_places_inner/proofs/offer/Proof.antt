@@ -11,8 +11,8 @@ use borrow.Author.Needs.{needs}
 use Rattle.set_places_inner.proofs.offer.Statement.{statement}
 use Rattle.set_places_inner.proofs.offer.Tie as tie
 
-is-clear-requires : tie.Need-is-clear-requires
-is-clear-requires c κs =
+may-join-requires : tie.Need-may-join-requires
+may-join-requires c κs =
     let q = c .before .before .before .before .before .before .pre in
     (q .0, (q .1 .0, (q .1 .1 .0, (q .1 .1 .1 .0, omega (arith, q .1 .1 .1 .1)))))
 
@@ -26,8 +26,8 @@ returns : tie.Need-returns
 returns c =
     let a = c .before .before .before .before .before .before .before .before .args in
     let q = c .before .before .before .before .before .before .before .before .pre in
-    offer-no (a .k) (a .d) (a .places .now) (a .tallies .now) (a .ring .now) (a .taken) (q .0 .short) (q .1 .1 .1 .1)
-    (sym (c .before .is-clear .ensures) ∙ not-true _ (c .if1 .taken))
+    offer-no (a .rule) (a .k) (a .d) (a .places .now) (a .tallies .now) (a .ring .now) (a .taken) (q .0 .short) (q .1 .1 .1 .1)
+    (sym (c .before .may-join .ensures) ∙ not-true _ (c .if1 .taken))
 
 mul-at : tie.Need-mul-at
 mul-at c = search needs
@@ -98,8 +98,8 @@ returns-2 c =
     let z = stock-length (length (a .ring .now)) (a .k) (a .places .now) (a .tallies .now) (a .taken) (q .1 .1 .1 .0) in
     let s = q .1 .1 .1 .0 .holds .room in
     let m = counts-sixteen (a .ring .now) (a .counts .now) (q .1 .1 .0) in
-    offer-yes (a .k) (a .d) (a .places .now) (a .tallies .now) (a .ring .now) (a .taken) (q .0 .short) (q .1 .1 .1 .1) _ _ (a .counts .now) (q .1 .0)
-    (sym (c .before .before .before .before .before .before .before .before .before .is-clear .ensures) ∙ not-false _
+    offer-yes (a .rule) (a .k) (a .d) (a .places .now) (a .tallies .now) (a .ring .now) (a .taken) (q .0 .short) (q .1 .1 .1 .1) _ _ (a .counts .now) (q .1 .0)
+    (sym (c .before .before .before .before .before .before .before .before .before .may-join .ensures) ∙ not-false _
     (c .before .before .before .before .before .before .before .before .if1 .left)) (q .1 .1 .0) (copied-over (a .places .now) (a .ring .now) _ (24 * a .taken)
     (24 * a .taken + length (a .ring .now)) refl (omega (arith, z, q .0 .short, q .1 .1 .1 .1))
     (c .before .before .before .before .before .before .copy .ensures .1)) (copied-over (a .tallies .now) (a .counts .now) _ (16 * a .taken)
@@ -107,5 +107,5 @@ returns-2 c =
 
 pub offer-spec : {M : Type 1} → statement M
 offer-spec =
-    tie.close (tie.spec is-clear-requires same-length same-length-2 returns mul-at add-end sub-copy part-copy-start part-copy-end copy-requires mul-first
+    tie.close (tie.spec may-join-requires same-length same-length-2 returns mul-at add-end sub-copy part-copy-start part-copy-end copy-requires mul-first
     add-past sub-copy-2 part-copy-start-2 part-copy-end-2 copy-requires-2 add-result same-length-3 same-length-4 returns-2)

@@ -1,8 +1,8 @@
--- `converter_sides_inner::write_reversed` meets its contract: the sectors are copied, and then reversed in place.
+-- `home_reverse_inner::write_reversed` meets its contract: the sectors are copied, and then reversed in place.
 use Rattle.word_copy_laws.proofs.Copy.{reversed}
 use borrow.Author.Needs.{needs}
-use Rattle.converter_sides_inner.proofs.write_reversed.Statement.{statement}
-use Rattle.converter_sides_inner.proofs.write_reversed.Tie as tie
+use Rattle.home_reverse_inner.proofs.write_reversed.Statement.{statement}
+use Rattle.home_reverse_inner.proofs.write_reversed.Tie as tie
 
 copy-requires : tie.Need-copy-requires
 copy-requires c κs = search needs

@@ -1,8 +1,8 @@
--- `sets::pick` meets its contract.
+-- `sets::pick_by` meets its contract: what the checks answer, or else the set of the rule.
 use mathlib.Core.Path.{refl}
 use borrow.Author.Needs.{needs}
-use Rattle.sets.proofs.pick.Statement.{statement}
-use Rattle.sets.proofs.pick.Tie as tie
+use Rattle.sets.proofs.pick_by.Statement.{statement}
+use Rattle.sets.proofs.pick_by.Tie as tie
 
 check-set-requires : tie.Need-check-set-requires
 check-set-requires c κs = search needs
@@ -22,7 +22,7 @@ returns c = (rw (c .before .r .given .1) at (c .before .before .before .check-se
 returns-2 : tie.Need-returns-2
 returns-2 c = search needs
 
-pub pick-spec : {M : Type 1} → statement M
-pick-spec =
+pub pick-by-spec : {M : Type 1} → statement M
+pick-by-spec =
     tie.close
     (tie.spec check-set-requires enum-known-r enum-told choose-requires returns returns-2)

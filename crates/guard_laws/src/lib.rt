@@ -1,0 +1,1 @@
+// No code: this crate holds the theorems (proofs/) about the definitions of `guard_spec`.

@@ -1,0 +1,2 @@
+-- Guarded sets worked out by hand (Cases).
+pub mod Cases

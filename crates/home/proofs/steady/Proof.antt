@@ -1,0 +1,42 @@
+-- `home::steady` meets its contract: what the check answers, or else whether a turn of the reading comes near to itself.
+use mathlib.Core.Path.{_∙_, sym}
+use Rattle.refusal.specs.Calls.{askReading}
+use borrow.Author.Needs.{needs}
+use Rattle.home.proofs.Answers.{passed-pos}
+use Rattle.home.proofs.steady.Statement.{statement}
+use Rattle.home.proofs.steady.Tie as tie
+
+check-reading-requires : tie.Need-check-reading-requires
+check-reading-requires c κs = search needs
+
+enum-known-r : tie.Need-enum-known-r
+enum-known-r c = search needs
+
+enum-told : tie.Need-enum-told
+enum-told c = search needs
+
+is-steady-requires : tie.Need-is-steady-requires
+is-steady-requires c κs =
+    let a = c .before .before .before .before .args in
+    passed-pos (askReading (a .s .now) (a .k)) (rw (c .enum-told .given .1) at (c .before .before .check-reading .ensures))
+
+returns : tie.Need-returns
+returns c = (rw (c .before .before .enum-told .given .1) at (c .before .before .before .before .check-reading .ensures), sym (c .before .is-steady .ensures) ∙ c .if1 .taken)
+
+returns-2 : tie.Need-returns-2
+returns-2 c = rw (c .before .r .given .1) at (c .before .before .before .check-reading .ensures)
+
+returns-3 : tie.Need-returns-3
+returns-3 c = (rw (c .before .before .enum-told .given .1) at (c .before .before .before .before .check-reading .ensures), sym (c .before .is-steady .ensures) ∙ c .if1 .left)
+
+pub steady-spec : {M : Type 1} → statement M
+steady-spec =
+    tie.close
+    (tie.spec
+    check-reading-requires
+    enum-known-r
+    enum-told
+    is-steady-requires
+    returns
+    returns-2
+    returns-3)

@@ -1,0 +1,2 @@
+-- Whether the all-zero ring is taken (Says).
+pub mod Says

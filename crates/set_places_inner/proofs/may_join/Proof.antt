@@ -1,0 +1,59 @@
+-- `set_places_inner::may_join` meets its contract: what is told of the fronts, and by the rule of the other sides.
+use Prim.Native.Nat.{ℕ}
+use mathlib.Core.Path.{_∙_, sym, ap}
+use mathlib.Core.List.{List}
+use native.Mathlib.Omega.{arith}
+use lib.ListN.{length, length-append, length-take, length-drop, length-reverse}
+use lib.Seq.{take-at}
+use borrow.Author.Tests.{not-true, not-false}
+use Rattle.set_places_inner.proofs.Joining.{not-clear-in, may-guarded}
+use borrow.Author.Needs.{needs}
+use Rattle.set_places_inner.proofs.may_join.Statement.{statement}
+use Rattle.set_places_inner.proofs.may_join.Tie as tie
+
+is-clear-requires : tie.Need-is-clear-requires
+is-clear-requires c κs = search needs
+
+returns : tie.Need-returns
+returns c = not-clear-in (length (c .before .before .before .before .before .before .args .ring .now)) (c .before .before .before .before .before .before .args .d) (c .before .before .before .before .before .before .args .places .now) (c .before .before .before .before .before .before .args .taken) (c .before .before .before .before .before .before .args .ring .now) (c .before .before .before .before .before .before .args .rule) (sym (c .before .is-clear .ensures) ∙ not-true _ (c .if1 .taken))
+
+enum-told : tie.Need-enum-told
+enum-told c = search needs
+
+enum-told-2 : tie.Need-enum-told-2
+enum-told-2 c = search needs
+
+array-borrow-prefix-back : tie.Need-array-borrow-prefix-back
+array-borrow-prefix-back c = search needs
+
+slice-aggregate-write-reversed : tie.Need-slice-aggregate-write-reversed
+slice-aggregate-write-reversed c = simp length-take (omega (arith, c .before .before .before .before .before .before .before .before .before .pre .0 .short))
+
+write-reversed-requires : tie.Need-write-reversed-requires
+write-reversed-requires c κs = simp length-take (omega (arith, c .before .before .before .before .before .before .before .before .before .pre .0 .short))
+
+array-share-prefix-back : tie.Need-array-share-prefix-back
+array-share-prefix-back c =
+    let w = c .before .before .before .before .before .before .before .before .before .before .before .args .ring .now in
+    let y = ap (λ (v : List ℕ). length v) (c .before .write-reversed .ensures) ∙ length-reverse w in
+    simp (length-append, length-drop) (omega (arith, y))
+
+slice-aggregate-is-guarded : tie.Need-slice-aggregate-is-guarded
+slice-aggregate-is-guarded c = let h = array-share-prefix-back (c .before) in simp length-take (omega (arith, h))
+
+is-guarded-requires : tie.Need-is-guarded-requires
+is-guarded-requires c κs =
+    let w = c .before .before .before .before .before .before .before .before .before .before .before .before .args .ring .now in
+    let q = c .before .before .before .before .before .before .before .before .before .before .before .before .pre in
+    let x = c .before .before .write-reversed in
+    let y = ap (λ (v : List ℕ). length v) (x .ensures) ∙ length-reverse w in
+    (q .0, ((q .1 .0, take-at _ _ (length w) y ∙ x .ensures), q .1 .1))
+
+returns-2 : tie.Need-returns-2
+returns-2 c = rw (c .enum-told .given .1) (sym (sym (c .before .before .before .is-clear .ensures) ∙ not-false _ (c .before .before .if1 .left)))
+
+returns-3 : tie.Need-returns-3
+returns-3 c = rw (c .before .before .before .before .before .enum-told2 .given .1) (may-guarded (length (c .before .before .before .before .before .before .before .before .before .before .before .before .before .args .ring .now)) (c .before .before .before .before .before .before .before .before .before .before .before .before .before .args .d) (c .before .before .before .before .before .before .before .before .before .before .before .before .before .args .places .now) (c .before .before .before .before .before .before .before .before .before .before .before .before .before .args .taken) (c .before .before .before .before .before .before .before .before .before .before .before .before .before .args .ring .now) (c .is-guarded .result) (sym (c .before .before .before .before .before .before .before .before .is-clear .ensures) ∙ not-false _ (c .before .before .before .before .before .before .before .if1 .left)) (c .is-guarded .ensures))
+
+pub may-join-spec : {M : Type 1} → statement M
+may-join-spec = tie.close (tie.spec is-clear-requires returns enum-told enum-told-2 array-borrow-prefix-back slice-aggregate-write-reversed write-reversed-requires array-share-prefix-back slice-aggregate-is-guarded is-guarded-requires returns-2 returns-3)
