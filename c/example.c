@@ -28,6 +28,8 @@ int main(void) {
     printf("class %zu value %zu\n", c.kind, c.value);
     printf("same %zu even-handed %zu\n", rings_same(reading, 6, other, 6, 2).value, rings_even_handed(other, 6, 2).value);
     printf("apart %zu\n", rings_apart((const uint8_t[6]){0, 1, 0, 1, 0, 1}, 6, other, 6, 2).value);
+    struct rings_nearest near = rings_nearest(reading, 6, (const uint8_t[6]){0, 0, 1, 1, 0, 1}, 6, 2);
+    printf("nearest %zu by %zu turns\n", near.distance, near.shift);
     refused("same", rings_same(reading, 6, other, 5, 2).refused, 0);
     printf("stock d0 -> %02x\n", rings_stock_home(0xd0));
 
@@ -84,5 +86,8 @@ int main(void) {
         puts("");
     }
     printf("taken %zu full %zu\n", p.taken, p.full);
+    p = rings_pick_guarded(4, 3, 1, 9, set, sizeof set);
+    for (size_t i = 0; i < p.taken; i++) show(i ? "" : "guarded", set + 24 * i, 4);
+    printf(" full %zu\n", p.full);
     return 0;
 }

@@ -64,11 +64,12 @@ int main(int argc, char **argv) {
         size_t k = below(8) ? 2 + below(15) : below(20), n = below(67), room = below(6) ? n : below(70), most = most_of(k);
         struct lent s = lend(n, most), t = lend(below(4) ? n : below(67), most), out;
         struct rings_answer a;
-        calls += 18;
+        calls += 19;
         rings_classify(s.at, n, k);
         rings_same(s.at, n, t.at, t.n, k);
         rings_even_handed(s.at, n, k);
         rings_apart(s.at, n, t.at, t.n, k);
+        rings_nearest(s.at, n, t.at, t.n, k);
         if (below(8) == 0) rings_place(s.at, n, k);
 
         out = lend(room, 256);
@@ -142,7 +143,7 @@ int main(int argc, char **argv) {
         }
     for (size_t r = 0; r < 40; r++, calls++) {
         struct lent out = lend(below(4) ? 768 : below(800), 256);
-        struct rings_set p = rings_pick(1 + below(9), 2 + below(2), below(5), below(34), out.at, out.n);
+        struct rings_set p = (r % 2 ? rings_pick : rings_pick_guarded)(1 + below(9), 2 + below(2), below(5), below(34), out.at, out.n);
         back("rings_pick", out, 0, p.refused ? 0 : 768);
     }
     printf("%zu calls, %zu faults\n", calls, faults);

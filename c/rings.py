@@ -19,8 +19,8 @@ import ctypes
 import os
 from collections import namedtuple
 
-__all__ = ["Refused", "REFUSALS", "version", "text", "classify", "home", "stock_home", "same", "even_handed", "apart", "next_prenecklace", "next_necklace", "next_lyndon", "next_bracelet",
-           "walk", "first_ring", "next_ring", "read_record", "records", "write_front", "write_packed", "convert", "sector_shade", "ring_shades", "strip", "place", "necklaces", "lyndon_words", "pick"]
+__all__ = ["Refused", "REFUSALS", "version", "text", "classify", "home", "stock_home", "same", "even_handed", "apart", "nearest", "next_prenecklace", "next_necklace", "next_lyndon", "next_bracelet",
+           "walk", "first_ring", "next_ring", "read_record", "records", "write_front", "write_packed", "convert", "sector_shade", "ring_shades", "strip", "place", "necklaces", "lyndon_words", "pick", "pick_guarded"]
 
 #: The names of the refusals by their numbers, 1 to 17.
 REFUSALS = {1: "Length", 2: "Shades", 3: "Sector", 4: "Room", 5: "Off walk", 6: "Counts", 7: "Cut", 8: "Mark", 9: "Not home", 10: "Pair", 11: "Line", 12: "Too many", 13: "Set",
@@ -37,6 +37,7 @@ class Refused(ValueError):
 
 Class = namedtuple("Class", "kind value")
 Home = namedtuple("Home", "ring shift period")
+Nearest = namedtuple("Nearest", "distance shift")
 Step = namedtuple("Step", "ring moves")
 Record = namedtuple("Record", "ring k kind next")
 Shade = namedtuple("Shade", "kind value")
@@ -64,6 +65,7 @@ def _answer(*names):
 
 
 _VALUE, _CLASS, _HOME, _STEP = _answer("value"), _answer("kind", "value"), _answer("shift", "period"), _answer("moved", "moves")
+_NEAREST = _answer("distance", "shift")
 _RECORD, _SECTOR, _SET = _answer("kind", "n", "k", "next"), _answer("kind", "shade", "outside"), _answer("taken", "full")
 
 
@@ -89,6 +91,7 @@ _c_stock_home = _function("stock_home", _U8, _U8)
 _c_same = _function("same", _VALUE, _P, _N, *_READING)
 _c_even_handed = _function("even_handed", _VALUE, *_READING)
 _c_apart = _function("apart", _VALUE, _P, _N, *_READING)
+_c_nearest = _function("nearest", _NEAREST, _P, _N, *_READING)
 _c_next_prenecklace = _function("next_prenecklace", _STEP, *_READING, _P, _N)
 _c_next_necklace = _function("next_necklace", _STEP, *_READING, _P, _N)
 _c_next_lyndon = _function("next_lyndon", _STEP, *_READING, _P, _N)
@@ -106,6 +109,7 @@ _c_place = _function("place", _VALUE, *_READING)
 _c_necklaces = _function("necklaces", _VALUE, _N, _N)
 _c_lyndon_words = _function("lyndon_words", _VALUE, _N, _N)
 _c_pick = _function("pick", _SET, _N, _N, _N, _N, _P, _N)
+_c_pick_guarded = _function("pick_guarded", _SET, _N, _N, _N, _N, _P, _N)
 
 #: The version of the library that was loaded.
 version = ctypes.string_at(ctypes.addressof(ctypes.c_char.in_dll(_lib, "rings_version"))).decode()
@@ -170,6 +174,13 @@ def apart(a, b, k):
     """The least number of places at which a turn of one reading differs from the other. Refuses by 1, 10, 2, 3."""
     a, b = _bytes(a), _bytes(b)
     return _c_apart(a, len(a), b, len(b), _number(k)).value
+
+
+def nearest(a, b, k):
+    """How far apart two readings are, and by how many left turns the first comes so near, the fewest that do. Refuses by 1, 10, 2, 3."""
+    a, b = _bytes(a), _bytes(b)
+    c = _c_nearest(a, len(a), b, len(b), _number(k))
+    return Nearest(c.distance, c.shift)
 
 
 def _step(call, reading, k):
@@ -316,8 +327,17 @@ def lyndon_words(k, n):
     return _c_lyndon_words(_number(k), _number(n)).value
 
 
+def _pick(call, n, k, d, wanted):
+    out = ctypes.create_string_buffer(768)
+    a = call(_number(n), _number(k), _number(d), _number(wanted), out, 768)
+    return Set([out.raw[24 * i:24 * i + n] for i in range(a.taken)], a.full == 1)
+
+
 def pick(n, k, d, wanted):
     """A set of at most `wanted` rings that are at least d apart, and whether it has as many. Refuses by 1, 2, 12, 13."""
-    out = ctypes.create_string_buffer(768)
-    a = _c_pick(_number(n), _number(k), _number(d), _number(wanted), out, 768)
-    return Set([out.raw[24 * i:24 * i + n] for i in range(a.taken)], a.full == 1)
+    return _pick(_c_pick, n, k, d, wanted)
+
+
+def pick_guarded(n, k, d, wanted):
+    """The same, where the rings and their mirror images are at least d apart from one another, and each ring from its own turns. Refuses by 1, 2, 12, 13."""
+    return _pick(_c_pick_guarded, n, k, d, wanted)

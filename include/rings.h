@@ -81,6 +81,14 @@ struct rings_home {
     size_t period;
 };
 
+/* how far apart two readings are, and by how many left turns the first comes so near to the second, the fewest that do */
+struct rings_nearest {
+    size_t refused;
+    size_t place;
+    size_t distance;
+    size_t shift;
+};
+
 /* a step: moved 1 and the moves to the ring that is in the output, or moved 0, where there is none, and the moves that were left */
 struct rings_step {
     size_t refused;
@@ -135,6 +143,9 @@ struct rings_answer rings_even_handed(const uint8_t *reading, size_t n, size_t k
 
 /* value: the least number of places at which a turn of one reading differs from the other. Refuses by 1, 10, 2, 3. a and b may overlap. */
 struct rings_answer rings_apart(const uint8_t *a, size_t n, const uint8_t *b, size_t m, size_t k);
+
+/* The same number in distance, and the turns in shift. Refuses by 1, 10, 2, 3. a and b may overlap. */
+struct rings_nearest rings_nearest(const uint8_t *a, size_t n, const uint8_t *b, size_t m, size_t k);
 
 /* ---- walks: from ring to ring, in increasing order. Each function writes to the n bytes of `out` the least ring of its kind above the reading, which has to be a prenecklace;
  * where there is none it writes nothing. The first of a walk is n times 0. They refuse by 1, 2, 3, 4, 5. */
@@ -194,6 +205,9 @@ struct rings_answer rings_lyndon_words(size_t k, size_t n);
 /* Picks at most `wanted` rings of n sectors and k shades, each at least d apart from those taken before it, and lays them into `out`, which has 768 bytes: 32 places of 24 sectors, in the
  * order in which they were taken, everything unused 0. Refuses by 4, 1, 2, 12, 13. */
 struct rings_set rings_pick(size_t n, size_t k, size_t d, size_t wanted, uint8_t *out, size_t room);
+
+/* The guarded set, laid out and refused the same: the rings taken and their mirror images stay at least d apart from one another, and each ring from its own turns. */
+struct rings_set rings_pick_guarded(size_t n, size_t k, size_t d, size_t wanted, uint8_t *out, size_t room);
 
 #ifdef __cplusplus
 }

@@ -4,6 +4,8 @@ use classify_spec::Classified;
 use door_spec::RingsAnswer;
 use door_spec::RingsClass;
 use door_spec::RingsHome;
+use door_spec::RingsNearest;
+use home_spec::Closest;
 use home_spec::Distance;
 use home_spec::Homed;
 use home_spec::Told;
@@ -13,9 +15,9 @@ ghost use mathlib.Core.Path.{_≡_};
 ghost use Rattle.rings.specs.Alike.{evenHanded, sameRing};
 ghost use Rattle.refusal.specs.Calls.{oneReading, twoReadings};
 ghost use Rattle.classify_spec.specs.Says.{ClassifySays};
-ghost use Rattle.home_spec.specs.Says.{HomeSays, ToldSays, DistanceSays};
+ghost use Rattle.home_spec.specs.Says.{HomeSays, ToldSays, DistanceSays, ClosestSays};
 ghost use Rattle.stock_spec.specs.Stock.{homeByte};
-ghost use Rattle.door_spec.specs.Flat.{Flat, classNumber, classValue, flatClassified, flatHomed, flatTold, flatDistance};
+ghost use Rattle.door_spec.specs.Flat.{Flat, classNumber, classValue, flatClassified, flatHomed, flatTold, flatDistance, flatClosest};
 
 // ---- classes
 
@@ -142,4 +144,30 @@ pub extern "C" fn rings_apart(a: &[u8], b: &[u8], k: usize) -> RingsAnswer
     ensures { λ r. ⌜ Flat (DistanceSays (now (a .entry)) (now (b .entry)) k) flatDistance r ⌝ }
 {
     flat_distance(home::apart(a, b, k))
+}
+
+fn flat_closest(a: Closest) -> RingsNearest
+    ensures { λ r. ⌜ r ≡ flatClosest a ⌝ }
+{
+    match a {
+        Closest::At { distance, shift } => RingsNearest {
+            refused: 0,
+            place: 0,
+            distance,
+            shift,
+        },
+        Closest::Refused(r) => RingsNearest {
+            refused: refusal::number(r),
+            place: refusal::place(r),
+            distance: 0,
+            shift: 0,
+        },
+    }
+}
+
+#[no_mangle]
+pub extern "C" fn rings_nearest(a: &[u8], b: &[u8], k: usize) -> RingsNearest
+    ensures { λ r. ⌜ Flat (ClosestSays (now (a .entry)) (now (b .entry)) k) flatClosest r ⌝ }
+{
+    flat_closest(home::nearest(a, b, k))
 }

@@ -7,9 +7,10 @@ use refusal::Refusal;
 use set_pick_spec::Picked;
 ghost use mathlib.Core.Path.{_≡_};
 ghost use lib.ListN.{length};
-ghost use Rattle.set_pick_spec.specs.Says.{PickSays};
+ghost use Rattle.set_spec.specs.Greedy.{picked};
+ghost use Rattle.guard_spec.specs.Choice.{guarded};
 ghost use Rattle.door_spec.specs.Flat.{Flat, fullNumber, flatLaid};
-ghost use Rattle.door_spec.specs.Sets.{LaidSays};
+ghost use Rattle.door_spec.specs.Sets.{LaidSays, Lays};
 
 // The bytes of 32 places of 24 sectors.
 const PLACES: usize = 768;
@@ -42,26 +43,34 @@ fn flat_laid(a: SetLaid) -> RingsSet
     }
 }
 
-// What was picked, laid into the output where it is no refusal.
-fn lay(n: usize, k: usize, d: usize, wanted: usize, out: &mut [u8]) -> SetLaid
-    ensures { λ r. ⌜ LaidSays n k d wanted (now (out .entry)) r (now (out .exit)) ⌝ }
+// What was picked, laid into an output of its length where it is no refusal.
+fn lay(set: Picked, out: &mut [u8]) -> SetLaid
+    requires { ⌜ length (now out) ≡ 768 ⌝ }
+    ensures { λ r. ⌜ Lays set (now (out .entry)) r (now (out .exit)) ⌝ }
+{
+    let answer = set.answer;
+    match answer {
+        Checked::Refused(r) => SetLaid::Refused(r),
+        Checked::Good => {
+            let places = set.places;
+            bytes::copy(&places, out);
+            SetLaid::Set {
+                taken: set.taken,
+                full: set.full,
+            }
+        }
+    }
+}
+
+// ---- the set of a job
+
+fn lay_plain(n: usize, k: usize, d: usize, wanted: usize, out: &mut [u8]) -> SetLaid
+    ensures { λ r. ⌜ LaidSays n k d wanted (picked n k d wanted) (now (out .entry)) r (now (out .exit)) ⌝ }
 {
     if out.len() != PLACES {
         return SetLaid::Refused(Refusal::Room);
     }
-    let picked = sets::pick(n, k, d, wanted);
-    let answer = picked.answer;
-    match answer {
-        Checked::Refused(r) => SetLaid::Refused(r),
-        Checked::Good => {
-            let places = picked.places;
-            bytes::copy(&places, out);
-            SetLaid::Set {
-                taken: picked.taken,
-                full: picked.full,
-            }
-        }
-    }
+    lay(sets::pick(n, k, d, wanted), out)
 }
 
 #[no_mangle]
@@ -72,7 +81,31 @@ pub extern "C" fn rings_pick(
     wanted: usize,
     out: &mut [u8],
 ) -> RingsSet
-    ensures { λ r. ⌜ Flat (λ a. LaidSays n k d wanted (now (out .entry)) a (now (out .exit))) flatLaid r ⌝ }
+    ensures { λ r. ⌜ Flat (λ a. LaidSays n k d wanted (picked n k d wanted) (now (out .entry)) a (now (out .exit))) flatLaid r ⌝ }
 {
-    flat_laid(lay(n, k, d, wanted, out))
+    flat_laid(lay_plain(n, k, d, wanted, out))
+}
+
+// ---- the guarded set
+
+fn lay_guarded(n: usize, k: usize, d: usize, wanted: usize, out: &mut [u8]) -> SetLaid
+    ensures { λ r. ⌜ LaidSays n k d wanted (guarded n k d wanted) (now (out .entry)) r (now (out .exit)) ⌝ }
+{
+    if out.len() != PLACES {
+        return SetLaid::Refused(Refusal::Room);
+    }
+    lay(sets::pick_guarded(n, k, d, wanted), out)
+}
+
+#[no_mangle]
+pub extern "C" fn rings_pick_guarded(
+    n: usize,
+    k: usize,
+    d: usize,
+    wanted: usize,
+    out: &mut [u8],
+) -> RingsSet
+    ensures { λ r. ⌜ Flat (λ a. LaidSays n k d wanted (guarded n k d wanted) (now (out .entry)) a (now (out .exit))) flatLaid r ⌝ }
+{
+    flat_laid(lay_guarded(n, k, d, wanted, out))
 }

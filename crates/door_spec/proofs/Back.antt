@@ -22,6 +22,8 @@ use Rattle.home_spec.specs.declared.Told.{Told}
 use Rattle.home_spec.specs.declared.Told.the-variants as T
 use Rattle.home_spec.specs.declared.Distance.{Distance}
 use Rattle.home_spec.specs.declared.Distance.the-variants as D
+use Rattle.home_spec.specs.declared.Closest.{Closest}
+use Rattle.home_spec.specs.declared.Closest.the-variants as M
 use Rattle.walk_spec.specs.declared.Outcome.{Outcome}
 use Rattle.walk_spec.specs.declared.Outcome.the-variants as O
 use Rattle.walk_bracelet_spec.specs.declared.Arrival.{Arrival}
@@ -60,7 +62,7 @@ use Rattle.door_spec.specs.declared.RingsSet.{RingsSet}
 use Rattle.door_spec.specs.declared.SetLaid.{SetLaid}
 use Rattle.door_spec.specs.declared.SetLaid.the-variants as G
 use Rattle.door_spec.specs.Flat.{flatTold, flatDistance, flatArrival, flatFirst, flatNext, flatWritten, flatConversion, flatRingRead, flatStrip, flatPosition, flatCounted}
-use Rattle.door_spec.specs.Flat.{classNumber, classValue, flatClassified, flatHomed, flatOutcome, flatEntry, flatSectorRead, flatLaid}
+use Rattle.door_spec.specs.Flat.{classNumber, classValue, flatClassified, flatHomed, flatClosest, flatOutcome, flatEntry, flatSectorRead, flatLaid}
 
 -- ---- refusals
 
@@ -163,6 +165,10 @@ classified-back (K.Refused r) = refusal-back K.Refused (K.Is Single) r
 pub homed-back : (a : Homed) → back H.Refused (H.Home (flatHomed a .shift) (flatHomed a .period)) (flatHomed a .refused) (flatHomed a .place) ≡ a
 homed-back (H.Home i p) = refl
 homed-back (H.Refused r) = refusal-back H.Refused (H.Home 0 0) r
+
+pub closest-back : (a : Closest) → back M.Refused (M.At (flatClosest a .distance) (flatClosest a .shift)) (flatClosest a .refused) (flatClosest a .place) ≡ a
+closest-back (M.At d i) = refl
+closest-back (M.Refused r) = refusal-back M.Refused (M.At 0 0) r
 
 pub outcome-back : (a : Outcome) → back O.Refused (either (O.Done (flatOutcome a .moves)) (O.Moved (flatOutcome a .moves)) (flatOutcome a .moved)) (flatOutcome a .refused) (flatOutcome a .place) ≡ a
 outcome-back (O.Moved m) = refl

@@ -16,8 +16,8 @@ use Rattle.refusal.specs.Calls.{oneReading, twoReadings}
 use Rattle.refusal.proofs.Unique.{one-refusal, never-both}
 use Rattle.classify_spec.specs.Says.{ClassifySays}
 use Rattle.classify_spec.proofs.Unique.{one-answer}
-use Rattle.home_spec.specs.Says.{HomeSays, ToldSays, DistanceSays}
-use Rattle.home_spec.proofs.Unique.{one-homed, one-told, one-distance}
+use Rattle.home_spec.specs.Says.{HomeSays, ToldSays, DistanceSays, ClosestSays}
+use Rattle.home_spec.proofs.Unique.{one-homed, one-told, one-distance, one-closest}
 use Rattle.walk_reading_spec.specs.Says.{StepFromSays, BraceletFromSays}
 use Rattle.walk_reading_spec.proofs.Unique.{one-step-from, one-bracelet-from}
 use Rattle.shades_spec.specs.Answers.{FirstSays, NextSays}
@@ -40,6 +40,7 @@ use Rattle.set_pick_spec.proofs.Unique.{askable-passed}
 use Rattle.door_spec.specs.declared.RingsAnswer.{RingsAnswer}
 use Rattle.door_spec.specs.declared.RingsClass.{RingsClass}
 use Rattle.door_spec.specs.declared.RingsHome.{RingsHome}
+use Rattle.door_spec.specs.declared.RingsNearest.{RingsNearest}
 use Rattle.door_spec.specs.declared.RingsStep.{RingsStep}
 use Rattle.door_spec.specs.declared.RingsRecord.{RingsRecord}
 use Rattle.door_spec.specs.declared.RingsSector.{RingsSector}
@@ -47,7 +48,7 @@ use Rattle.door_spec.specs.declared.RingsSet.{RingsSet}
 use Rattle.door_spec.specs.declared.SetLaid.{SetLaid}
 use Rattle.door_spec.specs.declared.SetLaid.the-variants.{Set, Refused}
 use Rattle.door_spec.specs.Flat.{Flat, flatTold, flatDistance, flatArrival, flatFirst, flatNext, flatWritten, flatConversion, flatRingRead, flatStrip, flatPosition, flatCounted}
-use Rattle.door_spec.specs.Flat.{flatClassified, flatHomed, flatOutcome, flatEntry, cardOf, flatSectorRead, flatLaid}
+use Rattle.door_spec.specs.Flat.{flatClassified, flatHomed, flatClosest, flatOutcome, flatEntry, cardOf, flatSectorRead, flatLaid}
 use Rattle.door_spec.specs.Sets.{layOrder, LaidSays}
 
 -- a call without an output
@@ -63,11 +64,11 @@ one-flat-out P f one u v r q x y =
 
 -- ---- a set that is written to an output
 
-module _ (n k d want : ℕ) (o : List ℕ) where
+module _ (n k d want : ℕ) (ts : List (List ℕ)) (o : List ℕ) where
   passes : length o ≡ 768 → Askable n k d want → (r : Refusal) → Given (layOrder n k d want (length o)) r → ⊥
   passes l asked r g = never-both (layOrder n k d want (length o)) r g (l, askable-passed n k d want asked)
 
-  pub one-laid : (a b : SetLaid) (u v : List ℕ) → LaidSays n k d want o a u → LaidSays n k d want o b v → (a ≡ b) × (u ≡ v)
+  pub one-laid : (a b : SetLaid) (u v : List ℕ) → LaidSays n k d want ts o a u → LaidSays n k d want ts o b v → (a ≡ b) × (u ≡ v)
   one-laid (Set t f) (Set s g) u v x y =
       let p = x .1 in
       let q = y .1 in
@@ -96,6 +97,9 @@ module _ (v w : List ℕ) (k : ℕ) where
 
   pub one-c-apart : (r q : RingsAnswer) → Flat (DistanceSays v w k) flatDistance r → Flat (DistanceSays v w k) flatDistance q → r ≡ q
   one-c-apart = one-flat (DistanceSays v w k) flatDistance (one-distance v w k)
+
+  pub one-c-nearest : (r q : RingsNearest) → Flat (ClosestSays v w k) flatClosest r → Flat (ClosestSays v w k) flatClosest q → r ≡ q
+  one-c-nearest = one-flat (ClosestSays v w k) flatClosest (one-closest v w k)
 
 module _ (w : List ℕ) (k : ℕ) (o u v : List ℕ) where
   pub one-c-home : (r q : RingsHome) → Flat (λ a. HomeSays w k o a u) flatHomed r → Flat (λ a. HomeSays w k o a v) flatHomed q → (r ≡ q) × (u ≡ v)
@@ -132,8 +136,10 @@ module _ (o u v : List ℕ) where
   pub one-c-strip : (n k : ℕ) (r q : RingsAnswer) → Flat (λ a. StripSays n k o a u) flatStrip r → Flat (λ a. StripSays n k o a v) flatStrip q → (r ≡ q) × (u ≡ v)
   one-c-strip n k = one-flat-out (StripSays n k o) flatStrip (one-writing n k o) u v
 
-  pub one-c-pick : (n k d want : ℕ) (r q : RingsSet) → Flat (λ a. LaidSays n k d want o a u) flatLaid r → Flat (λ a. LaidSays n k d want o a v) flatLaid q → (r ≡ q) × (u ≡ v)
-  one-c-pick n k d want = one-flat-out (LaidSays n k d want o) flatLaid (one-laid n k d want o) u v
+  -- the set of a job and the guarded one, whichever the set is to be
+  pub one-c-pick : (n k d want : ℕ) (ts : List (List ℕ)) (r q : RingsSet) →
+      Flat (λ a. LaidSays n k d want ts o a u) flatLaid r → Flat (λ a. LaidSays n k d want ts o a v) flatLaid q → (r ≡ q) × (u ≡ v)
+  one-c-pick n k d want ts = one-flat-out (LaidSays n k d want ts o) flatLaid (one-laid n k d want ts o) u v
 
 pub one-c-sector-shade : (x : Float) (k : ℕ) (d l : Float) (r q : RingsSector) → Flat (SectorSays x k (cardOf d l)) flatSectorRead r → Flat (SectorSays x k (cardOf d l)) flatSectorRead q → r ≡ q
 one-c-sector-shade x k d l = one-flat (SectorSays x k (cardOf d l)) flatSectorRead (one-sector x k (cardOf d l))

@@ -20,6 +20,8 @@ use Rattle.home_spec.specs.declared.Told.{Told}
 use Rattle.home_spec.specs.declared.Told.the-variants as T
 use Rattle.home_spec.specs.declared.Distance.{Distance}
 use Rattle.home_spec.specs.declared.Distance.the-variants as D
+use Rattle.home_spec.specs.declared.Closest.{Closest}
+use Rattle.home_spec.specs.declared.Closest.the-variants as M
 use Rattle.walk_spec.specs.declared.Outcome.{Outcome}
 use Rattle.walk_spec.specs.declared.Outcome.the-variants as O
 use Rattle.walk_bracelet_spec.specs.declared.Arrival.{Arrival}
@@ -52,6 +54,7 @@ use Rattle.how_many_spec.specs.declared.Counted.the-variants as N
 use Rattle.door_spec.specs.declared.RingsAnswer.{RingsAnswer}
 use Rattle.door_spec.specs.declared.RingsClass.{RingsClass}
 use Rattle.door_spec.specs.declared.RingsHome.{RingsHome}
+use Rattle.door_spec.specs.declared.RingsNearest.{RingsNearest}
 use Rattle.door_spec.specs.declared.RingsStep.{RingsStep}
 use Rattle.door_spec.specs.declared.RingsRecord.{RingsRecord}
 use Rattle.door_spec.specs.declared.RingsSector.{RingsSector}
@@ -145,6 +148,10 @@ flatClassified (K.Refused r) = record { refused = numberOf r; place = placeOf r;
 abbrev pub flatHomed : Homed → RingsHome
 flatHomed (H.Home i p) = record { refused = 0; place = 0; shift = i; period = p }
 flatHomed (H.Refused r) = record { refused = numberOf r; place = placeOf r; shift = 0; period = 0 }
+
+abbrev pub flatClosest : Closest → RingsNearest
+flatClosest (M.At d i) = record { refused = 0; place = 0; distance = d; shift = i }
+flatClosest (M.Refused r) = record { refused = numberOf r; place = placeOf r; distance = 0; shift = 0 }
 
 abbrev pub flatOutcome : Outcome → RingsStep
 flatOutcome (O.Moved m) = record { refused = 0; place = 0; moved = 1; moves = m }

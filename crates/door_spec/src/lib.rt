@@ -29,6 +29,15 @@ pub struct RingsHome {
     pub period: usize,
 }
 
+// How far apart two readings are, and by how many turns of the first they come so near.
+#[repr(C)]
+pub struct RingsNearest {
+    pub refused: usize,
+    pub place: usize,
+    pub distance: usize,
+    pub shift: usize,
+}
+
 // A step: moved 1 where there is a next ring, 0 where there is none, and the moves.
 #[repr(C)]
 pub struct RingsStep {
