@@ -1,6 +1,6 @@
-# What the scripts of this folder share, and .ci/door and .ci/stack with them; they read it with '.', after setting `top` to the repository's folder. It finds the
+# What the scripts of this folder share, and those of c/, .ci/door, .ci/stack and .ci/c with them; they read it with '.', after setting `top` to the repository's folder. It finds the
 # toolchain's parts and makes a room for what is built, which is removed at the end. Then: build_c, build_list and build_calls build, compile compiles without a proof,
-# keep_objects and frames tell the stack, run runs, count counts instructions.
+# keep_objects, frames and deepest tell the stack, run runs, count counts instructions.
 # Nothing but the toolchain is needed. Every path may have spaces.
 
 say() { printf '%s: %s\n' "$(basename "$0")" "$*" >&2; }
@@ -202,6 +202,22 @@ frames() {
     "$room/llvm-objdump" -d -r --no-show-raw-insn "$1" | awk '
         /^[0-9a-f]+ <.*>:$/ { caller = $2; gsub(/^<|>:$/, "", caller) }
         $2 == "R_X86_64_PLT32" { called = $3; sub(/^\.text\./, "", called); sub(/-0x[0-9a-f]+$/, "", called); print "call", caller, called }'
+}
+
+# deepest CALL: of such lines on standard input, the bytes of the deepest way down, with 8 for each return address on it. What the C library takes is not known, and counts for nothing.
+deepest() {
+    awk -v call="$1" '
+        function deep(f,    i, m, d, best) {
+            if (f in depth) return depth[f]
+            best = 0
+            m = split(calls[f], to, " ")
+            for (i = 1; i <= m; i++) list[f, i] = to[i]
+            for (i = 1; i <= m; i++) { d = deep(list[f, i]); if (d > best) best = d }
+            return depth[f] = best + (f in bytes ? 8 + bytes[f] : 0)
+        }
+        $1 == "frame" { bytes[$3] = $2 }
+        $1 == "call" && !(($2, $3) in seen) { calls[$2] = calls[$2] " " $3; seen[$2, $3] = 1 }
+        END { if (call in bytes) print deep(call); else print "none" }'
 }
 
 # ---- running and counting

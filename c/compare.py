@@ -1,0 +1,445 @@
+#!/usr/bin/env python3
+"""compare.py CRATES: every call of the library that is loaded (rings.py) on the cases of the repository's own runs, compared with their stored texts.
+
+The cases are the lines of crates/test_*/stdin, and the texts crates/test_*/stdout, which were written from the documents: what a program of evidence prints by the calls is printed
+here by the library. A case that C cannot put, a walk's record that no walk has made, is passed over, and counted. Where there are programs test_desk*, lines `VERB WORDS` and the
+text of each, their verbs are answered by the library too. Ends with 'N cases of M runs, F differ'."""
+import glob
+import os
+import struct
+import sys
+
+sys.path.insert(0, os.path.dirname(os.path.abspath(__file__)))
+import ctypes
+
+import rings
+
+PASS = object()
+
+
+# ---- words of a line, and texts, as the programs of evidence read and print them
+
+
+def sectors(word):
+    return bytes(ord(x) % 16 if x < "a" else ord(x) % 16 + 9 for x in word)
+
+
+def shown(data):
+    return "".join("%x" % x if x < 16 else "?" for x in data)
+
+
+def word(line, i):
+    words = line.split(" ")
+    return words[i] if i < len(words) else ""
+
+
+def number(line, i):
+    return int(word(line, i) or 0) % (1 << 64)
+
+
+def refused(e):
+    return f"refused {e.number} at {e.place}"
+
+
+def told(f, *arguments):
+    """what the call answers by `f`, or its refusal"""
+    try:
+        return f(*arguments)
+    except rings.Refused as e:
+        return refused(e)
+
+
+def lent(data):
+    return ctypes.create_string_buffer(bytes(data), len(data)) if data else None
+
+
+def held(buffer):
+    return buffer.raw if buffer else b""
+
+
+def class_text(c):
+    return "Single" if c.kind == "single" else f"{c.kind.capitalize()} {c.value}"
+
+
+# ---- the runs: each takes a line and gives the lines that it prints, or PASS where C cannot put the case
+
+
+def readings(line):
+    what, a = word(line, 0), sectors(word(line, 1))
+    if what == "class":
+        answer = told(lambda: class_text(rings.classify(a, number(line, 2))))
+    elif what == "even-handed":
+        answer = told(lambda: ("no", "yes")[rings.even_handed(a, number(line, 2))])
+    elif what == "stock":
+        answer = str(rings.stock_home(number(line, 1) % 256))
+    elif what == "home":
+        out = lent(sectors(word(line, 3)))
+        answer = told(lambda: "shift {0.shift} period {0.period}".format(rings._c_home(a, len(a), number(line, 2), out, len(word(line, 3))))) + " output " + shown(held(out))
+    elif what == "same":
+        answer = told(lambda: ("no", "yes")[rings.same(a, sectors(word(line, 2)), number(line, 3))])
+    else:
+        answer = told(lambda: str(rings.apart(a, sectors(word(line, 2)), number(line, 3))))
+    return [f"{line}: {answer}"]
+
+
+def home(line):
+    def one(s, k):
+        h = rings.home(s, k)
+        return f"{shown(s)} {h.shift} {h.period} {shown(h.ring)}"
+
+    s, many = sectors(word(line, 1)), number(line, 3)
+    if word(line, 0) == "all":
+        return [one(bytes(x >> i & 1 for i in reversed(range(len(s)))), 2) for x in range(many)]
+    return [one(s, many)]
+
+
+def home_apart(line):
+    a, b, x = sectors(word(line, 1)), sectors(word(line, 2)), number(line, 3)
+    if word(line, 0) == "all":
+        every = [bytes(x >> i & 1 for i in reversed(range(len(a)))) for x in range(x)]
+        every = [s for s in every if rings.home(s, 2).shift == 0]
+        return [" ".join([shown(s)] + [str(rings.apart(s, t, 2)) for t in every]) for s in every]
+    if word(line, 0) == "pair":
+        return [f"{len(a)}: {rings.apart(a, b, x)} {rings.apart(b, a, x)}"]
+    return PASS
+
+
+def bits(text):
+    return struct.unpack(">f", bytes.fromhex(text))[0]
+
+
+def density(line):
+    what, k = word(line, 0), number(line, 2)
+
+    def into(values, k, dark, light, out):
+        buffer = lent(out)
+        answer = told(lambda: rings._c_ring_shades((ctypes.c_float * len(values))(*values), len(values), k, dark, light, buffer, len(out)) and "written")
+        return answer + " output " + shown(held(buffer))
+
+    if what == "sector":
+        def sector():
+            s = rings.sector_shade(bits(word(line, 1)), k, bits(word(line, 3)), bits(word(line, 4)))
+            return f"outside {struct.pack('>f', s.value).hex()}" if s.kind == "outside" else f"shade {s.value}" if s.kind == "shade" else s.kind
+        answer = told(sector)
+    elif what == "ring":
+        answer = into([bits(x) for x in line.split(" ")[6:6 + number(line, 1)]], k, bits(word(line, 3)), bits(word(line, 4)), sectors(word(line, 5)))
+    else:
+        k = number(line, 1)
+        values = [struct.unpack("f", struct.pack("f", j / (k - 1)))[0] for j in range(k)] if 2 <= k else []
+        answer = PASS if not 2 <= k <= 65 else into(values, k, 0.0, 1.0, bytes([9] * len(values)))
+    return PASS if answer is PASS else [f"{line}: {answer}"]
+
+
+def strip(line):
+    if word(line, 0) == "write":
+        out = lent(b"\xff" * number(line, 1))
+        answer = told(lambda: rings._c_strip(number(line, 2), number(line, 3), out, number(line, 1)) and "strip")
+        return [answer + " " + shown(held(out))]
+    return [told(lambda: f"place {rings.place(sectors(word(line, 1)), number(line, 2))}")]
+
+
+def shades(line):
+    s, k, counts = sectors(word(line, 1)), number(line, 2), [int(x) for x in line.split(" ")[4:4 + number(line, 3)]]
+    if word(line, 0) == "after":
+        return [told(lambda: shown(rings.next_ring(s, k, counts) or b"") or "done")]
+    printed, many = [], 0
+    try:
+        ring = rings.first_ring(len(s), k, counts)
+        while ring is not None and many < 20000:
+            many += 1
+            if word(line, 0) == "list":
+                printed.append(shown(ring))
+            ring = rings.next_ring(ring, k, counts)
+        if ring is None:
+            printed.append("done")
+    except rings.Refused as e:
+        printed.append(refused(e))
+    return printed + [f"rings {many}"]
+
+
+def shades_left(line):
+    first = word(line, 0) == "first"
+    at = 1 if first else 2
+    out, k = lent(sectors(word(line, at))), number(line, at + 1)
+    m = len(word(line, at))
+    counts = [int(x) % (1 << 64) for x in line.split(" ")[at + 3:at + 3 + number(line, at + 2)]]
+    if first:
+        answer = told(lambda: rings._c_first_ring(k, *rings._counts(counts), out, m) and "ring")
+    else:
+        s = sectors(word(line, 1))
+        answer = told(lambda: ("done", "ring")[rings._c_next_ring(s, len(s), k, *rings._counts(counts), out, m).value])
+    return [answer + " output " + shown(held(out))]
+
+
+def walk(line):
+    what, s, k = word(line, 0), sectors(word(line, 1)), number(line, 2)
+    kinds = {"p": rings.next_prenecklace, "n": rings.next_necklace, "l": rings.next_lyndon}
+    if what == "made":
+        return PASS
+    try:
+        rings.next_prenecklace(s, k)
+    except rings.Refused as e:
+        return ["start " + refused(e) + " record 0 0 Loose 0"]
+
+    def marked(ring, marks):
+        if marks >= 10 and ring.count(1) != len(ring) // 2:
+            return []
+        kind = rings.classify(ring, k).kind
+        return [shown(ring) + {1: {"opening": " *"}, 2: {"repeating": " N", "single": " N L"}}.get(marks % 10, {}).get(kind, "")]
+
+    def follow(ring, marks, times):
+        printed = []
+        for _ in range(times):
+            ring = rings.next_prenecklace(ring, k).ring
+            if ring is None:
+                break
+            printed += marked(ring, marks)
+        return printed
+
+    if what == "list":
+        return marked(s, number(line, 3)) + follow(s, number(line, 3), 100)
+    if what == "from":
+        return follow(s, 1, number(line, 3))
+    step = kinds[word(line, 3)[0]]
+    if what == "count":
+        ring, many, total = s, 0, 0
+        while many < 10000:
+            moved = step(ring, k)
+            total += moved.moves
+            if moved.ring is None:
+                break
+            ring, many = moved.ring, many + 1
+        return [f"{word(line, 2)} {word(line, 4)} {word(line, 3)} {many} moves {total}"]
+    moved = step(s, k)
+    answer = f"{shown(moved.ring)} {class_text(rings.classify(moved.ring, k))} moves {moved.moves}" if moved.ring is not None else f"done moves {moved.moves}"
+    return [f"{word(line, 1)} {word(line, 3)} {answer}"]
+
+
+def walk_bracelet(line):
+    what, s, k = word(line, 0), sectors(word(line, 1)), number(line, 2)
+    if what == "altered":
+        return PASS
+
+    def arrival(ring):
+        v = rings.next_bracelet(ring, k)
+        return v, f"{shown(v)} {class_text(rings.classify(v, k))}" if v is not None else "done"
+
+    try:
+        arrival(s)
+    except rings.Refused as e:
+        return ["start " + refused(e)]
+    if what == "from":
+        ring, printed = s, [shown(s)]
+        for _ in range(number(line, 3)):
+            ring, said = arrival(ring)
+            printed.append(said)
+            if ring is None:
+                break
+        return printed
+    if what == "count":
+        ring, many = s, 0
+        while ring is not None:
+            ring, many = rings.next_bracelet(ring, k), many + 1
+        return [f"{shown(s)} {many}"]
+    ring, printed = s, []
+    while ring is not None:
+        printed.append(f"{shown(ring)} {arrival(ring)[1]}")
+        ring = rings.next_prenecklace(ring, k).ring
+    return printed
+
+
+def how_many(line):
+    k, n = number(line, 0), number(line, 1)
+    return [f"{k} {n}: {told(lambda: str(rings.necklaces(k, n)))}, {told(lambda: str(rings.lyndon_words(k, n)))}"]
+
+
+def how_many_first():
+    """every pair up to 2 to the power 16, by the calls and by a walk"""
+    printed = []
+    for k in range(2, 17):
+        for n in range(1, 17):
+            if k**n > 65536:
+                break
+            ring, met, single = bytes(n), 0, 0
+            while ring is not None:
+                met, single = met + 1, single + (rings.classify(ring, k).kind == "single")
+                ring = rings.next_necklace(ring, k).ring
+            same = rings.necklaces(k, n) == met and rings.lyndon_words(k, n) == single
+            printed.append(f"{k} {n} {met} {single}" if same else f"{k} {n} differ")
+    return printed
+
+
+def entry(catalogue, start, out, m):
+    a = rings._c_read_record(catalogue, len(catalogue), start, out, m)
+    return (f"{('front', 'packed')[a.kind - 1]} n {a.n} k {a.k} next {a.next}", a.next) if a.kind else ("end", start)
+
+
+def said(line):
+    return [line[4:]] if line.startswith("say") else None
+
+
+def catalogue(line):
+    def at(c, start, data):
+        out = lent(data)
+        try:
+            answer, next_ = entry(c, start, out, len(data))
+        except rings.Refused as e:
+            answer, next_ = refused(e), start
+        return f"at {start}: {answer}, output {shown(held(out))}", next_
+
+    what = word(line, 0)
+    if what == "at":
+        return [at(bytes.fromhex(word(line, 2)), number(line, 1), bytes([9] * 64))[0]]
+    if what == "into":
+        return [at(bytes.fromhex(word(line, 3)), number(line, 1), sectors(word(line, 2)))[0]]
+    c, start, printed = bytes.fromhex(word(line, 1)), 0, []
+    for _ in range(100):
+        answer, next_ = at(c, start, bytes([9] * 64))
+        printed.append(answer)
+        if next_ == start:
+            break
+        start = next_
+    return printed
+
+
+def writer(line):
+    k, at, s, data = number(line, 1), number(line, 2), sectors(word(line, 3)), bytes.fromhex(word(line, 4))
+    buffer, out = lent(data), lent(bytes([9] * 64))
+    call = rings._c_write_packed if word(line, 0) == "pack" else rings._c_write_front
+    try:
+        a = call(s, len(s), k, buffer, len(data), at)
+    except rings.Refused as e:
+        return [f"{refused(e)}: {held(buffer).hex()}"]
+    read = told(lambda: ", read " + entry(held(buffer), at, out, 64)[0])
+    return [f"after {a.value}: {held(buffer).hex()}{read} {shown(held(out))}"]
+
+
+def converter(line):
+    data, old = bytes.fromhex(word(line, 1)), bytes.fromhex(word(line, 2))
+    out = lent(data)
+    answer = told(lambda: rings._c_convert(old or None, len(old), out, len(data)) and "converted")
+    return [f"{held(out).hex()} {answer}"]
+
+
+def sets(line):
+    n, k, d, wanted = (number(line, i) for i in range(4))
+    try:
+        p = rings.pick(n, k, d, wanted)
+    except rings.Refused as e:
+        return [f"{refused(e)}, taken 0 not full, others 0"]
+    # `others` are the sectors beside those of the rings taken: an output that was not 0 before would show
+    out = lent(b"\xff" * 768)
+    rings._c_pick(n, k, d, wanted, out, 768)
+    others = sum(x != 0 for i, x in enumerate(held(out)) if not (i % 24 < n and i // 24 < len(p.rings)))
+    return [shown(r) for r in p.rings] + [f"taken {len(p.rings)} {'full' if p.full else 'not full'}, others {others}"]
+
+
+# ---- the desk: VERB WORDS, and the text of each line
+
+
+def desk(line):
+    def digits(text):
+        if not text or any(x not in "0123456789abcdef" for x in text):
+            raise ValueError
+        return bytes(int(x, 16) for x in text)
+
+    def decimal(text):
+        if not text.isdigit() or len(text) > 3 or (text[0] == "0" and text != "0"):
+            raise ValueError
+        return int(text)
+
+    def stepped(call):
+        def f(k, r):
+            a = call(r, k)
+            return f"next {shown(a.ring)} moves {a.moves}" if a.ring is not None else f"done moves {a.moves}"
+        return f
+
+    def homed(k, r):
+        h = rings.home(r, k)
+        return f"home {shown(h.ring)} shift {h.shift} period {h.period}"
+
+    def classed(k, r):
+        c = rings.classify(r, k)
+        return {"loose": f"loose at {c.value}", "single": "single"}.get(c.kind, f"{c.kind} {c.value}")
+
+    def bracelet(k, r):
+        v = rings.next_bracelet(r, k)
+        return f"next {shown(v)}" if v is not None else "done"
+
+    one = {"class": classed, "home": homed, "even": lambda k, r: ("no", "yes")[rings.even_handed(r, k)], "place": lambda k, r: f"place {rings.place(r, k)}",
+           "next": stepped(rings.next_necklace), "lyndon": stepped(rings.next_lyndon), "prenecklace": stepped(rings.next_prenecklace), "bracelet": bracelet}
+    two = {"same": lambda k, a, b: ("no", "yes")[rings.same(a, b, k)], "apart": lambda k, a, b: f"apart {rings.apart(a, b, k)}"}
+    verb, *words = line.split(" ")
+    try:
+        if verb in one and len(words) == 2:
+            return [told(one[verb], decimal(words[0]), digits(words[1]))]
+        if verb in two and len(words) == 3:
+            return [told(two[verb], decimal(words[0]), digits(words[1]), digits(words[2]))]
+        if verb == "many" and len(words) == 2:
+            k, n = map(decimal, words)
+            return [told(lambda: f"{rings.necklaces(k, n)} {rings.lyndon_words(k, n)}")]
+        if verb == "stock" and len(words) == 1 and decimal(words[0]) < 256:
+            return [str(rings.stock_home(int(words[0])))]
+        if verb == "strip" and len(words) == 2:
+            k, n = map(decimal, words)
+            return [told(lambda: shown(rings.strip(n, k)))]
+        if verb in ("first", "after"):
+            counts = [decimal(x) for x in words[-1].split(",")]
+            if verb == "first" and len(words) == 2:
+                return [told(lambda: "ring " + shown(rings.first_ring(sum(counts), decimal(words[0]), counts)))]
+            if verb == "after" and len(words) == 3:
+                ring = rings.next_ring(digits(words[1]), decimal(words[0]), counts)
+                return ["ring " + shown(ring) if ring is not None else "done"]
+    except rings.Refused as e:
+        return [refused(e)]
+    except (ValueError, IndexError):
+        pass
+    # a line that cannot be read, or a verb that is not the library's, is the desk's own
+    return PASS
+
+
+RUNS = {"test_readings": readings, "test_home": home, "test_home_apart": home_apart, "test_density": density, "test_strip": strip, "test_shades": shades,
+        "test_shades_left": shades_left, "test_walk": walk, "test_walk_bracelet": walk_bracelet, "test_how_many": how_many, "test_catalogue": catalogue, "test_writer": writer,
+        "test_converter": converter, "test_sets": sets}
+
+
+def run(name, answer, lines, expected):
+    """how many cases were compared, passed over, and differ"""
+    compared = passed = differ = at = 0
+    if name == "test_how_many":
+        printed = how_many_first()
+        compared, at = 1, len(printed)
+        differ += printed != expected[:at]
+    for line in lines:
+        got = said(line) if name in ("test_catalogue", "test_writer", "test_converter") else None
+        got = got or answer(line)
+        if got is PASS:
+            passed, at = passed + 1, at + 1
+            continue
+        compared += 1
+        if got != expected[at:at + len(got)]:
+            differ += 1
+            print(f"c: FAILED: {name}: {line[:120]}: {got[:2]} is not {expected[at:at + 2]}"[:600])
+        at += len(got)
+    if at != len(expected):
+        differ += 1
+        print(f"c: FAILED: {name}: {at} lines, and the stored text has {len(expected)}")
+    return compared, passed, differ
+
+
+def main():
+    crates = sys.argv[1]
+    runs = [(name, answer) for name, answer in RUNS.items()]
+    runs += [(os.path.basename(d), desk) for d in sorted(glob.glob(os.path.join(crates, "test_desk*"))) if os.path.exists(os.path.join(d, "stdin"))]
+    totals = [0, 0, 0]
+    for name, answer in runs:
+        lines = open(os.path.join(crates, name, "stdin"), encoding="latin-1", newline="\n").read().split("\n")
+        lines = lines[:-1] if lines[-1] == "" else lines
+        expected = open(os.path.join(crates, name, "stdout"), encoding="latin-1", newline="\n").read().split("\n")[:-1]
+        totals = [a + b for a, b in zip(totals, run(name, answer, lines, expected))]
+    print(f"c: {totals[0]} cases of {len(runs)} runs through the library, {totals[1]} that C cannot put passed over, {totals[2]} differ")
+    return bool(totals[2])
+
+
+if __name__ == "__main__":
+    sys.exit(main())

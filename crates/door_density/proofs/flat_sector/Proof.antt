@@ -1,0 +1,29 @@
+-- `door_density::flat_sector` meets its contract.
+use mathlib.Core.Path.{refl}
+use borrow.Author.Needs.{needs}
+use Rattle.door_density.proofs.flat_sector.Statement.{statement}
+use Rattle.door_density.proofs.flat_sector.Tie as tie
+
+enum-known-s : tie.Need-enum-known-s
+enum-known-s c = search needs
+
+cast-t5 : tie.Need-cast-t5
+cast-t5 c = search needs
+
+enum-known-s-2 : tie.Need-enum-known-s-2
+enum-known-s-2 c = search needs
+
+enum-told : tie.Need-enum-told
+enum-told c = search needs
+
+returns : tie.Need-returns
+returns c = rw (c .before .s .given .1) refl
+
+returns-2 : tie.Need-returns-2
+returns-2 c = rw (c .before .s2 .given .1) refl
+
+returns-3 : tie.Need-returns-3
+returns-3 c = rw (c .enum-told .given .1) refl
+
+pub flat-sector-spec : {M : Type 1} → statement M
+flat-sector-spec = tie.close (tie.spec enum-known-s cast-t5 enum-known-s-2 enum-told returns returns-2 returns-3)

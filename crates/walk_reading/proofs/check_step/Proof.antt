@@ -1,0 +1,47 @@
+-- `walk_reading::check_step` meets its contract.
+use mathlib.Core.Path.{sym, _∙_}
+use Rattle.walk_reading.proofs.Passing.{more-step, step-off, step-on}
+use borrow.Author.Needs.{needs}
+use Rattle.walk_reading.proofs.check_step.Statement.{statement}
+use Rattle.walk_reading.proofs.check_step.Tie as tie
+
+check-room-requires : tie.Need-check-room-requires
+check-room-requires c κs = search needs
+
+enum-known-r : tie.Need-enum-known-r
+enum-known-r c = search needs
+
+enum-told : tie.Need-enum-told
+enum-told c = search needs
+
+class-of-requires : tie.Need-class-of-requires
+class-of-requires c κs = search needs
+
+is-loose-requires : tie.Need-is-loose-requires
+is-loose-requires c κs = search needs
+
+loose-place-requires : tie.Need-loose-place-requires
+loose-place-requires c κs = search needs
+
+returns : tie.Need-returns
+returns c =
+    let g = c .before .before .before .before .before .before .before .before in
+    let class = c .before .before .before .class-of in
+    step-off (g .args .reading .now) (g .args .k) (g .args .room) (class .result)
+    (rw (c .before .before .before .before .enum-told .given .1) at (c .before .before .before .before .before .before .check-room .ensures)) (class .ensures)
+    (c .loose-place .result) (sym (c .before .before .is-loose .ensures) ∙ c .before .if1 .taken) (c .loose-place .ensures)
+
+returns-2 : tie.Need-returns-2
+returns-2 c =
+    let g = c .before .before .before .before .before in
+    more-step (g .args .reading .now) (g .args .k) (g .args .room) _ (rw (c .before .r .given .1) at (c .before .before .before .check-room .ensures))
+
+returns-3 : tie.Need-returns-3
+returns-3 c =
+    let g = c .before .before .before .before .before .before .before in
+    step-on (g .args .reading .now) (g .args .k) (g .args .room) (c .before .before .class-of .result)
+    (rw (c .before .before .before .enum-told .given .1) at (c .before .before .before .before .before .check-room .ensures)) (c .before .before .class-of .ensures)
+    (sym (c .before .is-loose .ensures) ∙ c .if1 .left)
+
+pub check-step-spec : {M : Type 1} → statement M
+check-step-spec = tie.close (tie.spec check-room-requires enum-known-r enum-told class-of-requires is-loose-requires loose-place-requires returns returns-2 returns-3)

@@ -1,0 +1,2 @@
+-- That a step from a lent reading has one answer (Unique).
+pub mod Unique

@@ -1,0 +1,2 @@
+-- Steps from a lent reading (Says).
+pub mod Says
