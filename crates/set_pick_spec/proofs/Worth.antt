@@ -4,6 +4,7 @@
 --     answer-worth       and are worth every sentence of `Worth`, with the answer's own 'full'
 --     answer-most        no more than wanted are taken
 --     guard-set, guard-worth, guard-most    the same of the guarded choice and `GuardedWorth`
+--     rule-most, rule-set                   no more than wanted are taken, and the places hold the choice, by either rule
 --     guard-uneven, guard-opposite          so no ring of a guarded answer is even-handed, and none is another's other side
 use Prim.Native.Nat.{ℕ, _<_, _≤_}
 use mathlib.Core.Path.{_≡_, sym, subst, _∙_}
@@ -18,7 +19,9 @@ use Rattle.set_spec.specs.Worth.{LyndonWords, Worth}
 use Rattle.set_spec.specs.Places.{setIn}
 use Rattle.set_laws.proofs.Worth.{picked-most, picked-worth}
 use Rattle.set_laws.proofs.Places.{place-laid, length-set-in, set-in-at}
-use Rattle.guard_spec.specs.Choice.{guarded, guardedLooked}
+use Rattle.guard_spec.specs.declared.Rule.{Rule}
+use Rattle.guard_spec.specs.declared.Rule.the-variants.{Plain, Guarded}
+use Rattle.guard_spec.specs.Choice.{guarded, guardedLooked, chosenBy}
 use Rattle.guard_spec.specs.Worth.{GuardedWorth}
 use Rattle.guard_laws.proofs.Sides.{none-mirrored, none-even}
 use Rattle.guard_laws.proofs.Worth.{guarded-most, guarded-worth}
@@ -67,3 +70,13 @@ module _ (n k d want : ℕ) (p : List ℕ) (t : ℕ) (f : Bool) (c : GuardChosen
   guard-opposite i j h l =
       none-mirrored n d (setIn n p t) some (λ x m. guard-worth .members x m .reading .long) (guard-worth .guarded .spread) (omega (arith, c .asked .settable .some-distance)) i j
       (omega (arith, length-set-in n p t)) (omega (arith, length-set-in n p t))
+
+-- ---- by either rule
+
+pub rule-most : (rule : Rule) (n k d want : ℕ) (p : List ℕ) (t : ℕ) (f : Bool) → SetChosen n k d want (chosenBy rule n k d want) p t f → t ≤ want
+rule-most Plain = answer-most
+rule-most Guarded = guard-most
+
+pub rule-set : (rule : Rule) (n k d want : ℕ) (p : List ℕ) (t : ℕ) (f : Bool) → SetChosen n k d want (chosenBy rule n k d want) p t f → setIn n p t ≡ chosenBy rule n k d want
+rule-set Plain = answer-set
+rule-set Guarded = guard-set

@@ -6,24 +6,25 @@ use mathlib.Core.Path.{_≡_, ap}
 use mathlib.Core.List.{List}
 use native.Mathlib.Omega.{arith}
 use lib.ListN.{length, take}
-use Rattle.set_text_spec.specs.Prints.{Printed}
+use Rattle.guard_spec.specs.declared.Rule.{Rule}
+use Rattle.set_text_spec.specs.Prints.{PrintedBy}
 use Rattle.set_text_spec.proofs.First.{printed-first}
 use Rattle.set_text_spec.proofs.Unique.{printed-inside, printed-length}
 use Rattle.program_reading_inner.specs.declared.Most.{Most}
 use Rattle.program_reading_inner.specs.declared.Most.the-variants as M
 use Rattle.set_program_inner.specs.Says.{lineBytes, InputSays}
 
-module _ (line b : List ℕ) (r : ℕ) (b′ : List ℕ) where
-  pub input-full : lineBytes ≤ length line → Printed line b r b′ → InputSays M.Full line b r b′
-  input-full h p = record { inside = printed-inside line b r b′ p; long = printed-length line b r b′ p; output = λ s e. printed-first (length line) s h b r b′ (rw e p) }
+module _ (rule : Rule) (line b : List ℕ) (r : ℕ) (b′ : List ℕ) where
+  pub input-full : lineBytes ≤ length line → PrintedBy rule line b r b′ → InputSays rule M.Full line b r b′
+  input-full h p = record { inside = printed-inside rule line b r b′ p; long = printed-length rule line b r b′ p; output = λ s e. printed-first rule (length line) s h b r b′ (rw e p) }
 
-  pub input-ended : (got : ℕ) → Printed (take got line) b r b′ → InputSays (M.Ended got) line b r b′
-  input-ended got p = record { inside = printed-inside (take got line) b r b′ p; long = printed-length (take got line) b r b′ p; output = p }
+  pub input-ended : (got : ℕ) → PrintedBy rule (take got line) b r b′ → InputSays rule (M.Ended got) line b r b′
+  input-ended got p = record { inside = printed-inside rule (take got line) b r b′ p; long = printed-length rule (take got line) b r b′ p; output = p }
 
-  pub input-by : (most m : Most) → most ≡ m → InputSays m line b r b′ → InputSays most line b r b′
+  pub input-by : (most m : Most) → most ≡ m → InputSays rule m line b r b′ → InputSays rule most line b r b′
   input-by most m e p = rw e p
 
-  pub input-inside : (most : Most) → InputSays most line b r b′ → (r ≤ length b) × (length b′ ≡ length b)
+  pub input-inside : (most : Most) → InputSays rule most line b r b′ → (r ≤ length b) × (length b′ ≡ length b)
   input-inside M.Full p = (p .inside, p .long)
   input-inside (M.Ended got) p = (p .inside, p .long)
   input-inside M.Failed p = (omega (arith, p .0), ap length (p .1))

@@ -5,7 +5,8 @@ use Prim.Native.Nat.{ℕ, _≤_}
 use mathlib.Core.Path.{_≡_}
 use mathlib.Core.List.{List}
 use lib.ListN.{length, take}
-use Rattle.set_text_spec.specs.Prints.{Printed}
+use Rattle.guard_spec.specs.declared.Rule.{Rule}
+use Rattle.set_text_spec.specs.Prints.{PrintedBy}
 use Rattle.program_reading_inner.specs.declared.Most.{Most}
 use Rattle.program_reading_inner.specs.declared.Most.the-variants as M
 use Rattle.program_reading_inner.specs.Says.{Begins}
@@ -19,7 +20,7 @@ pub record OutputOf (P : Type 0) (b : List ℕ) (r : ℕ) (b′ : List ℕ) : Ty
   pub long : length b′ ≡ length b
   pub output : P
 
-abbrev pub InputSays : Most → List ℕ → List ℕ → ℕ → List ℕ → Type 0
-InputSays M.Full line b r b′ = OutputOf ((s : List ℕ) → Begins s line → Printed s b r b′) b r b′
-InputSays (M.Ended got) line b r b′ = OutputOf (Printed (take got line) b r b′) b r b′
-InputSays M.Failed line b r b′ = (r ≡ 0) × (b′ ≡ b)
+abbrev pub InputSays : Rule → Most → List ℕ → List ℕ → ℕ → List ℕ → Type 0
+InputSays rule M.Full line b r b′ = OutputOf ((s : List ℕ) → Begins s line → PrintedBy rule s b r b′) b r b′
+InputSays rule (M.Ended got) line b r b′ = OutputOf (PrintedBy rule (take got line) b r b′) b r b′
+InputSays rule M.Failed line b r b′ = (r ≡ 0) × (b′ ≡ b)

@@ -12,22 +12,22 @@ use Rattle.set_program_inner.proofs.output_of_input.Tie as tie
 enum-told : tie.Need-enum-told
 enum-told c = search needs
 
-print-set-requires : tie.Need-print-set-requires
-print-set-requires c κs = search needs
+print-by-requires : tie.Need-print-by-requires
+print-by-requires c κs = search needs
 
 enum-known-most : tie.Need-enum-known-most
 enum-known-most c = search needs
 
-slice-aggregate-print-set : tie.Need-slice-aggregate-print-set
-slice-aggregate-print-set c =
+slice-aggregate-print-by : tie.Need-slice-aggregate-print-by
+slice-aggregate-print-by c =
     let most = c .before .before .most in
     let args = c .before .before .before .before .before .before .args in
     let pre = c .before .before .before .before .before .before .pre in
     let m : MostSays (Ended (most .given .0 .0)) (args .line .now) = rw (most .given .1) at (pre .1) in
     simp length-take (omega (arith, m))
 
-print-set-requires-2 : tie.Need-print-set-requires-2
-print-set-requires-2 c κs = search needs
+print-by-requires-2 : tie.Need-print-by-requires-2
+print-by-requires-2 c κs = search needs
 
 enum-told-2 : tie.Need-enum-told-2
 enum-told-2 c = search needs
@@ -40,8 +40,8 @@ returns c =
     let args = c .before .before .before .before .before .before .before .before .args in
     let enum-told = c .before .before .before .before .enum-told in
     let pre = c .before .before .before .before .before .before .before .before .pre in
-    let print-set = c .before .before .print-set in
-    input-by _ _ _ _ (args .most) Full (enum-told .given .1) (input-full (args .line .now) (args .buf .now) _ _ (pre .0) (print-set .ensures))
+    let print-by = c .before .before .print-by in
+    input-by (args .rule) _ _ _ _ (args .most) Full (enum-told .given .1) (input-full (args .rule) (args .line .now) (args .buf .now) _ _ (pre .0) (print-by .ensures))
 
 same-length-2 : tie.Need-same-length-2
 same-length-2 c = search needs
@@ -50,24 +50,24 @@ returns-2 : tie.Need-returns-2
 returns-2 c =
     let most = c .before .before .before .before .before .before .most in
     let args = c .before .before .before .before .before .before .before .before .before .before .args in
-    let print-set2 = c .before .before .print-set2 in
+    let print-by2 = c .before .before .print-by2 in
     let n = most .given .0 .0 in
-    input-by _ _ _ _ (args .most) (Ended n) (most .given .1) (input-ended (args .line .now) (args .buf .now) _ _ n (print-set2 .ensures))
+    input-by (args .rule) _ _ _ _ (args .most) (Ended n) (most .given .1) (input-ended (args .rule) (args .line .now) (args .buf .now) _ _ n (print-by2 .ensures))
 
 returns-3 : tie.Need-returns-3
 returns-3 c =
     let args = c .before .before .before .before .args in
-    input-by (args .line .now) _ _ _ (args .most) Failed (c .enum-told2 .given .1) (refl, refl)
+    input-by (args .rule) (args .line .now) _ _ _ (args .most) Failed (c .enum-told2 .given .1) (refl, refl)
 
 pub output-of-input-spec : {M : Type 1} → statement M
 output-of-input-spec =
     tie.close
     (tie.spec
     enum-told
-    print-set-requires
+    print-by-requires
     enum-known-most
-    slice-aggregate-print-set
-    print-set-requires-2
+    slice-aggregate-print-by
+    print-by-requires-2
     enum-told-2
     same-length
     returns

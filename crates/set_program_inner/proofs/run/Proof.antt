@@ -30,14 +30,14 @@ array-share-prefix-buf c =
     let read-most = c .before .before .before .before .before .before .read-most in
     let output-of-input = c .before .output-of-input in
     let buffer′ = c .before .before .before .before .buffer in
-    omega (arith, input-inside _ _ _ _ (read-most .result) (output-of-input .ensures), buffer′ .ensures)
+    omega (arith, input-inside _ _ _ _ _ (read-most .result) (output-of-input .ensures), buffer′ .ensures)
 
 slice-aggregate-write-all : tie.Need-slice-aggregate-write-all
 slice-aggregate-write-all c =
     let read-most = c .before .before .before .before .before .before .before .read-most in
     let output-of-input = c .before .before .output-of-input in
     let buffer′ = c .before .before .before .before .before .buffer in
-    let i = input-inside _ _ _ _ (read-most .result) (output-of-input .ensures) in
+    let i = input-inside _ _ _ _ _ (read-most .result) (output-of-input .ensures) in
     simp length-take (omega (arith, i, buffer′ .ensures))
 
 write-all-requires : tie.Need-write-all-requires

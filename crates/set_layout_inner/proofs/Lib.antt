@@ -1,0 +1,2 @@
+-- The places one after another (Laying).
+pub mod Laying

@@ -1,0 +1,2 @@
+-- No two answers fit, the output included (Unique).
+pub mod Unique

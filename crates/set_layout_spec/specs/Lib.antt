@@ -1,0 +1,2 @@
+-- What laying out a set promises (Layout).
+pub mod Layout

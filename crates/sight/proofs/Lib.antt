@@ -1,0 +1,2 @@
+-- What was seen, where the checks have passed (Passing).
+pub mod Passing

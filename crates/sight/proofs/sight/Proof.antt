@@ -1,0 +1,29 @@
+-- `sight::sight` meets its contract: what the checks answer, or else what is seen.
+use borrow.Author.Needs.{needs}
+use Rattle.sight.proofs.Passing.{passed-seen}
+use Rattle.sight.proofs.sight.Statement.{statement}
+use Rattle.sight.proofs.sight.Tie as tie
+
+check-rings-requires : tie.Need-check-rings-requires
+check-rings-requires c κs = search needs
+
+enum-known-r : tie.Need-enum-known-r
+enum-known-r c = search needs
+
+enum-told : tie.Need-enum-told
+enum-told c = search needs
+
+look-requires : tie.Need-look-requires
+look-requires c κs = let g = rw (c .enum-told .given .1) at (c .before .before .check-rings .ensures) in g .0 .0 .0
+
+returns : tie.Need-returns
+returns c = rw (c .before .r .given .1) at (c .before .before .before .check-rings .ensures)
+
+returns-2 : tie.Need-returns-2
+returns-2 c =
+    let a = c .before .before .before .before .before .before .args in
+    passed-seen (a .rings .now) (a .reading .now) (a .k) (a .most) (c .look .result) (rw (c .before .enum-told .given .1) at (c .before .before .before .check-rings .ensures)) (c .look .ensures)
+
+pub sight-spec : {M : Type 1} → statement M
+sight-spec =
+    tie.close (tie.spec check-rings-requires enum-known-r enum-told look-requires returns returns-2)

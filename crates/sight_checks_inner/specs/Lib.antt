@@ -1,0 +1,2 @@
+-- What the check of the sectors promises (Says).
+pub mod Says

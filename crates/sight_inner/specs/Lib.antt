@@ -1,0 +1,2 @@
+-- What the inner functions promise (Says).
+pub mod Says
