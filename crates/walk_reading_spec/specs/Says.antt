@@ -4,7 +4,7 @@
 --     StepFromSays kind w k b r c  to the least of the kind above w, with the prenecklaces passed on the way
 --     BraceletFromSays w k b r c   to the least bracelet above w, which tells no moves
 -- Where there is none above, and where it refuses, nothing is written. That no two answers fit, the output included: proofs/Unique. That it is a start from the reading and then
--- the step from the start's record: `walk_reading`.
+-- the step from the start's record: `walk_reading`, proofs/AsWalk.
 use Prim.Native.Nat.{ℕ}
 use mathlib.Core.Path.{_≡_, refl}
 use mathlib.Core.Bool.{Bool}
