@@ -4,6 +4,7 @@
 use Prim.Native.Nat.{ℕ}
 use mathlib.Core.Path.{_≡_, refl}
 use mathlib.Core.List.{List, [], _∷_}
+use Rattle.words.specs.Table.{Hold}
 use Rattle.rings.specs.Open.{open-all}
 use Rattle.record_spec.specs.Layout.{sectorsOf}
 use Rattle.record_spec.proofs.Cases.{backRecord, frontRecord}
@@ -22,11 +23,10 @@ table =
     shows (0x52 ∷ 0x42 ∷ 3 ∷ 3 ∷ 0 ∷ 2 ∷ 1 ∷ []) back (0 ∷ 1 ∷ 2 ∷ []) ∷
     shows (0x52 ∷ 0x42 ∷ 4 ∷ 2 ∷ 0 ∷ 1 ∷ 0 ∷ 1 ∷ []) back (0 ∷ 1 ∷ 0 ∷ 1 ∷ []) ∷ []
 
--- every row holds
-unfoldable pub Hold : List Case → Type 0
-Hold [] = Unit
-Hold (shows t x v ∷ rows) = (SideMarked t x × (frontRing x (sectorsOf t) ≡ v)) × Hold rows
+-- what a row says
+unfoldable pub Holds : Case → Type 0
+Holds (shows t x v) = SideMarked t x × (frontRing x (sectorsOf t) ≡ v)
 
-pub records-shown : Hold table
-unfolding table Hold open-all
+pub records-shown : Hold Holds table
+unfolding table Hold Holds open-all
 records-shown = (((refl, refl), refl), (((refl, refl), refl), (((refl, refl), refl), (((refl, refl), refl), tt))))

@@ -8,6 +8,7 @@ use Prim.Native.Nat.{ℕ}
 use mathlib.Core.Path.{_≡_, refl}
 use mathlib.Core.List.{List, [], _∷_, _++_}
 use lib.ListN.{replicate, drop}
+use Rattle.words.specs.Table.{Hold}
 use Rattle.words.specs.Search.{least}
 use Rattle.packing_spec.specs.Open.{open-packing}
 use Rattle.rings.specs.Open.{open-all}
@@ -112,13 +113,12 @@ table =
     answers (pack 0 99 []) 0 64 (Refused (Length 2)) ∷
     answers (pack 6 17 []) 0 64 (Refused (Shades 3)) ∷ []
 
--- every row holds
-unfoldable pub Hold : List Case → Type 0
-Hold [] = Unit
-Hold (answers c s m r ∷ rows) = (entryOf c s m ≡ r) × Hold rows
-Hold (shows x c s v ∷ rows) = (storedRing x (drop s c) ≡ v) × Hold rows
-Hold (stores x k w c ∷ rows) = (recordBytes x k w ≡ c) × Hold rows
+-- what a row says
+unfoldable pub Holds : Case → Type 0
+Holds (answers c s m r) = entryOf c s m ≡ r
+Holds (shows x c s v) = storedRing x (drop s c) ≡ v
+Holds (stores x k w c) = recordBytes x k w ≡ c
 
-pub records-read : Hold table
-unfolding table Hold open-all open-packing entryOf recordEntry refusedOr readTests recordTests behindTests begins known kindByMark answer unless orElse failing within least
+pub records-read : Hold Holds table
+unfolding table Hold Holds open-all open-packing entryOf recordEntry refusedOr readTests recordTests behindTests begins known kindByMark answer unless orElse failing within least
 records-read = (refl, (refl, (refl, (refl, (refl, (refl, (refl, (refl, (refl, (refl, (refl, (refl, (refl, (refl, (refl, (refl, (refl, (refl, (refl, (refl, (refl, (refl, (refl, (refl, (refl, (refl, (refl, (refl, (refl, (refl, (refl, (refl, (refl, (refl, (refl, (refl, (refl, (refl, (refl, (refl, (refl, (refl, (refl, (refl, (refl, (refl, (refl, (refl, (refl, tt)))))))))))))))))))))))))))))))))))))))))))))))))
