@@ -1,2 +1,2 @@
--- The table of specs/Cases holds (Table).
-pub mod Table
+-- Sectors packed by hand, as one table (Cases).
+pub mod Cases

@@ -1,4 +1,4 @@
--- The definitions stay shut. `unfolding open-packing` opens them all at once, for the places that compute packed bytes: the table of specs/Cases, and tables of records.
+-- The definitions stay shut. `unfolding open-packing` opens them all at once, for the places that compute packed bytes: the table of proofs/Cases, and tables of records.
 use Prim.Native.Nat.{ℕ}
 use Rattle.words.specs.Search.{least}
 use Rattle.packing_spec.specs.Width.{width}

@@ -6,7 +6,7 @@ use mathlib.Core.List.{List, [], _∷_}
 use Rattle.words.specs.Table.{Hold}
 use Rattle.rings.specs.Necklace.{necklace, lyndon}
 use Rattle.rings.specs.Open.{open-all}
-use Rattle.rings.specs.Cases.{digits, ring}
+use Rattle.rings.proofs.Cases.{digits, ring}
 use Rattle.ring_ceiling_laws.specs.Ceiling.{stepMoves, lyndonCeiling, necklaceCeiling}
 use Rattle.ring_ceiling_laws.specs.Notched.{notch, notched, lyndonStart, necklaceStart}
 

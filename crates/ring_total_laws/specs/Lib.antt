@@ -1,4 +1,3 @@
--- When a reading is a turn of another (Turns), what it means that every reading has one ring (OneRing), and small walks as a table (Cases).
+-- When a reading is a turn of another (Turns), and what it means that every reading has one ring (OneRing).
 pub mod Turns
 pub mod OneRing
-pub mod Cases

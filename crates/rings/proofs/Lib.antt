@@ -1,1 +1,2 @@
-pub mod Table
+-- The hand-checked rings, as one table (Cases).
+pub mod Cases

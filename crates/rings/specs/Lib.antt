@@ -7,7 +7,6 @@
 --     Next           the next prenecklace, as the page builds it
 --     Counts         shade counts
 --     Steps          the next reading of a kind, the moves to it, a full walk
---     Cases          the hand-checked rings, as one table
 pub mod Necklace
 pub mod Prenecklace
 pub mod Class
@@ -17,4 +16,3 @@ pub mod Next
 pub mod Counts
 pub mod Steps
 pub mod Open
-pub mod Cases

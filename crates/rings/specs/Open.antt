@@ -1,5 +1,5 @@
 -- The definitions stay shut, so that nothing computes 16 ^ 64 readings by accident. `unfolding open-all` opens them all at once, for the
--- one place that computes rings: the table of specs/Cases.
+-- one place that computes rings: the table of proofs/Cases.
 use Prim.Native.Nat.{ℕ}
 use Rattle.words.specs.Search.{allBelow, someBelow, least, greatest, tab}
 use Rattle.words.specs.Order.{before, upTo, same}

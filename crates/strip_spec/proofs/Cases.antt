@@ -4,7 +4,7 @@ use Prim.Native.Nat.{ℕ, _^_}
 use mathlib.Core.Path.{_≡_, refl}
 use mathlib.Core.List.{List, [], _∷_}
 use Rattle.words.specs.Table.{Hold}
-use Rattle.rings.specs.Cases.{digits, ring}
+use Rattle.rings.proofs.Cases.{digits, ring}
 use Rattle.strip_spec.specs.Strip.{dictionary, stripWords, strip}
 use Rattle.strip_spec.specs.Places.{window, occurrences}
 use Rattle.strip_spec.specs.Open.{open-strips}

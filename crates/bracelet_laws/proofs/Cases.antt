@@ -1,15 +1,17 @@
--- Bracelets, beginnings and small walks: one table, one claim, which proofs/Table computes. A row's readings are decimal numerals, as in the table of `rings`.
+-- Bracelets, beginnings and small walks: one table, one claim. A row's readings are decimal numerals, as in the table of `rings`.
 -- A row for a walk shows two things of the rings that it names: they are those of the full walk by bracelets from the all-zero ring; and of each reading, in
 -- increasing order, the ring or its mirror image is 1 of them, the all-zero ring included.
 use Prim.Native.Nat.{ℕ, _^_}
-use mathlib.Core.Path.{_≡_}
+use mathlib.Core.Path.{_≡_, refl}
 use mathlib.Core.Bool.{Bool, true, false}
 use mathlib.Core.List.{List, [], _∷_, map}
 use lib.ListN.{replicate}
 use Rattle.words.specs.Readings.{readings, count}
+use Rattle.words.specs.Table.{Hold}
 use Rattle.rings.specs.Alike.{bracelet}
-use Rattle.rings.specs.Steps.{howMany, zeros, FullWalk}
-use Rattle.rings.specs.Cases.{ring}
+use Rattle.rings.specs.Steps.{howMany, zeros, FullWalk, done, step}
+use Rattle.rings.proofs.Cases.{ring, digits}
+use Rattle.rings.specs.Open.{open-all}
 use Rattle.bracelet_laws.specs.Pairs.{ofPair}
 use Rattle.bracelet_laws.specs.Beginnings.{filled, tried}
 
@@ -46,3 +48,35 @@ table =
     walked 3 3 (001 ∷ 002 ∷ 011 ∷ 012 ∷ 022 ∷ 111 ∷ 112 ∷ 122 ∷ 222 ∷ []) ∷
     walked 6 2 (000001 ∷ 000011 ∷ 000101 ∷ 000111 ∷ 001001 ∷ 001011 ∷ 001111 ∷ 010101 ∷ 010111 ∷ 011011 ∷ 011111 ∷ 111111 ∷ []) ∷
     []
+
+-- the one claim
+pub cases : Hold Holds table
+unfolding digits ring ofPair filled tried Holds Hold table open-all
+cases = (
+  refl,
+  (
+    refl,
+    (
+      refl,
+      (
+        refl,
+        (
+          refl,
+          (
+            refl,
+            (
+              refl,
+              (
+                ((_, step refl (done refl)), refl),
+                (
+                  ((_, step refl (step refl (step refl (step refl (step refl (step refl (step refl (step refl (step refl (done refl)))))))))), refl),
+                  (((_, step refl (step refl (step refl (step refl (step refl (step refl (step refl (step refl (step refl (step refl (step refl (step refl (done refl))))))))))))), refl), tt),
+                ),
+              ),
+            ),
+          ),
+        ),
+      ),
+    ),
+  ),
+)

@@ -1,15 +1,17 @@
--- Turns and small walks: one table, one claim, which proofs/Table computes. A row's readings are decimal numerals, as in the table of `rings`.
+-- Turns and small walks: one table, one claim. A row's readings are decimal numerals, as in the table of `rings`.
 -- A row for a walk shows three things of the rings that it names: they are those of the full walk from the all-zero ring; each reading, in increasing
 -- order, is a turn of 1 of them, the all-zero ring included; and the periods of them all add up to k ^ n.
 use Prim.Native.Nat.{ℕ, _^_}
-use mathlib.Core.Path.{_≡_}
+use mathlib.Core.Path.{_≡_, refl}
 use mathlib.Core.Bool.{Bool, true, false}
 use mathlib.Core.List.{List, [], _∷_, map}
 use lib.ListN.{replicate}
 use Rattle.words.specs.Readings.{readings}
+use Rattle.words.specs.Table.{Hold}
 use Rattle.rings.specs.Necklace.{necklace}
-use Rattle.rings.specs.Steps.{zeros, FullWalk}
-use Rattle.rings.specs.Cases.{ring}
+use Rattle.rings.specs.Steps.{zeros, FullWalk, done, step}
+use Rattle.rings.proofs.Cases.{ring, digits}
+use Rattle.rings.specs.Open.{open-all}
 use Rattle.ring_total_laws.specs.Turns.{isTurn}
 use Rattle.ring_total_laws.specs.OneRing.{ringsOf, PeriodsAddUp}
 
@@ -39,3 +41,29 @@ table =
     walked 2 3 (01 ∷ 02 ∷ 11 ∷ 12 ∷ 22 ∷ []) ∷
     walked 4 2 (0001 ∷ 0011 ∷ 0101 ∷ 0111 ∷ 1111 ∷ []) ∷
     []
+
+-- the one claim
+pub cases : Hold Holds table
+unfolding digits ring isTurn Holds Hold table open-all
+cases = (
+  refl,
+  (
+    refl,
+    (
+      refl,
+      (
+        refl,
+        (
+          ((_, step refl (done refl)), refl, refl),
+          (
+            ((_, step refl (step refl (step refl (done refl)))), refl, refl),
+            (
+              ((_, step refl (step refl (step refl (step refl (step refl (done refl)))))), refl, refl),
+              (((_, step refl (step refl (step refl (step refl (step refl (done refl)))))), refl, refl), tt),
+            ),
+          ),
+        ),
+      ),
+    ),
+  ),
+)
