@@ -3,9 +3,12 @@
 
 The cases are the lines of crates/test_*/stdin, and the texts crates/test_*/stdout, which were written from the documents: what a program of evidence prints by the calls is printed
 here by the library. A case that C cannot put, a walk's record that no walk has made, is passed over, and counted. Where there are programs test_desk*, lines `VERB WORDS` and the
-text of each, their verbs are answered by the library too. Ends with 'N cases of M runs, F differ'."""
+text of each, their verbs are answered by the library too. The calls that no run has, `nearest`, `pick_guarded`
+and `sight`, are tried by their definitions. Ends with 'N cases of M runs .. F differ'."""
 import glob
+import itertools
 import os
+import random
 import struct
 import sys
 
@@ -403,6 +406,64 @@ RUNS = {"test_readings": readings, "test_home": home, "test_home_apart": home_ap
         "test_converter": converter, "test_sets": sets}
 
 
+# ---- calls that have no run of their own: by their definitions, tried out turn by turn
+
+
+def by_definition():
+    """how many cases of `nearest`, `pick_guarded` and `sight` were compared, and differ"""
+
+    def turns(w):
+        return [w[i:] + w[:i] for i in range(len(w))]
+
+    def differing(v, w):
+        return sum(x != y for x, y in zip(v, w))
+
+    def nearest(v, w):
+        return min((differing(t, w), i) for i, t in enumerate(turns(v)))
+
+    def mirrored(w):
+        return min(turns(w[::-1]))
+
+    def clear(d, taken, w):
+        return all(nearest(t, w)[0] >= d for t in taken)
+
+    def guarded(n, k, d, want):
+        taken = []
+        for w in map(bytes, itertools.product(range(k), repeat=n)):
+            lyndon = all(w < t for t in turns(w)[1:])
+            if lyndon and len(taken) < want and clear(d, taken, w) and clear(d, taken + [w], mirrored(w)) and all(differing(t, w) >= d for t in turns(w)[1:]):
+                taken.append(w)
+        return taken, len(taken) == want
+
+    def sight(targets, r, most):
+        near = [i for i, t in enumerate(targets + [mirrored(t) for t in targets]) if nearest(r, t)[0] <= most]
+        if len(near) != 1:
+            return ("several" if near else "unknown", None, None, None)
+        side, i = divmod(near[0], len(targets))
+        return (("front", "back")[side], i, nearest(r[::-1] if side else r, targets[i])[1], nearest(r, mirrored(targets[i]) if side else targets[i])[0])
+
+    compared, differ = 0, 0
+
+    def same(what, got, expected):
+        nonlocal compared, differ
+        compared += 1
+        if got != expected:
+            differ += 1
+            print(f"c: FAILED: {what}: {got} is not {expected}")
+
+    chance = random.Random(1)
+    for _ in range(400):
+        n, k = chance.randint(1, 9), chance.randint(2, 4)
+        v, w = (bytes(chance.randrange(k) for _ in range(n)) for _ in range(2))
+        same(f"nearest {shown(v)} {shown(w)}", tuple(rings.nearest(v, w, k)), nearest(v, w))
+        targets = [min(turns(bytes(chance.randrange(k) for _ in range(n)))) for _ in range(chance.randint(0, 4))]
+        most = chance.randint(0, 3)
+        same(f"sight {[shown(t) for t in targets]} {shown(v)} {most}", tuple(rings.sight(targets, v, k, most)), sight(targets, v, most))
+    for n, k, d, want in [(n, k, d, want) for n in range(1, 7) for k in (2, 3) for d in range(1, n + 1) for want in (1, 3, 32)] + [(8, 2, 2, 32), (9, 2, 2, 5)]:
+        same(f"pick_guarded {n} {k} {d} {want}", tuple(rings.pick_guarded(n, k, d, want)), guarded(n, k, d, want))
+    return compared, differ
+
+
 def run(name, answer, lines, expected):
     """how many cases were compared, passed over, and differ"""
     compared = passed = differ = at = 0
@@ -437,7 +498,9 @@ def main():
         lines = lines[:-1] if lines[-1] == "" else lines
         expected = open(os.path.join(crates, name, "stdout"), encoding="latin-1", newline="\n").read().split("\n")[:-1]
         totals = [a + b for a, b in zip(totals, run(name, answer, lines, expected))]
-    print(f"c: {totals[0]} cases of {len(runs)} runs through the library, {totals[1]} that C cannot put passed over, {totals[2]} differ")
+    tried, wrong = by_definition()
+    totals[2] += wrong
+    print(f"c: {totals[0]} cases of {len(runs)} runs through the library, {totals[1]} that C cannot put passed over, and {tried} cases by their definitions: {totals[2]} differ")
     return bool(totals[2])
 
 

@@ -89,5 +89,11 @@ int main(void) {
     p = rings_pick_guarded(4, 3, 1, 9, set, sizeof set);
     for (size_t i = 0; i < p.taken; i++) show(i ? "" : "guarded", set + 24 * i, 4);
     printf(" full %zu\n", p.full);
+    const uint8_t rings[12] = {0, 0, 1, 2, 0, 1, 1, 2, 0, 1, 2, 2}, seen[2][4] = {{1, 2, 0, 0}, {1, 0, 0, 2}};
+    for (size_t i = 0; i < 2; i++) {
+        struct rings_sighting v = rings_sight(rings, 12, seen[i], 4, 3, 0);
+        printf("seen: kind %zu target %zu shift %zu misread %zu\n", v.kind, v.target, v.shift, v.misread);
+    }
+    printf("seen: kind %zu\n", rings_sight(rings, 12, seen[0], 4, 3, 4).kind);
     return 0;
 }

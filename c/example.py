@@ -16,6 +16,7 @@ print(rings.text(rings.strip(3, 2)), rings.place("110", 2), rings.necklaces(2, 4
 chosen = rings.pick(8, 2, 3, 32)
 print([rings.text(ring) for ring in chosen.rings], chosen.full)
 print([rings.text(ring) for ring in rings.pick_guarded(4, 3, 1, 3).rings])
+print(rings.sight(["0012", "0112", "0122"], "1200", k=3, most=0), rings.sight(["0012", "0112"], "0000", 3, 0))
 for call in (lambda: rings.home("0120", k=2), lambda: rings.next_lyndon("10", k=2), lambda: rings.home("", k=2), lambda: rings.strip(4, 16), lambda: rings.pick(8, 2, 9, 1)):
     try:
         call()

@@ -64,12 +64,15 @@ int main(int argc, char **argv) {
         size_t k = below(8) ? 2 + below(15) : below(20), n = below(67), room = below(6) ? n : below(70), most = most_of(k);
         struct lent s = lend(n, most), t = lend(below(4) ? n : below(67), most), out;
         struct rings_answer a;
-        calls += 19;
+        calls += 20;
         rings_classify(s.at, n, k);
         rings_same(s.at, n, t.at, t.n, k);
         rings_even_handed(s.at, n, k);
         rings_apart(s.at, n, t.at, t.n, k);
         rings_nearest(s.at, n, t.at, t.n, k);
+        struct lent many_rings = lend(below(6) ? n * below(4) : below(200), most);
+        rings_sight(many_rings.at, many_rings.n, s.at, n, k, below(8));
+        back("rings_sight", many_rings, 0, 0);
         if (below(8) == 0) rings_place(s.at, n, k);
 
         out = lend(room, 256);

@@ -19,7 +19,7 @@ import ctypes
 import os
 from collections import namedtuple
 
-__all__ = ["Refused", "REFUSALS", "version", "text", "classify", "home", "stock_home", "same", "even_handed", "apart", "nearest", "next_prenecklace", "next_necklace", "next_lyndon", "next_bracelet",
+__all__ = ["Refused", "REFUSALS", "version", "text", "classify", "home", "stock_home", "same", "even_handed", "apart", "nearest", "sight", "next_prenecklace", "next_necklace", "next_lyndon", "next_bracelet",
            "walk", "first_ring", "next_ring", "read_record", "records", "write_front", "write_packed", "convert", "sector_shade", "ring_shades", "strip", "place", "necklaces", "lyndon_words", "pick", "pick_guarded"]
 
 #: The names of the refusals by their numbers, 1 to 17.
@@ -38,6 +38,7 @@ class Refused(ValueError):
 Class = namedtuple("Class", "kind value")
 Home = namedtuple("Home", "ring shift period")
 Nearest = namedtuple("Nearest", "distance shift")
+Sighting = namedtuple("Sighting", "kind target shift misread")
 Step = namedtuple("Step", "ring moves")
 Record = namedtuple("Record", "ring k kind next")
 Shade = namedtuple("Shade", "kind value")
@@ -65,7 +66,7 @@ def _answer(*names):
 
 
 _VALUE, _CLASS, _HOME, _STEP = _answer("value"), _answer("kind", "value"), _answer("shift", "period"), _answer("moved", "moves")
-_NEAREST = _answer("distance", "shift")
+_NEAREST, _SIGHTING = _answer("distance", "shift"), _answer("kind", "target", "shift", "misread")
 _RECORD, _SECTOR, _SET = _answer("kind", "n", "k", "next"), _answer("kind", "shade", "outside"), _answer("taken", "full")
 
 
@@ -92,6 +93,7 @@ _c_same = _function("same", _VALUE, _P, _N, *_READING)
 _c_even_handed = _function("even_handed", _VALUE, *_READING)
 _c_apart = _function("apart", _VALUE, _P, _N, *_READING)
 _c_nearest = _function("nearest", _NEAREST, _P, _N, *_READING)
+_c_sight = _function("sight", _SIGHTING, _P, _N, *_READING, _N)
 _c_next_prenecklace = _function("next_prenecklace", _STEP, *_READING, _P, _N)
 _c_next_necklace = _function("next_necklace", _STEP, *_READING, _P, _N)
 _c_next_lyndon = _function("next_lyndon", _STEP, *_READING, _P, _N)
@@ -181,6 +183,15 @@ def nearest(a, b, k):
     a, b = _bytes(a), _bytes(b)
     c = _c_nearest(a, len(a), b, len(b), _number(k))
     return Nearest(c.distance, c.shift)
+
+
+def sight(rings, reading, k, most):
+    """Which ring of a list a reading shows with at most `most` sectors misread: ('front' or 'back', its number, the turns, the sectors misread), or ('several', None, None, None) or
+    ('unknown', None, None, None). The rings are a sequence of readings as long as the reading, or bytes that hold them end to end. Refuses by 1, 10, 2, 3."""
+    s = _bytes(reading)
+    whole = rings if type(rings) is bytes else b"".join(map(_bytes, rings))
+    a = _c_sight(whole, len(whole), s, len(s), _number(k), _number(most))
+    return Sighting(("front", "back")[a.kind - 1], a.target, a.shift, a.misread) if a.kind in (1, 2) else Sighting("several" if a.kind == 3 else "unknown", None, None, None)
 
 
 def _step(call, reading, k):

@@ -89,6 +89,17 @@ struct rings_nearest {
     size_t shift;
 };
 
+/* what is seen of a set: kind 1 one ring from the front, 2 one ring from behind: its number in the set from 0 on, how many left turns bring the reading, or the reading reversed where it is
+ * seen from behind, nearest to it, and how many sectors then differ; 3 several rings or sides, 0 none, where the other numbers are 0 */
+struct rings_sighting {
+    size_t refused;
+    size_t place;
+    size_t kind;
+    size_t target;
+    size_t shift;
+    size_t misread;
+};
+
 /* a step: moved 1 and the moves to the ring that is in the output, or moved 0, where there is none, and the moves that were left */
 struct rings_step {
     size_t refused;
@@ -146,6 +157,10 @@ struct rings_answer rings_apart(const uint8_t *a, size_t n, const uint8_t *b, si
 
 /* The same number in distance, and the turns in shift. Refuses by 1, 10, 2, 3. a and b may overlap. */
 struct rings_nearest rings_nearest(const uint8_t *a, size_t n, const uint8_t *b, size_t m, size_t k);
+
+/* Which of the rings, n sectors each and end to end in `rings`, the reading of n sectors shows with at most `most` sectors misread, and from which side. Refuses by 1, by 10
+ * where `bytes` is no multiple of n, by 2, and by 3, where the places of the rings' sectors count on from n. `rings` and `reading` may overlap. */
+struct rings_sighting rings_sight(const uint8_t *rings, size_t bytes, const uint8_t *reading, size_t n, size_t k, size_t most);
 
 /* ---- walks: from ring to ring, in increasing order. Each function writes to the n bytes of `out` the least ring of its kind above the reading, which has to be a prenecklace;
  * where there is none it writes nothing. The first of a walk is n times 0. They refuse by 1, 2, 3, 4, 5. */

@@ -24,6 +24,8 @@ use Rattle.home_spec.specs.declared.Distance.{Distance}
 use Rattle.home_spec.specs.declared.Distance.the-variants as D
 use Rattle.home_spec.specs.declared.Closest.{Closest}
 use Rattle.home_spec.specs.declared.Closest.the-variants as M
+use Rattle.sight_spec.specs.declared.Sighting.{Sighting}
+use Rattle.sight_spec.specs.declared.Sighting.the-variants as Y
 use Rattle.walk_spec.specs.declared.Outcome.{Outcome}
 use Rattle.walk_spec.specs.declared.Outcome.the-variants as O
 use Rattle.walk_bracelet_spec.specs.declared.Arrival.{Arrival}
@@ -55,6 +57,7 @@ use Rattle.how_many_spec.specs.declared.Counted.the-variants as N
 use Rattle.door_spec.specs.declared.RingsAnswer.{RingsAnswer}
 use Rattle.door_spec.specs.declared.RingsClass.{RingsClass}
 use Rattle.door_spec.specs.declared.RingsHome.{RingsHome}
+use Rattle.door_spec.specs.declared.RingsSighting.{RingsSighting}
 use Rattle.door_spec.specs.declared.RingsStep.{RingsStep}
 use Rattle.door_spec.specs.declared.RingsRecord.{RingsRecord}
 use Rattle.door_spec.specs.declared.RingsSector.{RingsSector}
@@ -62,7 +65,7 @@ use Rattle.door_spec.specs.declared.RingsSet.{RingsSet}
 use Rattle.door_spec.specs.declared.SetLaid.{SetLaid}
 use Rattle.door_spec.specs.declared.SetLaid.the-variants as G
 use Rattle.door_spec.specs.Flat.{flatTold, flatDistance, flatArrival, flatFirst, flatNext, flatWritten, flatConversion, flatRingRead, flatStrip, flatPosition, flatCounted}
-use Rattle.door_spec.specs.Flat.{classNumber, classValue, flatClassified, flatHomed, flatClosest, flatOutcome, flatEntry, flatSectorRead, flatLaid}
+use Rattle.door_spec.specs.Flat.{classNumber, classValue, flatClassified, flatHomed, flatClosest, flatSighting, flatOutcome, flatEntry, flatSectorRead, flatLaid}
 
 -- ---- refusals
 
@@ -169,6 +172,16 @@ homed-back (H.Refused r) = refusal-back H.Refused (H.Home 0 0) r
 pub closest-back : (a : Closest) → back M.Refused (M.At (flatClosest a .distance) (flatClosest a .shift)) (flatClosest a .refused) (flatClosest a .place) ≡ a
 closest-back (M.At d i) = refl
 closest-back (M.Refused r) = refusal-back M.Refused (M.At 0 0) r
+
+abbrev pub sightingOf : RingsSighting → Sighting
+sightingOf r = getD (Y.Unknown ∷ Y.Front (r .target) (r .shift) (r .misread) ∷ Y.Back (r .target) (r .shift) (r .misread) ∷ Y.Several ∷ []) (r .kind) Y.Unknown
+
+pub sighting-back : (a : Sighting) → back Y.Refused (sightingOf (flatSighting a)) (flatSighting a .refused) (flatSighting a .place) ≡ a
+sighting-back (Y.Front t i x) = refl
+sighting-back (Y.Back t i x) = refl
+sighting-back Y.Several = refl
+sighting-back Y.Unknown = refl
+sighting-back (Y.Refused r) = refusal-back Y.Refused Y.Unknown r
 
 pub outcome-back : (a : Outcome) → back O.Refused (either (O.Done (flatOutcome a .moves)) (O.Moved (flatOutcome a .moves)) (flatOutcome a .moved)) (flatOutcome a .refused) (flatOutcome a .place) ≡ a
 outcome-back (O.Moved m) = refl

@@ -18,6 +18,8 @@ use Rattle.classify_spec.specs.Says.{ClassifySays}
 use Rattle.classify_spec.proofs.Unique.{one-answer}
 use Rattle.home_spec.specs.Says.{HomeSays, ToldSays, DistanceSays, ClosestSays}
 use Rattle.home_spec.proofs.Unique.{one-homed, one-told, one-distance, one-closest}
+use Rattle.sight_spec.specs.Says.{SightSays}
+use Rattle.sight_spec.proofs.Unique.{one-sight}
 use Rattle.walk_reading_spec.specs.Says.{StepFromSays, BraceletFromSays}
 use Rattle.walk_reading_spec.proofs.Unique.{one-step-from, one-bracelet-from}
 use Rattle.shades_spec.specs.Answers.{FirstSays, NextSays}
@@ -41,6 +43,7 @@ use Rattle.door_spec.specs.declared.RingsAnswer.{RingsAnswer}
 use Rattle.door_spec.specs.declared.RingsClass.{RingsClass}
 use Rattle.door_spec.specs.declared.RingsHome.{RingsHome}
 use Rattle.door_spec.specs.declared.RingsNearest.{RingsNearest}
+use Rattle.door_spec.specs.declared.RingsSighting.{RingsSighting}
 use Rattle.door_spec.specs.declared.RingsStep.{RingsStep}
 use Rattle.door_spec.specs.declared.RingsRecord.{RingsRecord}
 use Rattle.door_spec.specs.declared.RingsSector.{RingsSector}
@@ -48,7 +51,7 @@ use Rattle.door_spec.specs.declared.RingsSet.{RingsSet}
 use Rattle.door_spec.specs.declared.SetLaid.{SetLaid}
 use Rattle.door_spec.specs.declared.SetLaid.the-variants.{Set, Refused}
 use Rattle.door_spec.specs.Flat.{Flat, flatTold, flatDistance, flatArrival, flatFirst, flatNext, flatWritten, flatConversion, flatRingRead, flatStrip, flatPosition, flatCounted}
-use Rattle.door_spec.specs.Flat.{flatClassified, flatHomed, flatClosest, flatOutcome, flatEntry, cardOf, flatSectorRead, flatLaid}
+use Rattle.door_spec.specs.Flat.{flatClassified, flatHomed, flatClosest, flatSighting, flatOutcome, flatEntry, cardOf, flatSectorRead, flatLaid}
 use Rattle.door_spec.specs.Sets.{layOrder, LaidSays}
 
 -- a call without an output
@@ -140,6 +143,9 @@ module _ (o u v : List ℕ) where
   pub one-c-pick : (n k d want : ℕ) (ts : List (List ℕ)) (r q : RingsSet) →
       Flat (λ a. LaidSays n k d want ts o a u) flatLaid r → Flat (λ a. LaidSays n k d want ts o a v) flatLaid q → (r ≡ q) × (u ≡ v)
   one-c-pick n k d want ts = one-flat-out (LaidSays n k d want ts o) flatLaid (one-laid n k d want ts o) u v
+
+pub one-c-sight : (rs w : List ℕ) (k e : ℕ) (r q : RingsSighting) → Flat (SightSays rs w k e) flatSighting r → Flat (SightSays rs w k e) flatSighting q → r ≡ q
+one-c-sight rs w k e = one-flat (SightSays rs w k e) flatSighting (one-sight rs w k e)
 
 pub one-c-sector-shade : (x : Float) (k : ℕ) (d l : Float) (r q : RingsSector) → Flat (SectorSays x k (cardOf d l)) flatSectorRead r → Flat (SectorSays x k (cardOf d l)) flatSectorRead q → r ≡ q
 one-c-sector-shade x k d l = one-flat (SectorSays x k (cardOf d l)) flatSectorRead (one-sector x k (cardOf d l))

@@ -22,6 +22,8 @@ use Rattle.home_spec.specs.declared.Distance.{Distance}
 use Rattle.home_spec.specs.declared.Distance.the-variants as D
 use Rattle.home_spec.specs.declared.Closest.{Closest}
 use Rattle.home_spec.specs.declared.Closest.the-variants as M
+use Rattle.sight_spec.specs.declared.Sighting.{Sighting}
+use Rattle.sight_spec.specs.declared.Sighting.the-variants as Y
 use Rattle.walk_spec.specs.declared.Outcome.{Outcome}
 use Rattle.walk_spec.specs.declared.Outcome.the-variants as O
 use Rattle.walk_bracelet_spec.specs.declared.Arrival.{Arrival}
@@ -55,6 +57,7 @@ use Rattle.door_spec.specs.declared.RingsAnswer.{RingsAnswer}
 use Rattle.door_spec.specs.declared.RingsClass.{RingsClass}
 use Rattle.door_spec.specs.declared.RingsHome.{RingsHome}
 use Rattle.door_spec.specs.declared.RingsNearest.{RingsNearest}
+use Rattle.door_spec.specs.declared.RingsSighting.{RingsSighting}
 use Rattle.door_spec.specs.declared.RingsStep.{RingsStep}
 use Rattle.door_spec.specs.declared.RingsRecord.{RingsRecord}
 use Rattle.door_spec.specs.declared.RingsSector.{RingsSector}
@@ -152,6 +155,16 @@ flatHomed (H.Refused r) = record { refused = numberOf r; place = placeOf r; shif
 abbrev pub flatClosest : Closest → RingsNearest
 flatClosest (M.At d i) = record { refused = 0; place = 0; distance = d; shift = i }
 flatClosest (M.Refused r) = record { refused = numberOf r; place = placeOf r; distance = 0; shift = 0 }
+
+abbrev pub sighted : ℕ → ℕ → ℕ → ℕ → RingsSighting
+sighted kind t i x = record { refused = 0; place = 0; kind = kind; target = t; shift = i; misread = x }
+
+abbrev pub flatSighting : Sighting → RingsSighting
+flatSighting (Y.Front t i x) = sighted 1 t i x
+flatSighting (Y.Back t i x) = sighted 2 t i x
+flatSighting Y.Several = sighted 3 0 0 0
+flatSighting Y.Unknown = sighted 0 0 0 0
+flatSighting (Y.Refused r) = record { refused = numberOf r; place = placeOf r; kind = 0; target = 0; shift = 0; misread = 0 }
 
 abbrev pub flatOutcome : Outcome → RingsStep
 flatOutcome (O.Moved m) = record { refused = 0; place = 0; moved = 1; moves = m }

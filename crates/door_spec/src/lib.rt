@@ -38,6 +38,17 @@ pub struct RingsNearest {
     pub shift: usize,
 }
 
+// What is seen of a set: kind 1 a ring from the front, 2 one from behind, 3 several, 0 none; of one ring its number, the turns and the sectors misread.
+#[repr(C)]
+pub struct RingsSighting {
+    pub refused: usize,
+    pub place: usize,
+    pub kind: usize,
+    pub target: usize,
+    pub shift: usize,
+    pub misread: usize,
+}
+
 // A step: moved 1 where there is a next ring, 0 where there is none, and the moves.
 #[repr(C)]
 pub struct RingsStep {

@@ -1,0 +1,74 @@
+-- `door_sight::flat_sighting` meets its contract.
+use mathlib.Core.Path.{refl}
+use borrow.Author.Needs.{needs}
+use Rattle.door_sight.proofs.flat_sighting.Statement.{statement}
+use Rattle.door_sight.proofs.flat_sighting.Tie as tie
+
+enum-known-a : tie.Need-enum-known-a
+enum-known-a c = search needs
+
+flat-one-requires : tie.Need-flat-one-requires
+flat-one-requires c κs = search needs
+
+enum-known-a-2 : tie.Need-enum-known-a-2
+enum-known-a-2 c = search needs
+
+flat-one-requires-2 : tie.Need-flat-one-requires-2
+flat-one-requires-2 c κs = search needs
+
+enum-told : tie.Need-enum-told
+enum-told c = search needs
+
+flat-one-requires-3 : tie.Need-flat-one-requires-3
+flat-one-requires-3 c κs = search needs
+
+enum-told-2 : tie.Need-enum-told-2
+enum-told-2 c = search needs
+
+flat-one-requires-4 : tie.Need-flat-one-requires-4
+flat-one-requires-4 c κs = search needs
+
+enum-known-a-3 : tie.Need-enum-known-a-3
+enum-known-a-3 c = search needs
+
+number-requires : tie.Need-number-requires
+number-requires c κs = search needs
+
+place-requires : tie.Need-place-requires
+place-requires c κs = search needs
+
+returns : tie.Need-returns
+returns c = rw (c .before .before .a .given .1, c .flat-one .ensures) refl
+
+returns-2 : tie.Need-returns-2
+returns-2 c = rw (c .before .before .a2 .given .1, c .flat-one2 .ensures) refl
+
+returns-3 : tie.Need-returns-3
+returns-3 c = rw (c .before .enum-told .given .1, c .flat-one3 .ensures) refl
+
+returns-4 : tie.Need-returns-4
+returns-4 c = rw (c .before .enum-told2 .given .1, c .flat-one4 .ensures) refl
+
+returns-5 : tie.Need-returns-5
+returns-5 c = rw (c .before .before .before .a3 .given .1, c .place .ensures, c .before .number .ensures) refl
+
+pub flat-sighting-spec : {M : Type 1} → statement M
+flat-sighting-spec =
+    tie.close
+    (tie.spec
+    enum-known-a
+    flat-one-requires
+    enum-known-a-2
+    flat-one-requires-2
+    enum-told
+    flat-one-requires-3
+    enum-told-2
+    flat-one-requires-4
+    enum-known-a-3
+    number-requires
+    place-requires
+    returns
+    returns-2
+    returns-3
+    returns-4
+    returns-5)
