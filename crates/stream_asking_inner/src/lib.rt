@@ -13,16 +13,16 @@ pub enum Kind {
 
 // How many bytes of a line tell.
 pub fn kept_bytes(kind: Kind) -> usize
-    ensures { λ r. ⌜ (r ≡ mostOf kind) × (r ≤ 256) ⌝ }
+    ensures { λ r. ⌜ (r ≡ mostOf kind) × (r ≤ 4096) ⌝ }
 {
     match kind {
         Kind::Count => 9,
     }
 }
 
-// How long a block may be: a large buffer has room for the text of a line for each of its bytes.
-pub fn block_length(kind: Kind) -> usize
-    ensures { λ r. ⌜ (1 ≤ r) × (r ≤ 2048) × (r * roomOf kind ≤ 65536) ⌝ }
+// How many bytes are taken at a time: a large buffer has room for the text of a line for each of them.
+pub fn piece_length(kind: Kind) -> usize
+    ensures { λ r. ⌜ (1 ≤ r) × (r * roomOf kind ≤ 65536) ⌝ }
 {
     match kind {
         Kind::Count => 2048,
