@@ -1,0 +1,2 @@
+-- A number and what stands behind it (Heads).
+pub mod Heads
