@@ -12,6 +12,7 @@ use Rattle.text_spec.specs.Text.{hexOf}
 use Rattle.text_spec.proofs.Digits.{decimal-one}
 use Rattle.words.proofs.Split.{lt, eq, gt, tri}
 use Rattle.text_words_spec.specs.Words.{PieceAt, Nibbles, Spelt}
+use Rattle.line_spec.proofs.Lines.{fields-one}
 use Rattle.text_words_spec.proofs.Pieces.{first-same, behind-same}
 use Rattle.text_words_spec.proofs.Spelling.{spelt-one}
 use Rattle.desk_spec.specs.declared.Verb.{Verb}
@@ -46,11 +47,7 @@ module _ (t : List ℕ) where
       λ i. (x i, y i, z i)
 
   pub one-numbers : (p q : ℕ × ℕ) → ReadsNumbers t p → ReadsNumbers t q → p ≡ q
-  one-numbers (j, m) (k, n) a b =
-      let e = sym (a .words) ∙ b .words in
-      let x : j ≡ k = decimal-one j k (first-same _ _ _ _ e) in
-      let y : m ≡ n = decimal-one m n (first-same _ _ _ _ (behind-same _ _ _ _ e)) in
-      λ i. (x i, y i)
+  one-numbers (j, m) (k, n) a b = let e = fields-one j m k n (sym (a .words) ∙ b .words) in λ i. (e .0 i, e .1 i)
 
   pub one-byte : (b c : ℕ) → ReadsByte t b → ReadsByte t c → b ≡ c
   one-byte b c x y = decimal-one b c (sym (x .words) ∙ y .words)

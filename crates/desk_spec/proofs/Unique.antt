@@ -1,48 +1,30 @@
 -- A line prints one text.
 --     one-shows       an answer that is promised once prints one text
 --     one-asked       where a text asks one question, and a question prints one text, the text prints one
---     one-about, one-both, one-step, one-many    a question prints one text
+--     one-about, one-both, one-many    a question prints one text
 --     one-verb        and so does what stands behind a verb
 --     one-answer      and a line
 use Prim.Native.Nat.{ℕ}
 use mathlib.Core.Path.{_≡_, refl, sym, ap, _∙_}
-use mathlib.Core.Bool.{Bool}
 use mathlib.Core.List.{List}
 use lib.ListN.{length}
 use Rattle.rings.specs.Alike.{sameRing, evenHanded}
 use Rattle.rings.specs.Necklace.{necklace, lyndon}
-use Rattle.rings.specs.Prenecklace.{prenecklace}
-use Rattle.refusal.specs.declared.Refusal.{Refusal}
-use Rattle.refusal.specs.declared.Checked.{Checked}
-use Rattle.refusal.specs.declared.Checked.the-variants as G
-use Rattle.refusal.specs.Calls.{oneReading, twoReadings, walkStart}
-use Rattle.refusal.proofs.Unique.{one-refusal, never-both}
+use Rattle.refusal.specs.Calls.{oneReading, twoReadings}
 use Rattle.classify_spec.proofs.Unique.{one-answer as one-class}
 use Rattle.home_spec.specs.declared.Homed.{Homed}
 use Rattle.home_spec.proofs.Unique.{one-homed, one-told, one-distance}
 use Rattle.strip_spec.proofs.Unique.{one-telling}
-use Rattle.walk_spec.specs.declared.Walk.{Walk}
-use Rattle.walk_spec.specs.declared.Outcome.{Outcome}
-use Rattle.walk_spec.specs.declared.Started.{Started}
-use Rattle.walk_spec.specs.declared.Stepped.{Stepped}
-use Rattle.walk_spec.proofs.Unique as walk-one
-use Rattle.walk_bracelet_spec.specs.declared.Arrival.{Arrival}
-use Rattle.walk_bracelet_spec.specs.declared.Arrived.{Arrived}
-use Rattle.walk_bracelet_spec.proofs.Unique.{one-arrival}
 use Rattle.how_many_spec.specs.declared.Counted.{Counted}
 use Rattle.how_many_spec.proofs.Unique.{one-count}
-use Rattle.stock_spec.specs.Stock.{homeByte}
 use Rattle.desk_spec.specs.declared.About.{About}
 use Rattle.desk_spec.specs.declared.About.the-variants.{Class, Home, Even, Place}
 use Rattle.desk_spec.specs.declared.Both.{Both}
 use Rattle.desk_spec.specs.declared.Both.the-variants.{Same, Apart}
-use Rattle.desk_spec.specs.declared.Step.{Step}
-use Rattle.desk_spec.specs.declared.Step.the-variants.{Next, Lyndon, Prenecklace, Bracelet}
 use Rattle.desk_spec.specs.declared.Verb.{Verb}
 use Rattle.desk_spec.specs.declared.Verb.the-variants as Asks
-use Rattle.desk_spec.specs.Questions.{ReadsReading, ReadsPair, ReadsNumbers, ReadsByte, Asked, good, bad}
-use Rattle.desk_spec.specs.Texts.{refusalText, stepText, arrivalText}
-use Rattle.desk_spec.specs.Answers.{Shows, AboutSays, BothSays, FromStart, stays, goes, Moves, Arrives, StepSays, ManySays, VerbSays, LineReads, Answers, blank}
+use Rattle.desk_spec.specs.Questions.{Asked, good, bad}
+use Rattle.desk_spec.specs.Answers.{Shows, AboutSays, BothSays, ManySays, VerbSays, Answers, blank}
 use Rattle.desk_spec.proofs.Questions.{one-reading, one-pair, one-numbers, one-byte, one-line}
 
 -- an answer that is promised once
@@ -70,29 +52,6 @@ pub one-both : (v : Both) (k : ℕ) (a b t u : List ℕ) → BothSays v k a b t 
 one-both Same k a b t u x y = one-shows _ _ (one-told (twoReadings a b k) (sameRing a b)) t u x y
 one-both Apart k a b t u x y = one-shows _ _ (one-distance a b k) t u x y
 
--- ---- steps
-
-one-moves : (kind : List ℕ → Bool) (v : Walk) (t u : List ℕ) → Moves kind v t → Moves kind v u → t ≡ u
-one-moves kind v t u x y =
-    one-shows {A = Walk × Outcome} _ _ (λ a b p q. let e = walk-one.one-step kind v (a .0) (b .0) (a .1) (b .1) p q in λ i. (e i .walk, e i .outcome)) t u x y
-
-one-arrives : (v : Walk) (t u : List ℕ) → Arrives v t → Arrives v u → t ≡ u
-one-arrives v t u x y =
-    one-shows {A = Walk × Arrival} _ _ (λ a b p q. let e = one-arrival v (a .0) (b .0) (a .1) (b .1) p q in λ i. (e i .walk, e i .arrival)) t u x y
-
--- a walk that starts once
-one-start : (Goes : Walk → List ℕ → Type 0) → ((v : Walk) (t u : List ℕ) → Goes v t → Goes v u → t ≡ u) → (k : ℕ) (w t u : List ℕ) → FromStart Goes k w t → FromStart Goes k w u → t ≡ u
-one-start Goes one k w t u (stays v r p x) (stays v′ r′ q y) = let e = one-refusal (walkStart w k (prenecklace w)) r r′ (p .0) (q .0) in x ∙ ap refusalText e ∙ sym y
-one-start Goes one k w t u (stays v r p x) (goes v′ q y) = absurd (never-both (walkStart w k (prenecklace w)) r (p .0) (q .0))
-one-start Goes one k w t u (goes v p x) (stays v′ r q y) = absurd (never-both (walkStart w k (prenecklace w)) r (q .0) (p .0))
-one-start Goes one k w t u (goes v p x) (goes v′ q y) = let e : v ≡ v′ = p .1 ∙ sym (q .1) in one v′ t u (rw e at x) y
-
-pub one-step : (v : Step) (k : ℕ) (w t u : List ℕ) → StepSays v k w t → StepSays v k w u → t ≡ u
-one-step Next k w t u x y = one-start (Moves necklace) (one-moves necklace) k w t u x y
-one-step Lyndon k w t u x y = one-start (Moves lyndon) (one-moves lyndon) k w t u x y
-one-step Prenecklace k w t u x y = one-start (Moves prenecklace) (one-moves prenecklace) k w t u x y
-one-step Bracelet k w t u x y = one-start Arrives one-arrives k w t u x y
-
 -- ---- numbers
 
 pub one-many : (k n : ℕ) (t u : List ℕ) → ManySays k n t → ManySays k n u → t ≡ u
@@ -105,7 +64,6 @@ one-many k n t u x y =
 pub one-verb : (v : Verb) (s t u : List ℕ) → VerbSays v s t → VerbSays v s u → t ≡ u
 one-verb (Asks.About v) s t u x y = one-asked _ _ (one-reading s) (λ q. one-about v (q .0) (q .1)) t u x y
 one-verb (Asks.Both v) s t u x y = one-asked _ _ (one-pair s) (λ q. one-both v (q .0) (q .1) (q .2)) t u x y
-one-verb (Asks.Step v) s t u x y = one-asked _ _ (one-reading s) (λ q. one-step v (q .0) (q .1)) t u x y
 one-verb Asks.Many s t u x y = one-asked _ _ (one-numbers s) (λ q. one-many (q .0) (q .1)) t u x y
 one-verb Asks.Stock s t u x y = one-asked _ _ (one-byte s) (λ b a c p q. p ∙ sym q) t u x y
 

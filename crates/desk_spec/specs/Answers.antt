@@ -2,7 +2,6 @@
 --     Shows P f text          text is what an answer prints that the call promises
 --     AboutSays v k w text    what a question about one reading prints
 --     BothSays v k a b text   what a question about two readings prints
---     StepSays v k w text     what a step prints: of a walk that starts from the reading, where it can
 --     ManySays k n text       how many rings there are
 --     VerbSays v t text       what the text t behind a verb prints
 --     longestLine             a longer line is malformed
@@ -12,27 +11,17 @@
 -- That a line prints one text: proofs/Unique.
 use Prim.Native.Nat.{ℕ, _+_, _<_, _≤_}
 use mathlib.Core.Path.{_≡_}
-use mathlib.Core.Bool.{Bool}
 use mathlib.Core.List.{List}
 use lib.ListN.{length, take, drop, replicate}
 use Rattle.text_spec.specs.Ascii.{space}
 use Rattle.text_words_spec.specs.Words.{PieceAt}
 use Rattle.rings.specs.Necklace.{necklace, lyndon}
-use Rattle.rings.specs.Prenecklace.{prenecklace}
 use Rattle.rings.specs.Alike.{sameRing, evenHanded}
-use Rattle.refusal.specs.declared.Refusal.{Refusal}
-use Rattle.refusal.specs.declared.Checked.the-variants as G
 use Rattle.refusal.specs.Calls.{oneReading, twoReadings}
 use Rattle.classify_spec.specs.Says.{ClassifySays}
 use Rattle.home_spec.specs.Says.{HomeSays, ToldSays, DistanceSays}
 use Rattle.home_spec.specs.declared.Homed.{Homed}
 use Rattle.strip_spec.specs.Says.{PlaceSays}
-use Rattle.walk_spec.specs.declared.Walk.{Walk}
-use Rattle.walk_spec.specs.declared.Outcome.{Outcome}
-use Rattle.walk_spec.specs.Record.{ringOf}
-use Rattle.walk_spec.specs.Says as walks
-use Rattle.walk_bracelet_spec.specs.declared.Arrival.{Arrival}
-use Rattle.walk_bracelet_spec.specs.Says.{ArrivalSays}
 use Rattle.how_many_spec.specs.declared.Counted.{Counted}
 use Rattle.how_many_spec.specs.Says.{CountSays}
 use Rattle.stock_spec.specs.Stock.{homeByte}
@@ -40,14 +29,12 @@ use Rattle.desk_spec.specs.declared.About.{About}
 use Rattle.desk_spec.specs.declared.About.the-variants.{Class, Home, Even, Place}
 use Rattle.desk_spec.specs.declared.Both.{Both}
 use Rattle.desk_spec.specs.declared.Both.the-variants.{Same, Apart}
-use Rattle.desk_spec.specs.declared.Step.{Step}
-use Rattle.desk_spec.specs.declared.Step.the-variants.{Next, Lyndon, Prenecklace, Bracelet}
 use Rattle.desk_spec.specs.declared.Verb.{Verb}
 use Rattle.desk_spec.specs.declared.Verb.the-variants as Asks
 use Rattle.desk_spec.specs.declared.Found.the-variants.{Known}
 use Rattle.desk_spec.specs.Verbs.{verbOf}
 use Rattle.desk_spec.specs.Questions.{ReadsReading, ReadsPair, ReadsNumbers, ReadsByte, Asked}
-use Rattle.desk_spec.specs.Texts.{refusalText, classText, homeText, toldText, distanceText, placeText, stepText, arrivalText, manyText, stockText}
+use Rattle.desk_spec.specs.Texts.{classText, homeText, toldText, distanceText, placeText, manyText, stockText}
 
 -- text is what an answer prints that is promised
 pub record Shows {A : Type 0} (P : A → Type 0) (print : A → List ℕ) (text : List ℕ) : Type 0 where
@@ -73,27 +60,6 @@ abbrev pub BothSays : Both → ℕ → List ℕ → List ℕ → List ℕ → Ty
 BothSays Same k a b text = Shows (λ r. ToldSays (twoReadings a b k) (sameRing a b) r) toldText text
 BothSays Apart k a b text = Shows (λ r. DistanceSays a b k r) distanceText text
 
--- ---- a step
-
--- where the start is refused, its refusal; else what `Goes` says of the walk that it hands out
-pub data FromStart (Goes : Walk → List ℕ → Type 0) (k : ℕ) (w text : List ℕ) : Type 0 where
-  stays : (v : Walk) (r : Refusal) → walks.StartSays w k v (G.Refused r) → text ≡ refusalText r → FromStart Goes k w text
-  goes : (v : Walk) → walks.StartSays w k v G.Good → Goes v text → FromStart Goes k w text
-
--- a step to the next of a kind
-abbrev pub Moves : (List ℕ → Bool) → Walk → List ℕ → Type 0
-Moves kind v text = Shows {A = Walk × Outcome} (λ x. walks.StepSays kind v (x .0) (x .1)) (λ x. stepText (x .1) (ringOf (x .0))) text
-
--- a step to the next bracelet
-abbrev pub Arrives : Walk → List ℕ → Type 0
-Arrives v text = Shows {A = Walk × Arrival} (λ x. ArrivalSays v (x .0) (x .1)) (λ x. arrivalText (x .1) (ringOf (x .0))) text
-
-abbrev pub StepSays : Step → ℕ → List ℕ → List ℕ → Type 0
-StepSays Next k w text = FromStart (Moves necklace) k w text
-StepSays Lyndon k w text = FromStart (Moves lyndon) k w text
-StepSays Prenecklace k w text = FromStart (Moves prenecklace) k w text
-StepSays Bracelet k w text = FromStart Arrives k w text
-
 -- ---- numbers
 
 abbrev pub ManySays : ℕ → ℕ → List ℕ → Type 0
@@ -104,7 +70,6 @@ ManySays k n text = Shows {A = Counted × Counted} (λ x. CountSays necklace k n
 abbrev pub VerbSays : Verb → List ℕ → List ℕ → Type 0
 VerbSays (Asks.About v) t text = Asked (ReadsReading t) (λ q. AboutSays v (q .0) (q .1)) text
 VerbSays (Asks.Both v) t text = Asked (ReadsPair t) (λ q. BothSays v (q .0) (q .1) (q .2)) text
-VerbSays (Asks.Step v) t text = Asked (ReadsReading t) (λ q. StepSays v (q .0) (q .1)) text
 VerbSays Asks.Many t text = Asked (ReadsNumbers t) (λ q. ManySays (q .0) (q .1)) text
 VerbSays Asks.Stock t text = Asked (ReadsByte t) (λ b x. x ≡ stockText (homeByte b)) text
 

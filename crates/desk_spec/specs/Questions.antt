@@ -2,7 +2,7 @@
 --     Short k              k has at most three digits
 --     ReadsReading t q     t is k and a reading
 --     ReadsPair t q        t is k and two readings
---     ReadsNumbers t q     t is two numbers
+--     ReadsNumbers t q     t is two numbers, as the listing's line has them
 --     ReadsByte t b        t is a byte, in decimal
 --     Asked Reads Says     what a text prints that asks a question q of some shape, where `Says q` is what the question prints; a text that asks none is malformed
 -- That a text asks one question, and prints one text: proofs/Unique.
@@ -12,6 +12,7 @@ use mathlib.Core.List.{List, [], _∷_, map}
 use Rattle.text_spec.specs.Ascii.{space}
 use Rattle.text_spec.specs.Decimal.{decimal}
 use Rattle.text_spec.specs.Text.{hexOf}
+use Rattle.line_spec.specs.Line.{fields}
 use Rattle.text_words_spec.specs.Words.{pieces, Nibbles}
 use Rattle.desk_spec.specs.Texts.{malformedText}
 
@@ -35,7 +36,7 @@ pub record ReadsPair (t : List ℕ) (q : ℕ × List ℕ × List ℕ) : Type 0 w
 pub record ReadsNumbers (t : List ℕ) (q : ℕ × ℕ) : Type 0 where
   pub short : Short (q .0)
   pub second : Short (q .1)
-  pub words : pieces space t ≡ decimal (q .0) ∷ decimal (q .1) ∷ []
+  pub words : t ≡ fields (q .0) (q .1)
 
 -- a byte
 pub record ReadsByte (t : List ℕ) (b : ℕ) : Type 0 where

@@ -6,8 +6,6 @@
 --     toldText               yes; no
 --     distanceText           apart 2
 --     placeText              place 6
---     stepText o v           next 0111 moves 3, where v is the ring; done moves 0
---     arrivalText a v        next 001111; done
 --     manyText a b           6 3: the rings, and those that look different at each turn
 --     stockText b            23
 use Prim.Native.Nat.{ℕ}
@@ -30,10 +28,6 @@ use Rattle.home_spec.specs.declared.Distance.{Distance}
 use Rattle.home_spec.specs.declared.Distance.the-variants as D
 use Rattle.strip_spec.specs.declared.Position.{Position}
 use Rattle.strip_spec.specs.declared.Position.the-variants as P
-use Rattle.walk_spec.specs.declared.Outcome.{Outcome}
-use Rattle.walk_spec.specs.declared.Outcome.the-variants as O
-use Rattle.walk_bracelet_spec.specs.declared.Arrival.{Arrival}
-use Rattle.walk_bracelet_spec.specs.declared.Arrival.the-variants as A
 use Rattle.how_many_spec.specs.declared.Counted.{Counted}
 use Rattle.how_many_spec.specs.declared.Counted.the-variants as C
 
@@ -77,16 +71,6 @@ distanceText (D.Refused r) = refusalText r
 abbrev pub placeText : Position → List ℕ
 placeText (P.Place p) = plainText (ascii "place %\n") (p ∷ [])
 placeText (P.Refused r) = refusalText r
-
-abbrev pub stepText : Outcome → List ℕ → List ℕ
-stepText (O.Moved m) v = ringText (ascii "next @ moves %\n") (m ∷ []) v
-stepText (O.Done m) v = plainText (ascii "done moves %\n") (m ∷ [])
-stepText (O.Refused r) v = refusalText r
-
-abbrev pub arrivalText : Arrival → List ℕ → List ℕ
-arrivalText A.Moved v = ringText (ascii "next @\n") [] v
-arrivalText A.Done v = plainText (ascii "done\n") []
-arrivalText (A.Refused r) v = refusalText r
 
 abbrev pub manyText : Counted → Counted → List ℕ
 manyText (C.Rings x) (C.Rings y) = plainText (ascii "% %\n") (x ∷ y ∷ [])

@@ -1,15 +1,15 @@
 -- The verb of a word.
---     verbOf t      the verb whose name the word t is; each group of verbs has its own (aboutOf, bothOf, stepOf, countOf)
+--     isKnown f     it is a verb's name
+--     verbOf t      the verb whose name the word t is; each group of verbs has its own (aboutOf, bothOf, countOf)
 use Prim.Native.Nat.{ℕ}
-use mathlib.Core.Bool.{true, false}
+use mathlib.Core.Bool.{Bool, true, false}
 use mathlib.Core.List.{List}
 use Rattle.words.specs.Order.{same}
 use Rattle.text_spec.specs.Ascii.{ascii}
 use Rattle.desk_spec.specs.declared.About.the-variants.{Class, Home, Even, Place}
 use Rattle.desk_spec.specs.declared.Both.the-variants.{Same, Apart}
-use Rattle.desk_spec.specs.declared.Step.the-variants.{Next, Lyndon, Prenecklace, Bracelet}
 use Rattle.desk_spec.specs.declared.Verb.{Verb}
-use Rattle.desk_spec.specs.declared.Verb.the-variants.{About, Both, Step, Many, Stock}
+use Rattle.desk_spec.specs.declared.Verb.the-variants.{About, Both, Many, Stock}
 use Rattle.desk_spec.specs.declared.Found.{Found}
 use Rattle.desk_spec.specs.declared.Found.the-variants.{Known, Unknown}
 
@@ -22,19 +22,18 @@ abbrev pub orElse : Found → Found → Found
 orElse (Known v) next = Known v
 orElse Unknown next = next
 
+abbrev pub isKnown : Found → Bool
+isKnown (Known v) = true
+isKnown Unknown = false
+
 unfoldable pub aboutOf : List ℕ → Found
 aboutOf t = named t (ascii "class") (About Class) (named t (ascii "home") (About Home) (named t (ascii "even") (About Even) (named t (ascii "place") (About Place) Unknown)))
 
 unfoldable pub bothOf : List ℕ → Found
 bothOf t = named t (ascii "same") (Both Same) (named t (ascii "apart") (Both Apart) Unknown)
 
-unfoldable pub stepOf : List ℕ → Found
-stepOf t =
-    named t (ascii "next") (Step Next)
-    (named t (ascii "lyndon") (Step Lyndon) (named t (ascii "prenecklace") (Step Prenecklace) (named t (ascii "bracelet") (Step Bracelet) Unknown)))
-
 unfoldable pub countOf : List ℕ → Found
 countOf t = named t (ascii "many") Many (named t (ascii "stock") Stock Unknown)
 
 unfoldable pub verbOf : List ℕ → Found
-verbOf t = orElse (aboutOf t) (orElse (bothOf t) (orElse (stepOf t) (countOf t)))
+verbOf t = orElse (aboutOf t) (orElse (bothOf t) (countOf t))

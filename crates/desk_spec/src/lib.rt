@@ -14,19 +14,10 @@ pub enum Both {
     Apart,
 }
 
-// A step of a walk that starts from a reading.
-pub enum Step {
-    Next,
-    Lyndon,
-    Prenecklace,
-    Bracelet,
-}
-
 // What a line asks: its first word tells.
 pub enum Verb {
     About(About),
     Both(Both),
-    Step(Step),
     Many,
     Stock,
 }

@@ -8,12 +8,10 @@ use how_many_spec::Counted;
 use refusal::Refusal;
 use rings::Class;
 use strip_spec::Position;
-use walk_bracelet_spec::Arrival;
-use walk_spec::Outcome;
 ghost use Prim.Native.Nat.{_+_, _≤_};
 ghost use lib.ListN.{length};
 ghost use Rattle.text_fill_spec.specs.Filled.{filled, longest};
-ghost use Rattle.desk_spec.specs.Texts.{refusalText, malformedText, nameText, classText, homeText, toldText, distanceText, placeText, stepText, arrivalText, manyText, stockText};
+ghost use Rattle.desk_spec.specs.Texts.{refusalText, malformedText, nameText, classText, homeText, toldText, distanceText, placeText, manyText, stockText};
 ghost use Rattle.desk_texts_inner.specs.Says.{deskRoom, longestRing, Printed};
 
 // A filled text that is no longer than a line.
@@ -105,30 +103,6 @@ pub fn place_position(buf: &mut [u8], at: usize, a: Position) -> usize
     match a {
         Position::Place(p) => place_line(buf, at, b"place %\n", &[p], 0, b""),
         Position::Refused(r) => place_refusal(buf, at, r),
-    }
-}
-
-pub fn place_outcome(buf: &mut [u8], at: usize, a: Outcome, ring: &[u8]) -> usize
-    requires { ⌜ length (now ring) ≤ longestRing ⌝ }
-    requires { ⌜ at + deskRoom ≤ length (now buf) ⌝ }
-    ensures { λ r. ⌜ Printed (now (buf .entry)) at (stepText a (now (ring .entry))) r (now (buf .exit)) ⌝ }
-{
-    match a {
-        Outcome::Moved(m) => place_line(buf, at, b"next @ moves %\n", &[m], ring.len(), ring),
-        Outcome::Done(m) => place_line(buf, at, b"done moves %\n", &[m], 0, b""),
-        Outcome::Refused(r) => place_refusal(buf, at, r),
-    }
-}
-
-pub fn place_arrival(buf: &mut [u8], at: usize, a: Arrival, ring: &[u8]) -> usize
-    requires { ⌜ length (now ring) ≤ longestRing ⌝ }
-    requires { ⌜ at + deskRoom ≤ length (now buf) ⌝ }
-    ensures { λ r. ⌜ Printed (now (buf .entry)) at (arrivalText a (now (ring .entry))) r (now (buf .exit)) ⌝ }
-{
-    match a {
-        Arrival::Moved => place_line(buf, at, b"next @\n", &[], ring.len(), ring),
-        Arrival::Done => place_line(buf, at, b"done\n", &[], 0, b""),
-        Arrival::Refused(r) => place_refusal(buf, at, r),
     }
 }
 

@@ -9,6 +9,7 @@ ghost use Rattle.stream_asking_inner.specs.Says.{Said, mostOf, roomOf};
 // Which program.
 pub enum Kind {
     Count,
+    Desk,
 }
 
 // How many bytes of a line tell.
@@ -17,6 +18,7 @@ pub fn kept_bytes(kind: Kind) -> usize
 {
     match kind {
         Kind::Count => 9,
+        Kind::Desk => 1024,
     }
 }
 
@@ -26,6 +28,7 @@ pub fn piece_length(kind: Kind) -> usize
 {
     match kind {
         Kind::Count => 2048,
+        Kind::Desk => 15,
     }
 }
 
@@ -36,5 +39,6 @@ pub fn place_text(kind: Kind, line: &[u8], buf: &mut [u8], at: usize) -> usize
 {
     match kind {
         Kind::Count => report_answers_inner::place_answer(line, buf, at),
+        Kind::Desk => desk_inner::place_answer(line, buf, at),
     }
 }
