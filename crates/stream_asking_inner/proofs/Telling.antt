@@ -1,23 +1,27 @@
 -- Only the first bytes of a line tell what it prints.
---     only                                  there is one program as yet; where there are more, each arm of a match tells which it is
+--     room-within                           a large buffer has room for a text
 --     said-tells                            by the program
 --     one-said, said-prints, said-anyhow    what an input prints, however it was cut
-use Prim.Native.Nat.{ℕ}
-use mathlib.Core.Path.{_≡_, refl}
+use Prim.Native.Nat.{ℕ, _≤_}
+use mathlib.Core.Path.{_≡_}
 use mathlib.Core.List.{List, []}
+use native.Mathlib.Omega.{arith}
 use Rattle.stream_spec.specs.Texts.{Prints, Tells, BlockRun}
 use Rattle.stream_spec.proofs.Unique.{one-prints}
 use Rattle.stream_spec.proofs.Cut.{run-prints, cut-anyhow}
 use Rattle.report_laws.proofs.Kept.{report-tells}
+use Rattle.desk_inner.proofs.Telling.{desk-tells}
 use Rattle.stream_asking_inner.specs.declared.Kind.{Kind}
-use Rattle.stream_asking_inner.specs.declared.Kind.the-variants.{Count}
-use Rattle.stream_asking_inner.specs.Says.{Said, mostOf}
+use Rattle.stream_asking_inner.specs.declared.Kind.the-variants.{Count, Desk}
+use Rattle.stream_asking_inner.specs.Says.{Said, mostOf, roomOf}
 
-pub only : (kind : Kind) → kind ≡ Count
-only Count = refl
+pub room-within : (kind : Kind) → roomOf kind ≤ 65536
+room-within Count = omega arith
+room-within Desk = omega arith
 
 pub said-tells : (kind : Kind) → Tells (Said kind) (mostOf kind)
 said-tells Count = report-tells
+said-tells Desk = desk-tells
 
 -- an input prints one text, and a run prints it, however the input was cut
 pub one-said : (kind : Kind) (s t u : List ℕ) → Prints (Said kind) s t → Prints (Said kind) s u → t ≡ u

@@ -7,14 +7,19 @@ use Prim.Native.Nat.{ℕ}
 use Rattle.stream_spec.specs.Texts.{Relation}
 use Rattle.report_spec.specs.Lines as reports
 use Rattle.report_spec.specs.Blocks as blocks
+use Rattle.desk_spec.specs.Answers as desks
+use Rattle.desk_texts_inner.specs.Says.{deskRoom}
 use Rattle.stream_asking_inner.specs.declared.Kind.{Kind}
-use Rattle.stream_asking_inner.specs.declared.Kind.the-variants.{Count}
+use Rattle.stream_asking_inner.specs.declared.Kind.the-variants.{Count, Desk}
 
 abbrev pub Said : Kind → Relation
 Said Count = reports.Answers
+Said Desk = desks.Answers
 
 abbrev pub mostOf : Kind → ℕ
 mostOf Count = 9
+mostOf Desk = 1024
 
 abbrev pub roomOf : Kind → ℕ
 roomOf Count = blocks.lineRoom
+roomOf Desk = deskRoom

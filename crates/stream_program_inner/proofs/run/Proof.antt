@@ -2,7 +2,7 @@
 use native.Mathlib.Omega.{arith}
 use lib.ListN.{length, length-take}
 use Rattle.program_ending_inner.proofs.Unique.{say-within}
-use Rattle.stream_program_inner.proofs.Stopping.{first-room, first-long}
+use Rattle.stream_program_inner.proofs.Stopping.{first-long}
 use borrow.Author.Needs.{needs}
 use Rattle.stream_program_inner.proofs.run.Statement.{statement}
 use Rattle.stream_program_inner.proofs.run.Tie as tie
@@ -10,17 +10,11 @@ use Rattle.stream_program_inner.proofs.run.Tie as tie
 large-buffer-requires : tie.Need-large-buffer-requires
 large-buffer-requires c κs = search needs
 
-block-length-requires : tie.Need-block-length-requires
-block-length-requires c κs = search needs
-
 kept-bytes-requires : tie.Need-kept-bytes-requires
 kept-bytes-requires c κs = search needs
 
-array-borrow-prefix-block : tie.Need-array-borrow-prefix-block
-array-borrow-prefix-block c = search needs
-
 slice-aggregate-pump : tie.Need-slice-aggregate-pump
-slice-aggregate-pump c = simp length-take (omega (arith, c .before .before .block-length .ensures))
+slice-aggregate-pump c = search needs
 
 array-borrow-prefix-line : tie.Need-array-borrow-prefix-line
 array-borrow-prefix-line c = search needs
@@ -32,13 +26,7 @@ slice-aggregate-pump-3 : tie.Need-slice-aggregate-pump-3
 slice-aggregate-pump-3 c = search needs
 
 pump-requires : tie.Need-pump-requires
-pump-requires c κs =
-    let kept-bytes = c .before .before .before .kept-bytes in
-    let block-length = c .before .before .before .before .block-length in
-    let large-buffer = c .before .before .before .before .before .large-buffer in
-    let k = kept-bytes .ensures in
-    let b = block-length .ensures in
-    (first-long _ _ _ (omega (arith, k)) (k .0), first-room _ _ _ _ (omega (arith, b)) (b .0) (omega (arith, b, large-buffer .ensures)))
+pump-requires c κs = let k = c .before .before .before .kept-bytes .ensures in (first-long _ _ _ (omega (arith, k)) (k .0), omega (arith, c .before .before .before .before .large-buffer .ensures))
 
 stream-ending-requires : tie.Need-stream-ending-requires
 stream-ending-requires c κs = search needs
@@ -66,9 +54,7 @@ run-spec =
     tie.close
     (tie.spec
     large-buffer-requires
-    block-length-requires
     kept-bytes-requires
-    array-borrow-prefix-block
     slice-aggregate-pump
     array-borrow-prefix-line
     slice-aggregate-pump-2

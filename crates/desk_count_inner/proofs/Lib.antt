@@ -1,0 +1,2 @@
+-- Numbers that a text asks for (Reading).
+pub mod Reading

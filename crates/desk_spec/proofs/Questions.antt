@@ -1,0 +1,79 @@
+-- A text asks one question.
+--     spelt-same                     two readings with the same digits are one
+--     one-reading, one-pair, one-numbers, one-byte    a text asks one question of a shape
+--     known-one                      a word is one verb's name
+--     place-one, one-line            a line has one verb and one text behind it
+use Prim.Native.Nat.{ℕ, _+_}
+use mathlib.Core.Path.{_≡_, refl, sym, ap, _∙_}
+use mathlib.Core.List.{List, map}
+use native.Mathlib.Omega.{arith}
+use lib.ListN.{take, drop}
+use Rattle.text_spec.specs.Text.{hexOf}
+use Rattle.text_spec.proofs.Digits.{decimal-one}
+use Rattle.words.proofs.Split.{lt, eq, gt, tri}
+use Rattle.text_words_spec.specs.Words.{PieceAt, Nibbles, Spelt}
+use Rattle.line_spec.proofs.Lines.{fields-one}
+use Rattle.text_words_spec.proofs.Pieces.{first-same, behind-same}
+use Rattle.text_words_spec.proofs.Spelling.{spelt-one}
+use Rattle.desk_spec.specs.declared.Verb.{Verb}
+use Rattle.desk_spec.specs.declared.Verb.the-variants as Asks
+use Rattle.desk_spec.specs.declared.Found.{Found}
+use Rattle.desk_spec.specs.declared.Found.the-variants.{Known, Unknown}
+use Rattle.desk_spec.specs.Verbs.{verbOf}
+use Rattle.desk_spec.specs.Answers.{LineReads}
+use Rattle.desk_spec.specs.Questions.{ReadsReading, ReadsPair, ReadsNumbers, ReadsByte}
+
+-- the same digits
+pub spelt-same : (v w : List ℕ) → Nibbles v → Nibbles w → map hexOf v ≡ map hexOf w → v ≡ w
+spelt-same v w p q e = spelt-one (map hexOf w) v w (record { digits = sym e; below = p }) (record { digits = refl; below = q })
+
+module _ (t : List ℕ) where
+  pub one-reading : (p q : ℕ × List ℕ) → ReadsReading t p → ReadsReading t q → p ≡ q
+  one-reading (j, v) (k, w) a b =
+      let e = sym (a .words) ∙ b .words in
+      let f = behind-same _ _ _ _ e in
+      let x : j ≡ k = decimal-one j k (first-same _ _ _ _ e) in
+      let y : v ≡ w = spelt-same v w (a .sectors) (b .sectors) (first-same _ _ _ _ f) in
+      λ i. (x i, y i)
+
+  pub one-pair : (p q : ℕ × List ℕ × List ℕ) → ReadsPair t p → ReadsPair t q → p ≡ q
+  one-pair (j, v, v′) (k, w, w′) a b =
+      let e = sym (a .words) ∙ b .words in
+      let f = behind-same _ _ _ _ e in
+      let g = behind-same _ _ _ _ f in
+      let x : j ≡ k = decimal-one j k (first-same _ _ _ _ e) in
+      let y : v ≡ w = spelt-same v w (a .sectors) (b .sectors) (first-same _ _ _ _ f) in
+      let z : v′ ≡ w′ = spelt-same v′ w′ (a .others) (b .others) (first-same _ _ _ _ g) in
+      λ i. (x i, y i, z i)
+
+  pub one-numbers : (p q : ℕ × ℕ) → ReadsNumbers t p → ReadsNumbers t q → p ≡ q
+  one-numbers (j, m) (k, n) a b = let e = fields-one j m k n (sym (a .words) ∙ b .words) in λ i. (e .0 i, e .1 i)
+
+  pub one-byte : (b c : ℕ) → ReadsByte t b → ReadsByte t c → b ≡ c
+  one-byte b c x y = decimal-one b c (sym (x .words) ∙ y .words)
+
+-- ---- a line
+
+-- the verb that is known; `Stock` where none is
+abbrev verbIn : Found → Verb
+verbIn (Known v) = v
+verbIn Unknown = Asks.Stock
+
+pub known-one : (u v : Verb) → Known u ≡ Known v → u ≡ v
+known-one u v e = ap verbIn e
+
+-- a first piece ends at one place
+pub place-one : (sep : ℕ) (s : List ℕ) (a b : ℕ) → PieceAt sep s a → PieceAt sep s b → a ≡ b
+place-one sep s a b p q =
+    elim (tri a b) [
+      | lt h ↦ absurd (q .before a h (p .here (omega (arith, q .within))))
+      | eq h ↦ h
+      | gt h ↦ absurd (p .before b h (q .here (omega (arith, p .within))))
+    ]
+
+pub one-line : (s : List ℕ) (p q : Verb × List ℕ) → LineReads s p → LineReads s q → p ≡ q
+one-line s (u, t) (v, t′) a b =
+    let e = place-one 32 s (a .at) (b .at) (a .ends) (b .ends) in
+    let x : u ≡ v = known-one u v (sym (a .verb) ∙ ap (λ (i : ℕ). verbOf (take i s)) e ∙ b .verb) in
+    let y : t ≡ t′ = a .behind ∙ ap (λ (i : ℕ). drop (i + 1) s) e ∙ sym (b .behind) in
+    λ i. (x i, y i)

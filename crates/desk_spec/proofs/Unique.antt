@@ -1,0 +1,71 @@
+-- A line prints one text.
+--     one-shows       an answer that is promised once prints one text
+--     one-asked       where a text asks one question, and a question prints one text, the text prints one
+--     one-about, one-both, one-many    a question prints one text
+--     one-verb        and so does what stands behind a verb
+--     one-answer      and a line
+use Prim.Native.Nat.{ℕ}
+use mathlib.Core.Path.{_≡_, refl, sym, ap, _∙_}
+use mathlib.Core.List.{List}
+use lib.ListN.{length}
+use Rattle.rings.specs.Alike.{sameRing, evenHanded}
+use Rattle.rings.specs.Necklace.{necklace, lyndon}
+use Rattle.refusal.specs.Calls.{oneReading, twoReadings}
+use Rattle.classify_spec.proofs.Unique.{one-answer as one-class}
+use Rattle.home_spec.specs.declared.Homed.{Homed}
+use Rattle.home_spec.proofs.Unique.{one-homed, one-told, one-distance}
+use Rattle.strip_spec.proofs.Unique.{one-telling}
+use Rattle.how_many_spec.specs.declared.Counted.{Counted}
+use Rattle.how_many_spec.proofs.Unique.{one-count}
+use Rattle.desk_spec.specs.declared.About.{About}
+use Rattle.desk_spec.specs.declared.About.the-variants.{Class, Home, Even, Place}
+use Rattle.desk_spec.specs.declared.Both.{Both}
+use Rattle.desk_spec.specs.declared.Both.the-variants.{Same, Apart}
+use Rattle.desk_spec.specs.declared.Verb.{Verb}
+use Rattle.desk_spec.specs.declared.Verb.the-variants as Asks
+use Rattle.desk_spec.specs.Questions.{Replies, good, bad}
+use Rattle.desk_spec.specs.Answers.{Shows, AboutSays, BothSays, ManySays, VerbSays, DeskAnswers, blank}
+use Rattle.desk_spec.proofs.Questions.{one-reading, one-pair, one-numbers, one-byte, one-line}
+
+-- an answer that is promised once
+pub one-shows : {A : Type 0} (P : A → Type 0) (f : A → List ℕ) → ((a b : A) → P a → P b → a ≡ b) → (t u : List ℕ) → Shows P f t → Shows P f u → t ≡ u
+one-shows P f one t u x y = x .is ∙ ap f (one (x .answer) (y .answer) (x .says) (y .says)) ∙ sym (y .is)
+
+-- a question that is asked once, and prints one text
+pub one-asked : {Q : Type 0} (Reads : Q → Type 0) (Says : Q → List ℕ → Type 0) → ((p q : Q) → Reads p → Reads q → p ≡ q) →
+    ((q : Q) (t u : List ℕ) → Says q t → Says q u → t ≡ u) → (t u : List ℕ) → Replies Reads Says t → Replies Reads Says u → t ≡ u
+one-asked Reads Says one says t u (good p a x) (good q b y) = says q t u (rw (one p q a b) at x) y
+one-asked Reads Says one says t u (good p a x) (bad n y) = absurd (n p a)
+one-asked Reads Says one says t u (bad m x) (good q b y) = absurd (m q b)
+one-asked Reads Says one says t u (bad m x) (bad n y) = x ∙ sym y
+
+-- ---- questions
+
+pub one-about : (v : About) (k : ℕ) (w t u : List ℕ) → AboutSays v k w t → AboutSays v k w u → t ≡ u
+one-about Class k w t u x y = one-shows _ _ (one-class w k) t u x y
+one-about Home k w t u x y =
+    one-shows {A = Homed × List ℕ} _ _ (λ a b p q. let e = one-homed w k (blank (length w)) (a .0) (b .0) (a .1) (b .1) p q in λ i. (e .0 i, e .1 i)) t u x y
+one-about Even k w t u x y = one-shows _ _ (one-told (oneReading w k) (evenHanded w)) t u x y
+one-about Place k w t u x y = one-shows _ _ (one-telling w k) t u x y
+
+pub one-both : (v : Both) (k : ℕ) (a b t u : List ℕ) → BothSays v k a b t → BothSays v k a b u → t ≡ u
+one-both Same k a b t u x y = one-shows _ _ (one-told (twoReadings a b k) (sameRing a b)) t u x y
+one-both Apart k a b t u x y = one-shows _ _ (one-distance a b k) t u x y
+
+-- ---- numbers
+
+pub one-many : (k n : ℕ) (t u : List ℕ) → ManySays k n t → ManySays k n u → t ≡ u
+one-many k n t u x y =
+    one-shows {A = Counted × Counted} _ _
+    (λ a b p q. let e = one-count necklace k n (a .0) (b .0) (p .0) (q .0) in let f = one-count lyndon k n (a .1) (b .1) (p .1) (q .1) in λ i. (e i, f i)) t u x y
+
+-- ---- a line
+
+pub one-verb : (v : Verb) (s t u : List ℕ) → VerbSays v s t → VerbSays v s u → t ≡ u
+one-verb (Asks.About v) s t u x y = one-asked _ _ (one-reading s) (λ q. one-about v (q .0) (q .1)) t u x y
+one-verb (Asks.Both v) s t u x y = one-asked _ _ (one-pair s) (λ q. one-both v (q .0) (q .1) (q .2)) t u x y
+one-verb Asks.Many s t u x y = one-asked _ _ (one-numbers s) (λ q. one-many (q .0) (q .1)) t u x y
+one-verb Asks.Stock s t u x y = one-asked _ _ (one-byte s) (λ b a c p q. p ∙ sym q) t u x y
+
+pub one-answer : (s t u : List ℕ) → DeskAnswers s t → DeskAnswers s u → t ≡ u
+one-answer s t u x y = one-asked _ _ (one-line s) (λ q. one-verb (q .0) (q .1)) t u x y

@@ -1,0 +1,89 @@
+-- What a verb's call prints, by the call's own promise, and what a line prints.
+--     Shows P f text          text is what an answer prints that the call promises
+--     AboutSays v k w text    what a question about one reading prints
+--     BothSays v k a b text   what a question about two readings prints
+--     ManySays k n text       how many rings there are
+--     VerbSays v t text       what the text t behind a verb prints
+--     longestLine             a longer line is malformed
+--     LineReads s q           the line s is a verb's name, a space, and a text
+--     DeskAnswers s text          what the line s prints, its newline left out
+-- An output that a call asks for is as long as the reading, and 0 before.
+-- That a line prints one text: proofs/Unique.
+use Prim.Native.Nat.{ℕ, _+_, _<_, _≤_}
+use mathlib.Core.Path.{_≡_}
+use mathlib.Core.List.{List}
+use lib.ListN.{length, take, drop, replicate}
+use Rattle.text_spec.specs.Ascii.{space}
+use Rattle.text_words_spec.specs.Words.{PieceAt}
+use Rattle.rings.specs.Necklace.{necklace, lyndon}
+use Rattle.rings.specs.Alike.{sameRing, evenHanded}
+use Rattle.refusal.specs.Calls.{oneReading, twoReadings}
+use Rattle.classify_spec.specs.Says.{ClassifySays}
+use Rattle.home_spec.specs.Says.{HomeSays, ToldSays, DistanceSays}
+use Rattle.home_spec.specs.declared.Homed.{Homed}
+use Rattle.strip_spec.specs.Says.{PlaceSays}
+use Rattle.how_many_spec.specs.declared.Counted.{Counted}
+use Rattle.how_many_spec.specs.Says.{CountSays}
+use Rattle.stock_spec.specs.Stock.{homeByte}
+use Rattle.desk_spec.specs.declared.About.{About}
+use Rattle.desk_spec.specs.declared.About.the-variants.{Class, Home, Even, Place}
+use Rattle.desk_spec.specs.declared.Both.{Both}
+use Rattle.desk_spec.specs.declared.Both.the-variants.{Same, Apart}
+use Rattle.desk_spec.specs.declared.Verb.{Verb}
+use Rattle.desk_spec.specs.declared.Verb.the-variants as Asks
+use Rattle.desk_spec.specs.declared.Found.the-variants.{Known}
+use Rattle.desk_spec.specs.Verbs.{verbOf}
+use Rattle.desk_spec.specs.Questions.{ReadsReading, ReadsPair, ReadsNumbers, ReadsByte, Replies}
+use Rattle.desk_spec.specs.Texts.{classText, homeText, toldText, distanceText, placeText, manyText, stockText}
+
+-- text is what an answer prints that is promised
+pub record Shows {A : Type 0} (P : A → Type 0) (print : A → List ℕ) (text : List ℕ) : Type 0 where
+  pub answer : A
+  pub says : P answer
+  pub is : text ≡ print answer
+
+-- an output of n bytes
+abbrev pub blank : ℕ → List ℕ
+blank n = replicate n 0
+
+-- ---- one reading
+
+abbrev pub AboutSays : About → ℕ → List ℕ → List ℕ → Type 0
+AboutSays Class k w text = Shows (λ a. ClassifySays w k a) classText text
+AboutSays Home k w text = Shows {A = Homed × List ℕ} (λ x. HomeSays w k (blank (length w)) (x .0) (x .1)) (λ x. homeText (x .0) (x .1)) text
+AboutSays Even k w text = Shows (λ a. ToldSays (oneReading w k) (evenHanded w) a) toldText text
+AboutSays Place k w text = Shows (λ a. PlaceSays w k a) placeText text
+
+-- ---- two readings
+
+abbrev pub BothSays : Both → ℕ → List ℕ → List ℕ → List ℕ → Type 0
+BothSays Same k a b text = Shows (λ r. ToldSays (twoReadings a b k) (sameRing a b) r) toldText text
+BothSays Apart k a b text = Shows (λ r. DistanceSays a b k r) distanceText text
+
+-- ---- numbers
+
+abbrev pub ManySays : ℕ → ℕ → List ℕ → Type 0
+ManySays k n text = Shows {A = Counted × Counted} (λ x. CountSays necklace k n (x .0) × CountSays lyndon k n (x .1)) (λ x. manyText (x .0) (x .1)) text
+
+-- ---- a line
+
+abbrev pub VerbSays : Verb → List ℕ → List ℕ → Type 0
+VerbSays (Asks.About v) t text = Replies (ReadsReading t) (λ q. AboutSays v (q .0) (q .1)) text
+VerbSays (Asks.Both v) t text = Replies (ReadsPair t) (λ q. BothSays v (q .0) (q .1) (q .2)) text
+VerbSays Asks.Many t text = Replies (ReadsNumbers t) (λ q. ManySays (q .0) (q .1)) text
+VerbSays Asks.Stock t text = Replies (ReadsByte t) (λ b x. x ≡ stockText (homeByte b)) text
+
+abbrev pub longestLine : ℕ
+longestLine = 1023
+
+-- a verb, and what stands behind its word: a word ends at the first space
+pub record LineReads (s : List ℕ) (q : Verb × List ℕ) : Type 0 where
+  pub within : length s ≤ longestLine
+  pub at : ℕ
+  pub ends : PieceAt space s at
+  pub inside : at < length s
+  pub verb : verbOf (take at s) ≡ Known (q .0)
+  pub behind : q .1 ≡ drop (at + 1) s
+
+abbrev pub DeskAnswers : List ℕ → List ℕ → Type 0
+DeskAnswers s text = Replies (LineReads s) (λ q. VerbSays (q .0) (q .1)) text

@@ -1,0 +1,9 @@
+-- What a line of the desk asks and prints, read from top to bottom.
+--     Verbs      the verb of a word
+--     Questions  the words behind a verb
+--     Texts      what each answer prints
+--     Answers    what a verb's call prints, by the call's own promise, and what a line prints
+pub mod Verbs
+pub mod Questions
+pub mod Texts
+pub mod Answers

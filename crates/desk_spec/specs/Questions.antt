@@ -1,0 +1,49 @@
+-- The words behind a verb, one space between two. A number is read as the listing's line reads one: in decimal, one to three digits, no leading zero.
+--     ThreeDigits k              k has at most three digits
+--     ReadsReading t q     t is k and a reading
+--     ReadsPair t q        t is k and two readings
+--     ReadsNumbers t q     t is two numbers, as the listing's line has them
+--     ReadsByte t b        t is a byte, in decimal
+--     Replies Reads Says     what a text prints that asks a question q of some shape, where `Says q` is what the question prints; a text that asks none is malformed
+-- That a text asks one question, and prints one text: proofs/Unique.
+use Prim.Native.Nat.{ℕ, _<_}
+use mathlib.Core.Path.{_≡_}
+use mathlib.Core.List.{List, [], _∷_, map}
+use Rattle.text_spec.specs.Ascii.{space}
+use Rattle.text_spec.specs.Decimal.{decimal}
+use Rattle.text_spec.specs.Text.{hexOf}
+use Rattle.line_spec.specs.Line.{fields}
+use Rattle.text_words_spec.specs.Words.{pieces, Nibbles}
+use Rattle.desk_spec.specs.Texts.{malformedText}
+
+abbrev pub ThreeDigits : ℕ → Type 0
+ThreeDigits k = k < 1000
+
+-- k and a reading
+pub record ReadsReading (t : List ℕ) (q : ℕ × List ℕ) : Type 0 where
+  pub short : ThreeDigits (q .0)
+  pub sectors : Nibbles (q .1)
+  pub words : pieces space t ≡ decimal (q .0) ∷ map hexOf (q .1) ∷ []
+
+-- k and two readings
+pub record ReadsPair (t : List ℕ) (q : ℕ × List ℕ × List ℕ) : Type 0 where
+  pub short : ThreeDigits (q .0)
+  pub sectors : Nibbles (q .1)
+  pub others : Nibbles (q .2)
+  pub words : pieces space t ≡ decimal (q .0) ∷ map hexOf (q .1) ∷ map hexOf (q .2) ∷ []
+
+-- two numbers
+pub record ReadsNumbers (t : List ℕ) (q : ℕ × ℕ) : Type 0 where
+  pub short : ThreeDigits (q .0)
+  pub second : ThreeDigits (q .1)
+  pub words : t ≡ fields (q .0) (q .1)
+
+-- a byte
+pub record ReadsByte (t : List ℕ) (b : ℕ) : Type 0 where
+  pub fits : b < 256
+  pub words : t ≡ decimal b
+
+-- what a text prints: what its question does, or that it asks none
+pub data Replies {Q : Type 0} (Reads : Q → Type 0) (Says : Q → List ℕ → Type 0) (text : List ℕ) : Type 0 where
+  good : (q : Q) → Reads q → Says q text → Replies Reads Says text
+  bad : ((q : Q) → Reads q → ⊥) → text ≡ malformedText → Replies Reads Says text

@@ -1,0 +1,81 @@
+-- What each answer prints: one line.
+--     refusalText r          refused 3 at 2
+--     malformedText          refused 11 at 0: what cannot be read
+--     classText              loose at 3; opening 5; repeating 2; single
+--     homeText a c           home 001101 shift 4 period 6, where c is the home reading
+--     toldText               yes; no
+--     distanceText           apart 2
+--     placeText              place 6
+--     manyText a b           6 3: the rings, and those that look different at each turn
+--     stockText b            23
+use Prim.Native.Nat.{ℕ}
+use mathlib.Core.List.{List, [], _∷_}
+use lib.ListN.{length}
+use Rattle.text_spec.specs.Ascii.{ascii}
+use Rattle.text_fill_spec.specs.Filled.{filledText}
+use Rattle.rings.specs.declared.Class.{Class}
+use Rattle.rings.specs.declared.Class.the-variants.{Loose, Opening, Repeating, Single}
+use Rattle.refusal.specs.declared.Refusal.{Refusal}
+use Rattle.refusal.specs.declared.Refusal.the-variants.{Line}
+use Rattle.refusal.specs.Numbers.{numberOf, placeOf}
+use Rattle.classify_spec.specs.declared.Classified.{Classified}
+use Rattle.classify_spec.specs.declared.Classified.the-variants as K
+use Rattle.home_spec.specs.declared.Homed.{Homed}
+use Rattle.home_spec.specs.declared.Homed.the-variants as H
+use Rattle.home_spec.specs.declared.Told.{Told}
+use Rattle.home_spec.specs.declared.Told.the-variants as T
+use Rattle.home_spec.specs.declared.Distance.{Distance}
+use Rattle.home_spec.specs.declared.Distance.the-variants as D
+use Rattle.strip_spec.specs.declared.Position.{Position}
+use Rattle.strip_spec.specs.declared.Position.the-variants as P
+use Rattle.how_many_spec.specs.declared.Counted.{Counted}
+use Rattle.how_many_spec.specs.declared.Counted.the-variants as C
+
+-- a text with numbers alone
+abbrev pub plainText : List ℕ → List ℕ → List ℕ
+plainText t xs = filledText t xs 0 []
+
+-- a text with a ring
+abbrev pub countedRingText : List ℕ → List ℕ → List ℕ → List ℕ
+countedRingText t xs w = filledText t xs (length w) w
+
+abbrev pub refusalText : Refusal → List ℕ
+refusalText r = plainText (ascii "refused % at %\n") (numberOf r ∷ placeOf r ∷ [])
+
+abbrev pub malformedText : List ℕ
+malformedText = refusalText Line
+
+abbrev pub nameText : Class → List ℕ
+nameText (Loose p) = plainText (ascii "loose at %\n") (p ∷ [])
+nameText (Opening p) = plainText (ascii "opening %\n") (p ∷ [])
+nameText (Repeating p) = plainText (ascii "repeating %\n") (p ∷ [])
+nameText Single = plainText (ascii "single\n") []
+
+abbrev pub classText : Classified → List ℕ
+classText (K.Is c) = nameText c
+classText (K.Refused r) = refusalText r
+
+abbrev pub homeText : Homed → List ℕ → List ℕ
+homeText (H.Home i p) c = countedRingText (ascii "home @ shift % period %\n") (i ∷ p ∷ []) c
+homeText (H.Refused r) c = refusalText r
+
+abbrev pub toldText : Told → List ℕ
+toldText T.Yes = plainText (ascii "yes\n") []
+toldText T.No = plainText (ascii "no\n") []
+toldText (T.Refused r) = refusalText r
+
+abbrev pub distanceText : Distance → List ℕ
+distanceText (D.Apart x) = plainText (ascii "apart %\n") (x ∷ [])
+distanceText (D.Refused r) = refusalText r
+
+abbrev pub placeText : Position → List ℕ
+placeText (P.Place p) = plainText (ascii "place %\n") (p ∷ [])
+placeText (P.Refused r) = refusalText r
+
+abbrev pub manyText : Counted → Counted → List ℕ
+manyText (C.Rings x) (C.Rings y) = plainText (ascii "% %\n") (x ∷ y ∷ [])
+manyText (C.Rings x) (C.Refused r) = refusalText r
+manyText (C.Refused r) b = refusalText r
+
+abbrev pub stockText : ℕ → List ℕ
+stockText b = plainText (ascii "%\n") (b ∷ [])

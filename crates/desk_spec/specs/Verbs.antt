@@ -1,0 +1,39 @@
+-- The verb of a word.
+--     isKnown f     it is a verb's name
+--     verbOf t      the verb whose name the word t is; each group of verbs has its own (aboutOf, bothOf, countOf)
+use Prim.Native.Nat.{ℕ}
+use mathlib.Core.Bool.{Bool, true, false}
+use mathlib.Core.List.{List}
+use Rattle.words.specs.Order.{same}
+use Rattle.text_spec.specs.Ascii.{ascii}
+use Rattle.desk_spec.specs.declared.About.the-variants.{Class, Home, Even, Place}
+use Rattle.desk_spec.specs.declared.Both.the-variants.{Same, Apart}
+use Rattle.desk_spec.specs.declared.Verb.{Verb}
+use Rattle.desk_spec.specs.declared.Verb.the-variants.{About, Both, Many, Stock}
+use Rattle.desk_spec.specs.declared.Found.{Found}
+use Rattle.desk_spec.specs.declared.Found.the-variants.{Known, Unknown}
+
+-- v where the word is this name, else what follows
+abbrev pub named : List ℕ → List ℕ → Verb → Found → Found
+named t name v next = elim (same t name) [ true ↦ Known v | false ↦ next ]
+
+-- the first that is known
+abbrev pub orElse : Found → Found → Found
+orElse (Known v) next = Known v
+orElse Unknown next = next
+
+abbrev pub isKnown : Found → Bool
+isKnown (Known v) = true
+isKnown Unknown = false
+
+unfoldable pub aboutOf : List ℕ → Found
+aboutOf t = named t (ascii "class") (About Class) (named t (ascii "home") (About Home) (named t (ascii "even") (About Even) (named t (ascii "place") (About Place) Unknown)))
+
+unfoldable pub bothOf : List ℕ → Found
+bothOf t = named t (ascii "same") (Both Same) (named t (ascii "apart") (Both Apart) Unknown)
+
+unfoldable pub countOf : List ℕ → Found
+countOf t = named t (ascii "many") Many (named t (ascii "stock") Stock Unknown)
+
+unfoldable pub verbOf : List ℕ → Found
+verbOf t = orElse (aboutOf t) (orElse (bothOf t) (countOf t))

@@ -1,0 +1,2 @@
+-- What placing an answer's text promises (Says).
+pub mod Says

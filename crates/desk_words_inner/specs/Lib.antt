@@ -1,0 +1,2 @@
+-- What reading the first word promises (Says).
+pub mod Says

@@ -1,0 +1,23 @@
+// The first word behind a verb, a number, and where the text goes on. No public calls.
+
+use line_spec::Numeral;
+ghost use Rattle.desk_words_inner.specs.Says.{HeadSays};
+
+// A number and a further word behind it: the number, and where the text goes on behind its space; or that there are none.
+pub enum Head {
+    Number(usize, usize),
+    Malformed,
+}
+
+pub fn head_of(t: &[u8]) -> Head
+    ensures { λ r. ⌜ HeadSays (now (t .entry)) r ⌝ }
+{
+    let e = text_spell_inner::piece_end(t, b' ');
+    if t.len() <= e {
+        return Head::Malformed;
+    }
+    match line::parse_number(&t[..e]) {
+        Numeral::Malformed => Head::Malformed,
+        Numeral::Value(k) => Head::Number(k, e + 1),
+    }
+}

@@ -1,0 +1,2 @@
+-- A text with slots, filledText (Filled).
+pub mod Filled
