@@ -26,7 +26,7 @@ fn place_head(buf: &mut [u8], at: usize, n: usize) -> usize
 }
 
 // The end of the ring, and the dot.
-fn place_tail(buf: &mut [u8], at: usize, n: usize) -> usize
+pub fn place_tail(buf: &mut [u8], at: usize, n: usize) -> usize
     requires { ⌜ n ≤ 64 ⌝ }
     requires { ⌜ at + 64 ≤ length (now buf) ⌝ }
     ensures { λ r. ⌜ Fits 64 (now (buf .entry)) at (tailText n) r (now (buf .exit)) ⌝ }

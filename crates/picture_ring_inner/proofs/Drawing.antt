@@ -3,7 +3,7 @@
 --     run-on, run-out, run-cut, run-le         a run counted sector by sector
 --     fits-on, fits-arc                        what a sector draws
 --     Drawing, drawing-none, drawing-on, drawing-room, drawing-end    sector after sector
---     turned-long, turned-short, turned-from, turned-below, ring-fits     the turned ring, and the whole of it
+--     turned-long, turned-short, turned-some, turned-from, turned-below    a turned ring; ring-fits, and the whole of it
 use Prim.Native.Nat.{ℕ, zero, suc, _+_, _-_, _*_, _<_, _≤_}
 use mathlib.Core.Path.{_≡_, refl, sym, ap, _∙_}
 use mathlib.Core.List.{List, [], _∷_, _++_, append-assoc, append-nil}
@@ -137,37 +137,39 @@ module _ (tone : Tone) (k : ℕ) (w : List ℕ) (o : ℕ) (b : List ℕ) (at p i
 
 -- ---- the ring
 
-module _ (w : List ℕ) (o : ℕ) (e : o ≡ reach (getD w 0 0) (drop 0 w)) where
-  -- o is the length of the first run
-  first-is : o ≡ firstRun w
-  unfolding firstRun
-  first-is = e
+-- v is w turned by o
+module _ (w : List ℕ) (o : ℕ) (l : o ≤ length w) (v : List ℕ) (t : v ≡ turn o w) where
+  pub turned-long : length v ≡ length w
+  turned-long = rw t (length-turn o w l)
 
-  module _ (v : List ℕ) (t : v ≡ turn o w) where
-    pub turned-long : length v ≡ length w
-    turned-long = rw t (length-turn o w (run-le (getD w 0 0) w 0 o e))
+  pub turned-short : length w ≤ 64 → length v ≤ 64
+  turned-short h = omega (arith, turned-long)
 
-    pub turned-short : length w ≤ 64 → length v ≤ 64
-    turned-short h = omega (arith, turned-long)
+  pub turned-some : 0 < length w → 0 < length v
+  turned-some h = omega (arith, turned-long)
 
-    pub turned-from : o ≤ length v
-    turned-from = omega (arith, turned-long, run-le (getD w 0 0) w 0 o e)
+  pub turned-from : o ≤ length v
+  turned-from = omega (arith, turned-long)
 
-    pub turned-below : (k : ℕ) → 0 < length w → Below w (λ i. k) → Below v (λ i. k)
-    turned-below k z b j h =
-        let l = run-le (getD w 0 0) w 0 o e in
-        rw t (elim (test (ltb (o + j) (length w))) [
-          | passes x ↦ let y = ltb-true (o + j) (length w) x in rw (turn-low o w j (o + j) refl y) (b (o + j) y)
-          | fails x ↦
-              let y = ltb-false (o + j) (length w) x in
-              rw (turn-high o w l j (o + j - length w) (omega arith) (omega (arith, turned-long))) (b (o + j - length w) (omega (arith, turned-long)))
-        ])
+  pub turned-below : (k : ℕ) → 0 < length w → Below w (λ i. k) → Below v (λ i. k)
+  turned-below k z b j h =
+      rw t (elim (test (ltb (o + j) (length w))) [
+        | passes x ↦ let y = ltb-true (o + j) (length w) x in rw (turn-low o w j (o + j) refl y) (b (o + j) y)
+        | fails x ↦
+            let y = ltb-false (o + j) (length w) x in
+            rw (turn-high o w l j (o + j - length w) (omega arith) (omega (arith, turned-long))) (b (o + j - length w) (omega (arith, turned-long)))
+      ])
 
-    pub ring-fits : (tone : Tone) (k : ℕ) (b : List ℕ) (at r : ℕ) (b′ : List ℕ) →
-        Fits 16384 b at (arcTexts tone (length v) k (arcsFrom 16 o v)) r b′ → Fits 16384 b at (ringText tone k w) r b′
-    unfolding ringText arcs
-    ring-fits tone k b at r b′ f =
-        let x : arcTexts tone (length v) k (arcsFrom 16 o v) ≡ arcTexts tone (length w) k (arcsFrom 16 (firstRun w) (turn (firstRun w) w)) =
-        ap (λ (n : ℕ). arcTexts tone n k (arcsFrom 16 o v)) turned-long ∙ ap (λ (u : List ℕ). arcTexts tone (length w) k (arcsFrom 16 o u)) t
-        ∙ ap (λ (i : ℕ). arcTexts tone (length w) k (arcsFrom 16 i (turn i w))) first-is in
-        rw x at f
+-- o is the length of the first run
+first-is : (w : List ℕ) (o : ℕ) → o ≡ reach (getD w 0 0) (drop 0 w) → o ≡ firstRun w
+unfolding firstRun
+first-is w o e = e
+
+pub ring-fits : (w : List ℕ) (o : ℕ) → o ≡ reach (getD w 0 0) (drop 0 w) → (v : List ℕ) → v ≡ turn o w → (tone : Tone) (k : ℕ) (b : List ℕ) (at r : ℕ) (b′ : List ℕ) →
+    Fits 16384 b at (arcTexts tone (length v) k (arcsFrom 16 o v)) r b′ → Fits 16384 b at (ringText tone k w) r b′
+unfolding ringText arcs
+ring-fits w o e v t tone k b at r b′ f =
+    let x : arcTexts tone (length v) k (arcsFrom 16 o v) ≡ arcTexts tone (length w) k (arcsFrom 16 (firstRun w) (turn (firstRun w) w)) =
+    ap (λ (n : ℕ). arcTexts tone n k (arcsFrom 16 o v)) (turned-long w o (run-le (getD w 0 0) w 0 o e) v t)
+    ∙ ap (λ (u : List ℕ). arcTexts tone (length w) k (arcsFrom 16 o u)) t ∙ ap (λ (i : ℕ). arcTexts tone (length w) k (arcsFrom 16 i (turn i w))) (first-is w o e) in
+    rw x at f

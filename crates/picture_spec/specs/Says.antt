@@ -27,5 +27,5 @@ pub draw-numbers : (w : List ℕ) (k m : ℕ) → numbered (drawOrder w k m) ≡
 draw-numbers w k m = refl
 
 abbrev pub DrawSays : Tone → List ℕ → ℕ → List ℕ → Drawn → List ℕ → Type 0
-DrawSays tone w k b (Whole m) b′ = Passed (drawOrder w k (length b)) × Placed b 0 (pictureText tone k w) m b′
+DrawSays tone w k b (Whole m) b′ = Passed (drawOrder w k (length b)) × Placed b 0 (pictureText tone k w) m b′ × (m ≤ pictureRoom)
 DrawSays tone w k b (Refused r) b′ = Given (drawOrder w k (length b)) r × (b′ ≡ b)

@@ -28,7 +28,8 @@ array-share-prefix-turned c =
     let w = c .before .before .before .before .before .before .before .args .ring .now in
     let e = c .before .before .before .before .run-at .ensures in
     let t = c .before .before .write-turn .ensures in
-    let v = turned-long w _ e _ t in
+    let l = run-le _ w 0 _ e in
+    let v = turned-long w _ l _ t in
     simp (length-append, length-drop) (omega (arith, v, c .before .before .before .before .before .before .before .pre .0 .3))
 
 slice-aggregate-place-arcs : tie.Need-slice-aggregate-place-arcs
@@ -41,10 +42,11 @@ place-arcs-requires c κs =
     let w = c .before .before .before .before .before .before .before .before .args .ring .now in
     let e = c .before .before .before .before .before .run-at .ensures in
     let t = c .before .before .before .write-turn .ensures in
-    let v = turned-long w _ e _ t in
+    let l = run-le _ w 0 _ e in
+    let v = turned-long w _ l _ t in
     let z = c .before .before .before .before .before .before .before .before .pre in (
-      (z .0 .0, z .0 .1, turned-short w _ e _ (take-at _ _ (length w) v ∙ t) (z .0 .3), turned-from w _ e _ (take-at _ _ (length w) v ∙ t)),
-      (turned-below w _ e _ (take-at _ _ (length w) v ∙ t) _ (z .0 .2) (z .1 .0), z .1 .1),
+      (z .0 .0, z .0 .1, turned-short w _ l _ (take-at _ _ (length w) v ∙ t) (z .0 .3), turned-from w _ l _ (take-at _ _ (length w) v ∙ t)),
+      (turned-below w _ l _ (take-at _ _ (length w) v ∙ t) _ (z .0 .2) (z .1 .0), z .1 .1),
     )
 
 same-length : tie.Need-same-length
@@ -55,7 +57,8 @@ returns c =
     let w = c .before .before .before .before .before .before .before .before .before .before .before .args .ring .now in
     let e = c .before .before .before .before .before .before .before .before .run-at .ensures in
     let t = c .before .before .before .before .before .before .write-turn .ensures in
-    let v = turned-long w _ e _ t in
+    let l = run-le _ w 0 _ e in
+    let v = turned-long w _ l _ t in
     ring-fits w _ e _ (take-at _ _ (length w) v ∙ t) _ _ _ _ _ _ (c .before .before .place-arcs .ensures)
 
 pub place-ring-spec : {M : Type 1} → statement M

@@ -45,7 +45,8 @@ returns-3 : tie.Need-returns-3
 returns-3 c =
     let a = c .before .before .before .before .before .before .before .before .before .before .args in
     let p : Passed (oneReading (a .reading .now) (a .k)) = rw (c .before .before .before .before .before .enum-told .given .1) at (c .before .before .before .before .before .before .before .check-reading .ensures) in
-    ((p, c .before .before .before .before .if1 .left), c .before .before .place-picture .ensures .placed)
+    let f = c .before .before .place-picture .ensures in
+    ((p, c .before .before .before .before .if1 .left), f .placed, omega (arith, f .short, f .placed .next))
 
 pub draw-spec : {M : Type 1} → statement M
 draw-spec =
