@@ -89,13 +89,11 @@ fn run(line: &[u8]) {
 
 fn main() {
     let mut line = [0u8; 192];
-    let mut cases = 0;
-    while cases < test_cases::MANY {
+    for _ in 0..test_cases::MANY {
         let m = test_cases::next(&mut line);
         if m == 0 {
-            return;
+            break;
         }
         run(&line[..m]);
-        cases += 1;
     }
 }
