@@ -1,5 +1,5 @@
--- A text with slots, filledText and placed piece after piece.
---     Filling t xs n w b at i j q p b′      the first i characters of t are filledText and placed, j numbers and q sectors are used, and p is the place behind them
+-- A text with slots, filled and placed piece after piece.
+--     Filling t xs n w b at i j q p b′      the first i characters of t are filled and placed, j numbers and q sectors are used, and p is the place behind them
 --     filling-none                          nothing yet
 --     room-number, room-ring, room-other    there is room for one character more
 --     filling-number, filling-ring, filling-other    it is placed

@@ -1,4 +1,4 @@
-// A text with slots, filledText with numbers and rings, placed into a lent buffer where it fits. No public calls.
+// A text with slots, filled with numbers and rings, placed into a lent buffer where it fits. No public calls.
 ghost use Prim.Native.Nat.{_+_, _≤_};
 ghost use lib.ListN.{length};
 ghost use Rattle.text_spec.specs.Put.{Placed};

@@ -1,4 +1,4 @@
--- A text with slots, filledText: what a program prints is said by the text as it is printed.
+-- A text with slots, filled: what a program prints is said by the text as it is printed.
 --     numberSlot, ringSlot    the characters that stand for a number and for a ring: % and @
 --     filledText t xs n w         the text t, where each % is the next number of xs in decimal, 0 where there is none, and each @ the next n sectors of w, a hexadecimal
 --                             digit each, as many as there are
@@ -32,6 +32,6 @@ unfoldable pub slots : ℕ → List ℕ → ℕ
 slots c [] = 0
 slots c (a ∷ t) = elim (eqb a c) [ true ↦ suc (slots c t) | false ↦ slots c t ]
 
--- how long a filledText text gets at most
+-- how long a filled text gets at most
 unfoldable pub longest : List ℕ → ℕ → ℕ
 longest t n = length t + 19 * slots numberSlot t + n * slots ringSlot t

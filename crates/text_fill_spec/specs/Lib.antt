@@ -1,2 +1,2 @@
--- A text with slots, filledText (Filled).
+-- A text with slots, filled (Filled).
 pub mod Filled

@@ -1,1 +1,1 @@
-// A text with slots, filledText with numbers and rings, as a definition with its laws. No functions.
+// A text with slots, filled with numbers and rings, as a definition with its laws. No functions.

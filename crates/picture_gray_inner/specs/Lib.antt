@@ -1,0 +1,2 @@
+-- What the two tones promise (Says).
+pub mod Says

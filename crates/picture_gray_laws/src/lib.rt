@@ -1,0 +1,1 @@
+// A drawn shade is read back as itself. No functions.

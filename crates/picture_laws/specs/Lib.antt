@@ -1,0 +1,2 @@
+-- What a picture shows (Seen).
+pub mod Seen

@@ -1,0 +1,1 @@
+// What the picture of a target shows. No functions.

@@ -1,0 +1,2 @@
+-- A ring's arcs drawn sector after sector (Drawing).
+pub mod Drawing

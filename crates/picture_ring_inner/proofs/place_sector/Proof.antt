@@ -1,0 +1,50 @@
+-- `picture_ring_inner::place_sector` meets its contract.
+use Prim.Native.Nat.{_+_, _≤_, _<_}
+use native.Mathlib.Omega.{arith}
+use Rattle.picture_ring_inner.proofs.Drawing.{fits-on, fits-arc, run-le}
+use borrow.Author.Needs.{needs}
+use Rattle.picture_ring_inner.proofs.place_sector.Statement.{statement}
+use Rattle.picture_ring_inner.proofs.place_sector.Tie as tie
+
+shared-slice-read-s : tie.Need-shared-slice-read-s
+shared-slice-read-s c = search needs
+
+returns : tie.Need-returns
+returns c =
+    let a = c .before .before .before .before .args in
+    fits-on (a .tone) _ (a .k) (a .before) (a .o + a .i) (a .ring .now) (a .i) (c .before .before .before .before .pre .0 .4) (a .buf .now) (a .at) (c .if1 .taken)
+
+run-at-requires : tie.Need-run-at-requires
+run-at-requires c κs = search needs
+
+gray-of-requires : tie.Need-gray-of-requires
+gray-of-requires c κs = (c .before .before .before .before .before .pre .0 .0, c .before .before .before .before .before .pre .0 .1, c .before .before .before .before .before .pre .1 .0 _ (c .before .before .before .before .before .pre .0 .4))
+
+add-place-arc : tie.Need-add-place-arc
+add-place-arc c = search needs
+
+place-arc-requires : tie.Need-place-arc-requires
+place-arc-requires c κs =
+    let z = c .before .before .before .before .before .before .before .pre in
+    ((omega (arith, z .0 .4), z .0 .2, run-le _ (c .before .before .before .before .before .before .before .args .ring .now) (c .before .before .before .before .before .before .before .args .i) _ (c .before .before .run-at .ensures)), z .1 .1)
+
+same-length : tie.Need-same-length
+same-length c = search needs
+
+returns-2 : tie.Need-returns-2
+returns-2 c =
+    let a = c .before .before .before .before .before .before .before .before .before .before .args in
+    fits-arc (a .tone) _ (a .k) (a .before) (a .o + a .i) (a .ring .now) (a .i) (c .before .before .before .before .before .before .before .before .before .before .pre .0 .4) (a .buf .now) (a .at) (c .before .before .before .before .before .before .if1 .left) _ _ (c .before .before .before .before .before .run-at .ensures) (c .before .before .before .before .gray-of .ensures) _ _ (c .before .before .place-arc .ensures)
+
+pub place-sector-spec : {M : Type 1} → statement M
+place-sector-spec =
+    tie.close
+    (tie.spec
+    shared-slice-read-s
+    returns
+    run-at-requires
+    gray-of-requires
+    add-place-arc
+    place-arc-requires
+    same-length
+    returns-2)

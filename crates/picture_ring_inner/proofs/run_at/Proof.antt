@@ -1,0 +1,63 @@
+-- `picture_ring_inner::run_at` meets its contract. The invariant: what is left of the run from place j on, and the sectors from i to j, are the run.
+use Prim.Native.Nat.{_+_, _-_, _≤_}
+use mathlib.Core.Path.{_≡_}
+use native.Mathlib.Omega.{arith}
+use lib.ListN.{length, drop}
+use Rattle.picture_spec.specs.Arcs.{reach}
+use Rattle.picture_ring_inner.proofs.Drawing.{run-on, run-out, run-cut}
+use borrow.Author.Needs.{needs}
+use Rattle.picture_ring_inner.proofs.run_at.Statement.{statement}
+use Rattle.picture_ring_inner.proofs.run_at.Tie as tie
+
+abbrev Inv-loop : tie.InvT-loop
+Inv-loop ring i s j₀ j = (i ≤ j) × (j ≤ length ring) × (reach s (drop i ring) ≡ (j - i) + reach s (drop j ring))
+
+abbrev μ-loop : tie.MeasureT-loop
+μ-loop ring i s j₀ j = length ring - j
+
+shared-slice-read-s : tie.Need-shared-slice-read-s Inv-loop μ-loop
+shared-slice-read-s c = search needs
+
+loop-holds : tie.Need-loop-holds Inv-loop μ-loop
+loop-holds c = (omega arith, omega arith, omega arith)
+
+shared-slice-read-if1 : tie.Need-shared-slice-read-if1 Inv-loop μ-loop
+shared-slice-read-if1 c = search needs
+
+sub-result : tie.Need-sub-result Inv-loop μ-loop
+sub-result c = omega (arith, c .before .before .before .loop .inv .0)
+
+returns : tie.Need-returns Inv-loop μ-loop
+returns c = run-cut _ _ _ _ (c .before .before .loop-test .taken) (c .if1 .taken) (c .before .before .before .loop .inv .2)
+
+add-j : tie.Need-add-j Inv-loop μ-loop
+add-j c = search needs
+
+loop-less : tie.Need-loop-less Inv-loop μ-loop
+loop-less c = search needs
+
+loop-again : tie.Need-loop-again Inv-loop μ-loop
+loop-again c = (omega (arith, c .before .before .before .loop .inv .0), omega (arith, c .before .before .loop-test .taken), run-on _ _ _ _ (c .before .before .before .loop .inv .0) (c .before .before .loop-test .taken) (c .if1 .left) (c .before .before .before .loop .inv .2))
+
+sub-result-2 : tie.Need-sub-result-2 Inv-loop μ-loop
+sub-result-2 c = search needs
+
+returns-2 : tie.Need-returns-2 Inv-loop μ-loop
+returns-2 c = run-out _ _ _ _ (c .loop-test .left) (c .before .loop .inv .2)
+
+pub run-at-spec : {M : Type 1} → statement M
+run-at-spec =
+    tie.close
+    (tie.spec
+    Inv-loop
+    μ-loop
+    shared-slice-read-s
+    loop-holds
+    shared-slice-read-if1
+    sub-result
+    returns
+    add-j
+    loop-less
+    loop-again
+    sub-result-2
+    returns-2)

@@ -1,0 +1,2 @@
+-- What the parts of drawing promise (Parts).
+pub mod Parts

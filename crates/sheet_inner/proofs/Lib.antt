@@ -1,0 +1,2 @@
+-- A target of its pieces (Cells).
+pub mod Cells

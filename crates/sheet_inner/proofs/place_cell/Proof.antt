@@ -1,0 +1,59 @@
+-- `sheet_inner::place_cell` meets its contract.
+use Prim.Native.Nat.{_+_, _≤_, _<_}
+use native.Mathlib.Omega.{arith}
+use native.Mathlib.Nat.{mod-lt}
+use Rattle.text_form_inner.proofs.Fits.{fits-append, fits-room}
+use Rattle.sheet_inner.proofs.Cells.{cell-fits}
+use borrow.Author.Needs.{needs}
+use Rattle.sheet_inner.proofs.place_cell.Statement.{statement}
+use Rattle.sheet_inner.proofs.place_cell.Tie as tie
+
+per-page-requires : tie.Need-per-page-requires
+per-page-requires c κs = search needs
+
+rem-j : tie.Need-rem-j
+rem-j c = search needs
+
+across-of-requires : tie.Need-across-of-requires
+across-of-requires c κs = (c .before .before .before .pre .1 .1 .0, omega (arith, mod-lt (c .before .before .before .args .i) (c .per-page .ensures .1), c .per-page .ensures .2))
+
+down-of-requires : tie.Need-down-of-requires
+down-of-requires c κs = (c .before .before .before .before .pre .1 .1 .0, omega (arith, mod-lt (c .before .before .before .before .args .i) (c .before .per-page .ensures .1), c .before .per-page .ensures .2))
+
+place-cell-head-requires : tie.Need-place-cell-head-requires
+place-cell-head-requires c κs = search needs
+
+place-ring-requires : tie.Need-place-ring-requires
+place-ring-requires c κs =
+    let z = c .before .before .before .before .before .before .before .before .before .before .pre in
+    ((z .0 .0, z .0 .1, z .0 .2, z .0 .3), (z .1 .0, fits-room (c .before .before .before .place-cell-head .ensures) 16384 (omega (arith, z .1 .1 .1))))
+
+place-tail-requires : tie.Need-place-tail-requires
+place-tail-requires c κs = search needs
+
+place-cell-foot-requires : tie.Need-place-cell-foot-requires
+place-cell-foot-requires c κs = search needs
+
+same-length : tie.Need-same-length
+same-length c = search needs
+
+returns : tie.Need-returns
+returns c =
+    let w = c .before .before .before .before .before .before .before .before .before .before .before .before .before .before .before .before .before .before .before .before .before .args .ring .now in
+    cell-fits _ _ w _ _ _ (c .before .before .before .before .before .before .before .before .before .before .before .before .before .before .before .before .before .before .per-page .ensures .0) (c .before .before .before .before .before .before .before .before .before .before .before .before .before .before .before .before .before .across-of .ensures) (c .before .before .before .before .before .before .before .before .before .before .before .before .before .before .before .before .down-of .ensures) _ _ _ _
+    (fits-append (fits-append (fits-append (c .before .before .before .before .before .before .before .before .before .before .before .before .before .before .place-cell-head .ensures) (c .before .before .before .before .before .before .before .before .before .before .place-ring .ensures)) (c .before .before .before .before .before .before .place-tail .ensures)) (c .before .before .place-cell-foot .ensures))
+
+pub place-cell-spec : {M : Type 1} → statement M
+place-cell-spec =
+    tie.close
+    (tie.spec
+    per-page-requires
+    rem-j
+    across-of-requires
+    down-of-requires
+    place-cell-head-requires
+    place-ring-requires
+    place-tail-requires
+    place-cell-foot-requires
+    same-length
+    returns)

@@ -1,0 +1,24 @@
+-- `sheet_inner::place_closing` meets its contract.
+use Rattle.sheet_inner.proofs.Cells.{fits-skip, fits-where}
+use borrow.Author.Needs.{needs}
+use Rattle.sheet_inner.proofs.place_closing.Statement.{statement}
+use Rattle.sheet_inner.proofs.place_closing.Tie as tie
+
+returns : tie.Need-returns
+returns c = fits-skip 384 _ _ _ _ (c .if1 .taken)
+
+add-place-foot : tie.Need-add-place-foot
+add-place-foot c = search needs
+
+place-foot-requires : tie.Need-place-foot-requires
+place-foot-requires c κs = search needs
+
+same-length : tie.Need-same-length
+same-length c = search needs
+
+returns-2 : tie.Need-returns-2
+returns-2 c = fits-where 384 _ _ _ _ _ _ (c .before .before .before .before .if1 .left) (c .before .before .place-foot .ensures)
+
+pub place-closing-spec : {M : Type 1} → statement M
+place-closing-spec =
+    tie.close (tie.spec returns add-place-foot place-foot-requires same-length returns-2)

@@ -1,0 +1,2 @@
+-- How large the numbers of a layout get (Bounds).
+pub mod Bounds

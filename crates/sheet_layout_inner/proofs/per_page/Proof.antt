@@ -1,0 +1,30 @@
+-- `sheet_layout_inner::per_page` meets its contract.
+use mathlib.Core.Path.{refl}
+use Prim.Native.Nat.{_≤_, _<_}
+use native.Mathlib.Omega.{arith}
+use Rattle.sheet_layout_inner.proofs.Bounds.{per-some, per-most}
+use borrow.Author.Needs.{needs}
+use Rattle.sheet_layout_inner.proofs.per_page.Statement.{statement}
+use Rattle.sheet_layout_inner.proofs.per_page.Tie as tie
+
+mul-rows : tie.Need-mul-rows
+mul-rows c = search needs
+
+add-rows : tie.Need-add-rows
+add-rows c = search needs
+
+div-rows : tie.Need-div-rows
+div-rows c = search needs
+
+mul-result : tie.Need-mul-result
+mul-result c =
+    let a = c .args in
+    omega (arith, per-most (a .size) (a .columns) (c .pre))
+
+returns : tie.Need-returns
+returns c =
+    let a = c .args in
+    (refl, per-some (a .size) (a .columns) (c .pre), per-most (a .size) (a .columns) (c .pre))
+
+pub per-page-spec : {M : Type 1} → statement M
+per-page-spec = tie.close (tie.spec mul-rows add-rows div-rows mul-result returns)

@@ -1,0 +1,74 @@
+-- `sheets::check_target` meets its contract.
+use Prim.Native.Nat.{_≤_, _<_}
+use mathlib.Core.Path.{refl}
+use mathlib.Core.Logic.{inl, inr}
+use native.Mathlib.Omega.{arith}
+use Rattle.refusal.specs.Order.{Passed, Given}
+use Rattle.refusal.specs.Calls.{oneReading}
+use Rattle.sheets.proofs.Fit.{fit-no, fit-yes}
+use borrow.Author.Needs.{needs}
+use Rattle.sheets.proofs.check_target.Statement.{statement}
+use Rattle.sheets.proofs.check_target.Tie as tie
+
+check-reading-requires : tie.Need-check-reading-requires
+check-reading-requires c κs = search needs
+
+enum-known-r : tie.Need-enum-known-r
+enum-known-r c = search needs
+
+enum-told : tie.Need-enum-told
+enum-told c = search needs
+
+returns : tie.Need-returns
+returns c =
+    let a = c .before .before .before .before .before .before .args in
+    let p : Passed (oneReading (a .ring .now) (a .sheet .k)) = rw (c .before .before .enum-told .given .1) at (c .before .before .before .before .check-reading .ensures) in
+    inl (inl (inl (inr (p, (refl, c .if1 .taken)))))
+
+returns-2 : tie.Need-returns-2
+returns-2 c =
+    let a = c .before .before .before .before .before .before .before .args in
+    let p : Passed (oneReading (a .ring .now) (a .sheet .k)) = rw (c .before .before .before .enum-told .given .1) at (c .before .before .before .before .before .check-reading .ensures) in
+    inl (inl (inr ((p, c .before .if1 .left), (refl, λ h. omega (arith, h, c .if2 .taken)))))
+
+fitting-requires : tie.Need-fitting-requires
+fitting-requires c κs = search needs
+
+returns-3 : tie.Need-returns-3
+returns-3 c =
+    let a = c .before .before .before .before .before .before .before .before .before .args in
+    let p : Passed (oneReading (a .ring .now) (a .sheet .k)) = rw (c .before .before .before .before .before .enum-told .given .1) at (c .before .before .before .before .before .before .before .check-reading .ensures) in
+    inl (inr (((p, c .before .before .before .if1 .left), omega (arith, c .before .before .if2 .left)), (refl, fit-no _ _ (c .before .fitting .result) (c .if3 .taken) (c .before .fitting .ensures))))
+
+returns-4 : tie.Need-returns-4
+returns-4 c =
+    let a = c .before .before .before .before .before .before .before .before .before .before .args in
+    let p : Passed (oneReading (a .ring .now) (a .sheet .k)) = rw (c .before .before .before .before .before .before .enum-told .given .1) at (c .before .before .before .before .before .before .before .before .check-reading .ensures) in
+    inr ((((p, c .before .before .before .before .if1 .left), omega (arith, c .before .before .before .if2 .left)), fit-yes _ _ (c .before .before .fitting .result) (c .before .if3 .left) (c .before .before .fitting .ensures)), (refl, λ h. omega (arith, h, c .if4 .taken)))
+
+returns-5 : tie.Need-returns-5
+returns-5 c =
+    let a = c .before .before .before .before .before .args in
+    let g : Given (oneReading (a .ring .now) (a .sheet .k)) _ = rw (c .before .r .given .1) at (c .before .before .before .check-reading .ensures) in
+    inl (inl (inl (inl g)))
+
+returns-6 : tie.Need-returns-6
+returns-6 c =
+    let a = c .before .before .before .before .before .before .before .before .before .before .args in
+    let p : Passed (oneReading (a .ring .now) (a .sheet .k)) = rw (c .before .before .before .before .before .before .enum-told .given .1) at (c .before .before .before .before .before .before .before .before .check-reading .ensures) in
+    ((((p, c .before .before .before .before .if1 .left), omega (arith, c .before .before .before .if2 .left)), fit-yes _ _ (c .before .before .fitting .result) (c .before .if3 .left) (c .before .before .fitting .ensures)), c .if4 .left)
+
+pub check-target-spec : {M : Type 1} → statement M
+check-target-spec =
+    tie.close
+    (tie.spec
+    check-reading-requires
+    enum-known-r
+    enum-told
+    returns
+    returns-2
+    fitting-requires
+    returns-3
+    returns-4
+    returns-5
+    returns-6)

@@ -1,0 +1,2 @@
+-- What the check of the layout promises (Says).
+pub mod Says

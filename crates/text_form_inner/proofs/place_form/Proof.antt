@@ -1,0 +1,26 @@
+-- `text_form_inner::place_form` meets its contract.
+use Prim.Native.Nat.{ℕ, _<_, _≤_, _^_}
+use native.Mathlib.Omega.{arith}
+use lib.ListN.{getD}
+use borrow.Author.Needs.{needs}
+use Rattle.text_fill_spec.proofs.Laws.{filled-short}
+use Rattle.text_form_inner.proofs.place_form.Statement.{statement}
+use Rattle.text_form_inner.proofs.place_form.Tie as tie
+
+place-filled-requires : tie.Need-place-filled-requires
+place-filled-requires c κs =
+    let a = c .before .before .before .before .before .args in
+    let known = c .before .before .shared-slice-known2 .given in
+    omega (arith, c .before .before .before .before .before .pre, filled-short (a .text .now) (a .numbers .now) (a .n) (a .rings .now) (λ i. omega (arith, known i)))
+
+same-length : tie.Need-same-length
+same-length c = search needs
+
+returns : tie.Need-returns
+returns c =
+    let a = c .before .before .before .before .before .before .before .before .args in
+    let known = c .before .before .before .before .before .shared-slice-known2 .given in
+    record { short = filled-short (a .text .now) (a .numbers .now) (a .n) (a .rings .now) (λ i. omega (arith, known i)); placed = c .before .before .place-filled .ensures }
+
+pub place-form-spec : {M : Type 1} → statement M
+place-form-spec = tie.close (tie.spec place-filled-requires same-length returns)

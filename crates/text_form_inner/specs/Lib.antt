@@ -1,0 +1,2 @@
+-- A text placed within a known room (Fits).
+pub mod Fits
