@@ -1,0 +1,2 @@
+-- A text filled and placed piece after piece (Filling).
+pub mod Filling

@@ -1,0 +1,2 @@
+-- What the parts of filling a text promise (Says).
+pub mod Says

@@ -1,0 +1,2 @@
+-- A text with slots, filled (Filled).
+pub mod Filled

@@ -1,0 +1,1 @@
+// A text with slots, filled with numbers and rings, as a definition with its laws. No functions.
