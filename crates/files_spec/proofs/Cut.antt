@@ -3,6 +3,8 @@
 --     run-through          a run shows what the whole catalogue shows from its place on
 --     run-tells            a run from the beginning
 --     cut-anyhow           so two runs of one catalogue have one verdict and show one text
+--     records-joined       records of two blocks
+--     told-over, told-bad  a catalogue that is good records, and one in which bytes that are refused stand behind them
 use Prim.Native.Nat.{ℕ, _+_, _<_, _≤_}
 use mathlib.Core.Path.{_≡_, refl, sym, ap, subst, _∙_}
 use mathlib.Core.Bool.{Bool, true, false, true≢false}
@@ -128,3 +130,22 @@ run-tells j c v t r = run-through j c 0 v t (omega arith) r
 
 pub cut-anyhow : (j : Job) (c : List ℕ) (v w : Checked) (t u : List ℕ) → Run j c 0 v t → Run j c 0 w u → (v ≡ w) × (t ≡ u)
 cut-anyhow j c v w t u p q = one-tells j c v w t u (run-tells j c v t p) (run-tells j c w u q)
+
+-- ---- records of more blocks
+
+pub records-joined : (j : Job) (p : ℕ) (b t b′ t′ : List ℕ) → Records j p b t → Records j (p + length b) b′ t′ → Records j p (b ++ b′) (t ++ t′)
+records-joined j p b t b′ t′ r none = rw (append-nil b, append-nil t) r
+records-joined j p b t b′ t′ r (more {b = d} {t = u} a x s o) =
+    let e : p + length b + length d ≡ p + length (b ++ d) = omega (arith, length-append b d) in
+    rw (sym (append-assoc b d a), sym (append-assoc t u x)) (more a x (records-joined j p b t d u r s) (rw e at o))
+
+-- a catalogue that is these records
+pub told-over : (j : Job) (c t : List ℕ) → Records j 0 c t → Tells j c C.Good (t ++ lastText j C.Good)
+told-over j c t r = records-through j c 0 c t [] C.Good (lastText j C.Good) r (sym (append-nil c)) (ends j c (0 + length c) (omega arith))
+
+-- and one in which bytes stand behind them that are refused
+pub told-bad : (j : Job) (c t b : List ℕ) (last : Bool) (r : Refusal) → Records j 0 c t → Bad last b (length c) r → Tells j (c ++ b) (C.Refused r) (t ++ lastText j (C.Refused r))
+told-bad j c t b last r s h =
+    let e : 0 + length c ≡ length c = omega arith in
+    records-through j (c ++ b) 0 c t b (C.Refused r) (lastText j (C.Refused r)) s refl
+    (rw e (bad-stops j (c ++ b) (length c) b [] last r (drop-at c b (length c) refl ∙ sym (append-nil b)) (λ k. refl) h))
