@@ -7,7 +7,7 @@ ghost use Rattle.line_spec.specs.Line.{ParseSays, FieldsSays, NumberSays, Space
 const DIGITS: usize = 3;
 
 // A number of one to three digits, with no leading zero.
-fn parse_number(s: &[u8]) -> Numeral
+pub fn parse_number(s: &[u8]) -> Numeral
     ensures { λ r. ⌜ NumberSays (now (s .entry)) r ⌝ }
 {
     let m = s.len();

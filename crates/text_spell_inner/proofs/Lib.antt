@@ -1,0 +1,2 @@
+-- Texts, digits and readings place by place (Spelling).
+pub mod Spelling
