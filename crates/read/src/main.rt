@@ -1,4 +1,4 @@
-// `./rings read < catalogue`.
+// The program that tells a catalogue's records, a line each: `./rings read < catalogue`. It is run here with a catalogue of both forms, which takes several blocks.
 
 use files_spec::Job;
 
