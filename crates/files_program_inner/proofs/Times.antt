@@ -37,7 +37,10 @@ use Rattle.files_program_inner.specs.declared.Turn.{Turn}
 use Rattle.files_program_inner.specs.declared.Turn.the-variants.{On, Done, Stopped}
 use Rattle.files_program_inner.specs.declared.Pass.{Pass}
 use Rattle.files_program_inner.specs.declared.Pass.the-variants as P
-use Rattle.files_program_inner.specs.Says.{Small, Roomy, onceFor, writesOf, failedOf, refusedOf, turnOf, TurnSays, gone, unwritten, AtSays, unread, full, ended, Reached, Told, Broken, StopSays, PassSays, WrittenSays, ThroughSays, stopped, whole}
+use Rattle.files_program_inner.specs.Says.{Small, Roomy, onceFor, writesOf, failedOf, refusedOf, turnOf, TurnSays, AtSays, Reached, Told, Broken, StopSays, PassSays, WrittenSays, ThroughSays}
+use Rattle.files_program_inner.specs.Says.TurnSays.{gone, unwritten}
+use Rattle.files_program_inner.specs.Says.AtSays.{unread, full, ended}
+use Rattle.files_program_inner.specs.Says.ThroughSays.{stopped, whole}
 
 pub roomy-still : (b d f g : List ℕ) → Roomy b d → length f ≡ length b → length g ≡ length d → Roomy f g
 roomy-still b d f g r k l = record { some = omega (arith, r .some); small = record { short = omega (arith, r .small .short); room = omega (arith, r .small .room) } }
@@ -54,7 +57,8 @@ shown-stands j p b last o v d s =
     rw (s .placed .bytes ∙ sets-eq (s .text) o 0 (omega (arith, s .placed .next, s .fits)))
     (take-at (s .text) (drop (0 + length (s .text)) o) (length (s .text)) refl)
 
-pub taken-turn : (j : Job) (w : Time) (p : ℕ) (b : List ℕ) (last : Bool) (o : List ℕ) (u : Taken) (d : List ℕ) (v : Turn) → TakeSays j p b last o u d → v ≡ turnOf w (u .how) (u .used) → TurnSays j w p b last d v
+pub taken-turn : (j : Job) (w : Time) (p : ℕ) (b : List ℕ) (last : Bool) (o : List ℕ) (u : Taken) (d : List ℕ) (v : Turn) → TakeSays j p b last o u d →
+    v ≡ turnOf w (u .how) (u .used) → TurnSays j w p b last d v
 taken-turn j w p b last o u d v s e = gone u (s .text) (s .says) (shown-stands j p b last o u d s) e
 
 -- ---- which of the three a turn is
@@ -101,7 +105,8 @@ reached-none j = ([], [], refl, none)
 on-reached : (j : Job) (p : ℕ) (b : List ℕ) (last : Bool) (u : Taken) (t : List ℕ) → TakenSays j p b last u t → Reached j p → Reached j (p + u .used)
 on-reached j p b last u t s (c, x, l, r) =
     let e : 0 + length c ≡ p = omega (arith, l) in
-    (c ++ take (u .used) b, x ++ s .shown, omega (arith, length-append c (take (u .used) b), length-take (u .used) b, s .inside), records-joined j 0 c x (take (u .used) b) (s .shown) r (rw e (s .records)))
+    let m = take (u .used) b in
+    (c ++ m, x ++ s .shown, omega (arith, length-append c m, length-take (u .used) b, s .inside), records-joined j 0 c x m (s .shown) r (rw e (s .records)))
 
 reached-told : (j : Job) (e : ℕ) → Reached j e → Told j e
 reached-told j e (c, x, l, r) = (c, x ++ lastText j C.Good, l, told-over j c x r)

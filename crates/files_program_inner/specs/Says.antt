@@ -30,7 +30,7 @@ use Rattle.files_spec.specs.declared.Job.the-variants as J
 use Rattle.files_spec.specs.declared.How.{How}
 use Rattle.files_spec.specs.declared.How.the-variants as H
 use Rattle.files_spec.specs.declared.Taken.{Taken}
-use Rattle.files_spec.specs.Catalogues.{Tells}
+use Rattle.files_spec.specs.Catalogues.{ShowsAll}
 use Rattle.files_spec.specs.Blocks.{Records, TakenSays}
 use Rattle.files_text_inner.specs.Room.{recordRoom}
 use Rattle.files_records_inner.specs.Says.{share}
@@ -99,10 +99,10 @@ abbrev pub Reached : Job → ℕ → Type 0
 Reached j e = (c : List ℕ) × (t : List ℕ) × (length c ≡ e) × Records j 0 c t
 
 abbrev pub Told : Job → ℕ → Type 0
-Told j e = (c : List ℕ) × (t : List ℕ) × (length c ≡ e) × Tells j c C.Good t
+Told j e = (c : List ℕ) × (t : List ℕ) × (length c ≡ e) × ShowsAll j c C.Good t
 
 abbrev pub Broken : Job → Refusal → Type 0
-Broken j r = (c : List ℕ) × (t : List ℕ) × Tells j c (C.Refused r) t
+Broken j r = (c : List ℕ) × (t : List ℕ) × ShowsAll j c (C.Refused r) t
 
 abbrev pub StopSays : Job → Time → Ending → Type 0
 StopSays j w E.Whole = (w ≡ Only) × ((r : Refusal) × Broken j r)

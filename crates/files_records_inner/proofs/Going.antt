@@ -102,7 +102,8 @@ pub going-none : (j : Job) (p : ℕ) (b o : List ℕ) → Going j p b o 0 0 o
 going-none j p b o = record { inside = omega arith; shown = []; records = none; placed = placed-none o 0; short = omega arith }
 
 -- one record more
-pub going-on : (j : Job) (p : ℕ) (b o : List ℕ) (i len : ℕ) (d : List ℕ) (m e : ℕ) (f : List ℕ) → Going j p b o i len d → StepSays j (p + i) (drop i b) d len (S.After m e) f → Going j p b o (i + m) e f
+pub going-on : (j : Job) (p : ℕ) (b o : List ℕ) (i len : ℕ) (d : List ℕ) (m e : ℕ) (f : List ℕ) → Going j p b o i len d →
+    StepSays j (p + i) (drop i b) d len (S.After m e) f → Going j p b o (i + m) e f
 going-on j p b o i len d m e f g (u, v, q) =
     record {
       inside = omega (arith, g .inside, length-drop i b);
@@ -120,8 +121,8 @@ pub going-room : (j : Job) (p : ℕ) (b o : List ℕ) (i len : ℕ) (d : List �
 going-room j p b o i len d g h = omega (arith, placed-length o 0 (g .shown) len d (g .placed), g .short, g .inside, h)
 
 -- no other record is read
-pub going-stop : (j : Job) (p : ℕ) (b : List ℕ) (last : Bool) (o : List ℕ) (i len : ℕ) (d : List ℕ) (h : How) (v : Taken) (f : List ℕ) → Going j p b o i len d → length b * share + recordRoom ≤ length o →
-    StopSays j p i h d len v f → ((t : List ℕ) → BehindText j h t → Left j (p + i) (drop i b) last h t) → TakeSays j p b last o v f
+pub going-stop : (j : Job) (p : ℕ) (b : List ℕ) (last : Bool) (o : List ℕ) (i len : ℕ) (d : List ℕ) (h : How) (v : Taken) (f : List ℕ) →
+    Going j p b o i len d → length b * share + recordRoom ≤ length o → StopSays j p i h d len v f → ((t : List ℕ) → BehindText j h t → Left j (p + i) (drop i b) last h t) → TakeSays j p b last o v f
 going-stop j p b last o i len d h v f g room s k =
     let q = s .puts in
     record {
@@ -150,7 +151,8 @@ left-over j p b false k t e = (refl, short, e)
     short : length b < 68
     short = elim (tri (length b) 68) [ lt h ↦ h | eq h ↦ absurd (k (omega arith)) | gt h ↦ absurd (k (omega arith)) ]
 
-pub left-bad : (j : Job) (p : ℕ) (b : List ℕ) (last : Bool) (r : Refusal) → EnoughSays last (length b) true → Given (recordOrder b p) r → (t : List ℕ) → BehindText j (H.Refused r) t → Left j p b last (H.Refused r) t
+pub left-bad : (j : Job) (p : ℕ) (b : List ℕ) (last : Bool) (r : Refusal) → EnoughSays last (length b) true → Given (recordOrder b p) r →
+    (t : List ℕ) → BehindText j (H.Refused r) t → Left j p b last (H.Refused r) t
 left-bad j p b last r k g t e = (record { enough = k; given = g }, e)
 
 -- ---- is another read?
@@ -214,7 +216,8 @@ module _ (j : Job) (p : ℕ) (b o : List ℕ) (i len : ℕ) (d : List ℕ) (g : 
         going-stop j p b last o i len d (H.Refused r) w u g room t (left-bad j (p + i) (drop i b) last r a (k .0))
 
   -- none is read
-  pub turn-over : (last : Bool) (w : Taken) (u : List ℕ) (y : Bool) → y ≡ false → EnoughSays last (length b - i) y → length b * share + recordRoom ≤ length o → StopSays j p i (leftOf last) d len w u → TakeSays j p b last o w u
+  pub turn-over : (last : Bool) (w : Taken) (u : List ℕ) (y : Bool) → y ≡ false → EnoughSays last (length b - i) y →
+      length b * share + recordRoom ≤ length o → StopSays j p i (leftOf last) d len w u → TakeSays j p b last o w u
   turn-over last w u y z n room s =
       let a : EnoughSays last (length (drop i b)) false = rw (length-drop i b) (rw z at n) in
       going-stop j p b last o i len d (leftOf last) w u g room s (left-over j (p + i) (drop i b) last a)

@@ -26,8 +26,8 @@ use Rattle.files_spec.specs.declared.How.{How}
 use Rattle.files_spec.specs.declared.How.the-variants.{On, Over, Refused}
 use Rattle.files_spec.specs.declared.Taken.{Taken}
 use Rattle.files_spec.specs.Shows.{lastText}
-use Rattle.files_spec.specs.Catalogues.{Through, over, bad, further, Tells}
-use Rattle.files_spec.specs.Blocks.{One, Records, none, more, Bad, Left, TakenSays, blockOf, Reaches, verdictOf, Run, part, rest}
+use Rattle.files_spec.specs.Catalogues.{Through, over, bad, further, ShowsAll}
+use Rattle.files_spec.specs.Blocks.{One, Records, none, more, Bad, Left, TakenSays, blockOf, Reaches, verdictOf, Blockwise, part, rest}
 use Rattle.files_spec.proofs.Unique.{one-tells}
 use Rattle.files_spec.proofs.Joined.{read-joined, given-joined}
 
@@ -65,14 +65,16 @@ stops : (j : Job) (c : List ℕ) (s : ℕ) (r : Refusal) → s < length c → Gi
 stops j c s r l g = bad {s = s} r blank (blank-long) (inr ((blank-long, omega arith), (l, g)), refl)
 
 -- what is left of the catalogue at s begins with what is left of the block, b, and goes on unless that was the last
-bad-stops : (j : Job) (c : List ℕ) (s : ℕ) (b z : List ℕ) (last : Bool) (r : Refusal) → drop s c ≡ b ++ z → (last ≡ true → z ≡ []) → Bad last b s r → Through j c s (C.Refused r) (lastText j (C.Refused r))
+bad-stops : (j : Job) (c : List ℕ) (s : ℕ) (b z : List ℕ) (last : Bool) (r : Refusal) → drop s c ≡ b ++ z → (last ≡ true → z ≡ []) → Bad last b s r →
+    Through j c s (C.Refused r) (lastText j (C.Refused r))
 bad-stops j c s b z true r e f h =
     let q : drop s c ≡ b = e ∙ ap (λ (y : List ℕ). b ++ y) (f refl) ∙ append-nil b in
     stops j c s r (omega (arith, ap length q, length-drop s c, h .enough)) (rw q (h .given))
 bad-stops j c s b z false r e f h =
     stops j c s r (omega (arith, ap length e, length-append b z, length-drop s c, h .enough)) (rw e (given-joined b z s r (h .enough) (h .given)))
 
-left-through : (j : Job) (c : List ℕ) (s : ℕ) (b z : List ℕ) (last : Bool) (w : How) (v : Checked) (t : List ℕ) → s ≤ length c → drop s c ≡ b ++ z → (last ≡ true → z ≡ []) → Left j s b last w t → verdictOf w v → Through j c s v t
+left-through : (j : Job) (c : List ℕ) (s : ℕ) (b z : List ℕ) (last : Bool) (w : How) (v : Checked) (t : List ℕ) → s ≤ length c → drop s c ≡ b ++ z →
+    (last ≡ true → z ≡ []) → Left j s b last w t → verdictOf w v → Through j c s v t
 left-through j c s b z last On v t m e f h k = absurd k
 left-through j c s b z last Over v t m e f (p, q, r) k =
     let y : drop s c ≡ [] = e ∙ ap (λ (i : List ℕ). i ++ z) q ∙ f p in
@@ -109,7 +111,7 @@ module _ (c : List ℕ) (p m e : ℕ) (l : e ≤ length (blockOf c p m)) where
   taken-through : (j : Job) (t : List ℕ) (v : Checked) (u : List ℕ) → Records j p (take e b) t → Through j c (p + e) v u → Through j c p v (t ++ u)
   taken-through j t v u r h = records-through j c p (take e b) t (drop e b ++ z) v u r cut (rw long h)
 
-pub run-through : (j : Job) (c : List ℕ) (p : ℕ) (v : Checked) (t : List ℕ) → p ≤ length c → Run j c p v t → Through j c p v t
+pub run-through : (j : Job) (c : List ℕ) (p : ℕ) (v : Checked) (t : List ℕ) → p ≤ length c → Blockwise j c p v t → Through j c p v t
 run-through j c p v t l (part {u = u} m w x s e r) =
     let h : Left j (w .place) (drop (w .used) (blockOf c p m)) false On (s .behind) = rw e at (s .left) in
     let f = s .place in
@@ -123,12 +125,13 @@ run-through j c p v t l (rest m last w x q s k) =
     let h = rw f at (s .left) in
     rw (s .whole)
     (taken-through c p m (w .used) (s .inside) j (s .shown) v (s .behind) (s .records)
-    (left-through j c (p + w .used) (drop (w .used) (blockOf c p m)) (drop m (drop p c)) last (w .how) v (s .behind) i (behind c p m (w .used) (s .inside)) (nothing c p m (w .used) (s .inside) last q) h k))
+    (left-through j c (p + w .used) (drop (w .used) (blockOf c p m)) (drop m (drop p c)) last (w .how) v (s .behind) i
+    (behind c p m (w .used) (s .inside)) (nothing c p m (w .used) (s .inside) last q) h k))
 
-pub run-tells : (j : Job) (c : List ℕ) (v : Checked) (t : List ℕ) → Run j c 0 v t → Tells j c v t
+pub run-tells : (j : Job) (c : List ℕ) (v : Checked) (t : List ℕ) → Blockwise j c 0 v t → ShowsAll j c v t
 run-tells j c v t r = run-through j c 0 v t (omega arith) r
 
-pub cut-anyhow : (j : Job) (c : List ℕ) (v w : Checked) (t u : List ℕ) → Run j c 0 v t → Run j c 0 w u → (v ≡ w) × (t ≡ u)
+pub cut-anyhow : (j : Job) (c : List ℕ) (v w : Checked) (t u : List ℕ) → Blockwise j c 0 v t → Blockwise j c 0 w u → (v ≡ w) × (t ≡ u)
 cut-anyhow j c v w t u p q = one-tells j c v w t u (run-tells j c v t p) (run-tells j c w u q)
 
 -- ---- records of more blocks
@@ -140,11 +143,11 @@ records-joined j p b t b′ t′ r (more {b = d} {t = u} a x s o) =
     rw (sym (append-assoc b d a), sym (append-assoc t u x)) (more a x (records-joined j p b t d u r s) (rw e at o))
 
 -- a catalogue that is these records
-pub told-over : (j : Job) (c t : List ℕ) → Records j 0 c t → Tells j c C.Good (t ++ lastText j C.Good)
+pub told-over : (j : Job) (c t : List ℕ) → Records j 0 c t → ShowsAll j c C.Good (t ++ lastText j C.Good)
 told-over j c t r = records-through j c 0 c t [] C.Good (lastText j C.Good) r (sym (append-nil c)) (ends j c (0 + length c) (omega arith))
 
 -- and one in which bytes stand behind them that are refused
-pub told-bad : (j : Job) (c t b : List ℕ) (last : Bool) (r : Refusal) → Records j 0 c t → Bad last b (length c) r → Tells j (c ++ b) (C.Refused r) (t ++ lastText j (C.Refused r))
+pub told-bad : (j : Job) (c t b : List ℕ) (last : Bool) (r : Refusal) → Records j 0 c t → Bad last b (length c) r → ShowsAll j (c ++ b) (C.Refused r) (t ++ lastText j (C.Refused r))
 told-bad j c t b last r s h =
     let e : 0 + length c ≡ length c = omega arith in
     records-through j (c ++ b) 0 c t b (C.Refused r) (lastText j (C.Refused r)) s refl

@@ -26,7 +26,7 @@ use Rattle.record_spec.proofs.Wrote.{recordBytes, length-record, bytes-placed, 
 use Rattle.files_spec.specs.declared.Job.{Job}
 use Rattle.files_spec.specs.declared.Job.the-variants as J
 use Rattle.files_spec.specs.Shows.{otherKind, Filled, Shows, lastText}
-use Rattle.files_spec.specs.Catalogues.{Through, over, bad, further, Tells}
+use Rattle.files_spec.specs.Catalogues.{Through, over, bad, further, ShowsAll}
 
 -- ---- a record
 
@@ -83,7 +83,8 @@ differ e f a b p q r n = n (sym q ∙ ap which p ∙ r)
 
 -- what follows an answer of the reader at s, where that is a record
 abbrev Rest : (j : Job) (c : List ℕ) (s : ℕ) (v : Checked) (text : List ℕ) → Entry → Type 0
-Rest j c s v text (Record n k x next) = (o : List ℕ) × (d : List ℕ) × (t : List ℕ) × (u : List ℕ) × ReadSays c s o (Record n k x next) d × Shows j s n k x (take n d) t × Through j c next v u × (text ≡ t ++ u)
+Rest j c s v text (Record n k x next) =
+    (o : List ℕ) × (d : List ℕ) × (t : List ℕ) × (u : List ℕ) × ReadSays c s o (Record n k x next) d × Shows j s n k x (take n d) t × Through j c next v u × (text ≡ t ++ u)
 Rest j c s v text End = Unit
 Rest j c s v text (Refused r) = Unit
 
@@ -109,5 +110,5 @@ one-through j c s v w t u (further {text = z} n k x next o d y h g r) (further {
         let one = f w b p in
         (one .0, ap (λ (k₁ : List ℕ). k₁ ++ z) (one-shown j s n k x (take n d) y a g l′) ∙ ap (λ (k₁ : List ℕ). a ++ k₁) (one .1) ∙ sym e)
 
-pub one-tells : (j : Job) (c : List ℕ) (v w : Checked) (t u : List ℕ) → Tells j c v t → Tells j c w u → (v ≡ w) × (t ≡ u)
+pub one-tells : (j : Job) (c : List ℕ) (v w : Checked) (t u : List ℕ) → ShowsAll j c v t → ShowsAll j c w u → (v ≡ w) × (t ≡ u)
 one-tells j c v w t u p q = one-through j c 0 v w t u p q

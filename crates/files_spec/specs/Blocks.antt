@@ -8,7 +8,7 @@
 --     TakeSays                  the same, where t stands at the beginning of an output that held o before and holds d after
 -- And a whole catalogue c, however it is cut:
 --     blockOf c p m             the block of c that begins at p and has m bytes, or fewer where c ends
---     Run j c p v t             block after block from p on: v is the verdict, and t what the blocks show, one after another
+--     Blockwise j c p v t       block after block from p on: v is the verdict, and t what the blocks show, one after another
 -- That a run shows what the whole catalogue shows: proofs/Cut.
 use Prim.Native.Nat.{ℕ, _+_, _<_, _≤_}
 use mathlib.Core.Path.{_≡_}
@@ -92,6 +92,6 @@ verdictOf On v = ⊥
 verdictOf Over v = v ≡ C.Good
 verdictOf (Refused r) v = v ≡ C.Refused r
 
-pub data Run (j : Job) (c : List ℕ) : ℕ → Checked → List ℕ → Type 0 where
-  part : {p : ℕ} {v : Checked} {u : List ℕ} (m : ℕ) (w : Taken) (t : List ℕ) → TakenSays j p (blockOf c p m) false w t → w .how ≡ On → Run j c (w .place) v u → Run j c p v (t ++ u)
-  rest : {p : ℕ} {v : Checked} (m : ℕ) (last : Bool) (w : Taken) (t : List ℕ) → Reaches c p m last → TakenSays j p (blockOf c p m) last w t → verdictOf (w .how) v → Run j c p v t
+pub data Blockwise (j : Job) (c : List ℕ) : ℕ → Checked → List ℕ → Type 0 where
+  part : {p : ℕ} {v : Checked} {u : List ℕ} (m : ℕ) (w : Taken) (t : List ℕ) → TakenSays j p (blockOf c p m) false w t → w .how ≡ On → Blockwise j c (w .place) v u → Blockwise j c p v (t ++ u)
+  rest : {p : ℕ} {v : Checked} (m : ℕ) (last : Bool) (w : Taken) (t : List ℕ) → Reaches c p m last → TakenSays j p (blockOf c p m) last w t → verdictOf (w .how) v → Blockwise j c p v t

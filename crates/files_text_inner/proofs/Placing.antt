@@ -73,7 +73,11 @@ module _ (w : List ℕ) (k : ℕ) (x : Kind) (g : Passed (oneReading w k)) where
         text = recordBytes x k w;
         says = bytes-filled w k x g;
         short = omega (arith, length-record w k x g, record-short);
-        placed = record { next = omega (arith, h .follows, length-record w k x g); bytes = wrote-bytes w k x g b at e d h ∙ sym (stored b (recordBytes x k w) at (4 + bodyLength x (length w) k) (length-record w k x g) (omega (arith, record-short))) };
+        placed =
+            record {
+              next = omega (arith, h .follows, length-record w k x g);
+              bytes = wrote-bytes w k x g b at e d h ∙ sym (stored b (recordBytes x k w) at (4 + bodyLength x (length w) k) (length-record w k x g) (omega (arith, record-short)));
+            };
       }
 
   pub never-refused : (b : List ℕ) (at : ℕ) (r : Refusal) (d : List ℕ) → at + recordRoom ≤ length b → WriteSays w k x b at (Refused r) d → ⊥

@@ -1,54 +1,38 @@
-use mathlib.Core.Path.{_≡_, _∙_, sym, ap, refl}
+-- `files_program_inner::run` is safe and ends.
 use native.Mathlib.Omega.{arith}
 use lib.ListN.{length-take}
 use Rattle.program_ending_inner.proofs.Unique.{say-within}
 use borrow.Author.Needs.{needs}
 use Rattle.files_program_inner.proofs.run.Statement.{statement}
 use Rattle.files_program_inner.proofs.run.Tie as tie
-use Rattle.files_program_inner.proofs.run.Reads as reads
-use Rattle.files_program_inner.proofs.run.Lts as lts
-use Rattle.files_program_inner.proofs.go_through.Reads as go-through-reads
-use Rattle.io.proofs.large_buffer.Reads as large-buffer-reads
-use Rattle.io.proofs.write_all.Reads as write-all-reads
-use Rattle.program_ending_inner.proofs.say.Reads as say-reads
 
--- src/lib.rt:196:19
 large-buffer-requires : tie.Need-large-buffer-requires
 large-buffer-requires c κs = search needs
 
--- src/lib.rt:197:33
 slice-aggregate-go-through : tie.Need-slice-aggregate-go-through
 slice-aggregate-go-through c = search needs
 
--- src/lib.rt:197:45
 slice-aggregate-go-through-2 : tie.Need-slice-aggregate-go-through-2
 slice-aggregate-go-through-2 c = search needs
 
--- src/lib.rt:197:9
 go-through-requires : tie.Need-go-through-requires
 go-through-requires c κs = search needs
 
--- src/lib.rt:198:46
 slice-aggregate-say : tie.Need-slice-aggregate-say
 slice-aggregate-say c = search needs
 
--- src/lib.rt:198:9
 say-requires : tie.Need-say-requires
 say-requires c κs = search needs
 
--- src/lib.rt:199:34
 array-share-prefix-out : tie.Need-array-share-prefix-out
 array-share-prefix-out c = omega (arith, say-within _ _ _ _ (c .before .say .ensures), c .before .say .kept)
 
--- src/lib.rt:199:34
 slice-aggregate-write-all : tie.Need-slice-aggregate-write-all
 slice-aggregate-write-all c = simp length-take (omega (arith, say-within _ _ _ _ (c .before .before .say .ensures), c .before .before .say .kept))
 
--- src/lib.rt:199:5
 write-all-requires : tie.Need-write-all-requires
 write-all-requires c κs = search needs
 
--- src/lib.rt:194:1
 returns : tie.Need-returns
 returns c = search needs
 
