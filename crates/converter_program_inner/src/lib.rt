@@ -18,7 +18,7 @@ ghost use Rattle.program_reading_inner.specs.Says.{MostSays};
 ghost use Rattle.converter_program_inner.specs.Says.{limit, mostBlock, BuffersFit, failedOf, BlockBecomes, AtSays, PassSays, sameEnd, WrittenSays, ThroughSays};
 
 // No file goes so far: 2 to the power 62.
-const LIMIT: usize = 4611686018427387904;
+pub const LIMIT: usize = 4611686018427387904;
 
 // What becomes of a block: so many bytes of it are done, or all of it and it was the last, or that is as far as it goes.
 pub enum Turn {
@@ -44,7 +44,7 @@ fn failed(writing: bool) -> Ending
 }
 
 // Reads standard input from `at` on until the block is full or the input ends.
-fn read_from(at: usize, block: &mut [u8]) -> Most
+pub fn read_from(at: usize, block: &mut [u8]) -> Most
     requires { ⌜ at < limit ⌝ }
     ensures { λ r. ⌜ MostSays r (now (block .exit)) ⌝ }
 {
@@ -143,7 +143,7 @@ fn go_once(writing: bool, block: &mut [u8], new: &mut [u8]) -> Pass
 }
 
 // A catalogue that ends elsewhere the second time is not the one that was checked.
-fn same_end(first: usize, second: usize) -> Ending
+pub fn same_end(first: usize, second: usize) -> Ending
     ensures { λ r. ⌜ r ≡ sameEnd first second ⌝ }
 {
     if first == second {

@@ -24,11 +24,11 @@ use Rattle.desk_spec.specs.declared.Both.the-variants.{Same, Apart}
 use Rattle.desk_spec.specs.declared.Verb.{Verb}
 use Rattle.desk_spec.specs.declared.Verb.the-variants as Asks
 use Rattle.desk_spec.specs.Questions.{Replies, good, bad}
-use Rattle.desk_spec.specs.Answers.{Shows, AboutSays, BothSays, ManySays, VerbSays, DeskAnswers, blank}
+use Rattle.desk_spec.specs.Answers.{AnswerShows, AboutSays, BothSays, ManySays, VerbSays, DeskAnswers, blank}
 use Rattle.desk_spec.proofs.Questions.{one-reading, one-pair, one-numbers, one-byte, one-line}
 
 -- an answer that is promised once
-pub one-shows : {A : Type 0} (P : A → Type 0) (f : A → List ℕ) → ((a b : A) → P a → P b → a ≡ b) → (t u : List ℕ) → Shows P f t → Shows P f u → t ≡ u
+pub one-shows : {A : Type 0} (P : A → Type 0) (f : A → List ℕ) → ((a b : A) → P a → P b → a ≡ b) → (t u : List ℕ) → AnswerShows P f t → AnswerShows P f u → t ≡ u
 one-shows P f one t u x y = x .is ∙ ap f (one (x .answer) (y .answer) (x .says) (y .says)) ∙ sym (y .is)
 
 -- a question that is asked once, and prints one text

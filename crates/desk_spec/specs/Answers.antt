@@ -1,5 +1,5 @@
 -- What a verb's call prints, by the call's own promise, and what a line prints.
---     Shows P f text          text is what an answer prints that the call promises
+--     AnswerShows P f text          text is what an answer prints that the call promises
 --     AboutSays v k w text    what a question about one reading prints
 --     BothSays v k a b text   what a question about two readings prints
 --     ManySays k n text       how many rings there are
@@ -37,7 +37,7 @@ use Rattle.desk_spec.specs.Questions.{ReadsReading, ReadsPair, ReadsNumb
 use Rattle.desk_spec.specs.Texts.{classText, homeText, toldText, distanceText, placeText, manyText, stockText}
 
 -- text is what an answer prints that is promised
-pub record Shows {A : Type 0} (P : A → Type 0) (print : A → List ℕ) (text : List ℕ) : Type 0 where
+pub record AnswerShows {A : Type 0} (P : A → Type 0) (print : A → List ℕ) (text : List ℕ) : Type 0 where
   pub answer : A
   pub says : P answer
   pub is : text ≡ print answer
@@ -49,21 +49,21 @@ blank n = replicate n 0
 -- ---- one reading
 
 abbrev pub AboutSays : About → ℕ → List ℕ → List ℕ → Type 0
-AboutSays Class k w text = Shows (λ a. ClassifySays w k a) classText text
-AboutSays Home k w text = Shows {A = Homed × List ℕ} (λ x. HomeSays w k (blank (length w)) (x .0) (x .1)) (λ x. homeText (x .0) (x .1)) text
-AboutSays Even k w text = Shows (λ a. ToldSays (oneReading w k) (evenHanded w) a) toldText text
-AboutSays Place k w text = Shows (λ a. PlaceSays w k a) placeText text
+AboutSays Class k w text = AnswerShows (λ a. ClassifySays w k a) classText text
+AboutSays Home k w text = AnswerShows {A = Homed × List ℕ} (λ x. HomeSays w k (blank (length w)) (x .0) (x .1)) (λ x. homeText (x .0) (x .1)) text
+AboutSays Even k w text = AnswerShows (λ a. ToldSays (oneReading w k) (evenHanded w) a) toldText text
+AboutSays Place k w text = AnswerShows (λ a. PlaceSays w k a) placeText text
 
 -- ---- two readings
 
 abbrev pub BothSays : Both → ℕ → List ℕ → List ℕ → List ℕ → Type 0
-BothSays Same k a b text = Shows (λ r. ToldSays (twoReadings a b k) (sameRing a b) r) toldText text
-BothSays Apart k a b text = Shows (λ r. DistanceSays a b k r) distanceText text
+BothSays Same k a b text = AnswerShows (λ r. ToldSays (twoReadings a b k) (sameRing a b) r) toldText text
+BothSays Apart k a b text = AnswerShows (λ r. DistanceSays a b k r) distanceText text
 
 -- ---- numbers
 
 abbrev pub ManySays : ℕ → ℕ → List ℕ → Type 0
-ManySays k n text = Shows {A = Counted × Counted} (λ x. CountSays necklace k n (x .0) × CountSays lyndon k n (x .1)) (λ x. manyText (x .0) (x .1)) text
+ManySays k n text = AnswerShows {A = Counted × Counted} (λ x. CountSays necklace k n (x .0) × CountSays lyndon k n (x .1)) (λ x. manyText (x .0) (x .1)) text
 
 -- ---- a line
 

@@ -9,7 +9,7 @@ use mathlib.Core.List.{List}
 use Rattle.stream_spec.specs.Blocks.{Puts}
 use Rattle.desk_spec.specs.Texts.{malformedText}
 use Rattle.desk_spec.specs.Questions.{Replies, good, bad}
-use Rattle.desk_spec.specs.Answers.{Shows}
+use Rattle.desk_spec.specs.Answers.{AnswerShows}
 use Rattle.desk_texts_inner.specs.Says.{deskRoom, LinePrinted}
 
 -- a text of which P holds
@@ -17,8 +17,8 @@ pub put-text : (P : List ℕ → Type 0) (b : List ℕ) (at : ℕ) (t : List ℕ
 put-text P b at t r b′ p q = record { text = t; says = p; short = q .short; placed = q .placed }
 
 -- an answer's text
-pub put-shown : {A : Type 0} (P : A → Type 0) (f : A → List ℕ) (a : A) → P a → (b : List ℕ) (at r : ℕ) (b′ : List ℕ) → LinePrinted b at (f a) r b′ → Puts (Shows P f) deskRoom b at r b′
-put-shown P f a p b at r b′ q = put-text (Shows P f) b at (f a) r b′ (record { answer = a; says = p; is = refl }) q
+pub put-shown : {A : Type 0} (P : A → Type 0) (f : A → List ℕ) (a : A) → P a → (b : List ℕ) (at r : ℕ) (b′ : List ℕ) → LinePrinted b at (f a) r b′ → Puts (AnswerShows P f) deskRoom b at r b′
+put-shown P f a p b at r b′ q = put-text (AnswerShows P f) b at (f a) r b′ (record { answer = a; says = p; is = refl }) q
 
 -- what one says of a text, the other says of it too
 pub puts-on : (P Q : List ℕ → Type 0) → ((t : List ℕ) → P t → Q t) → (b : List ℕ) (at r : ℕ) (b′ : List ℕ) → Puts P deskRoom b at r b′ → Puts Q deskRoom b at r b′

@@ -2,7 +2,7 @@
 --     fill-number, fill-ring, fill-other    one character
 --     filled-plain                          a text with no slot is itself
 --     slots-same, slots-other               how often a character stands in a text
---     filled-short                          how long a filled text gets
+--     filled-short                          how long a filledText text gets
 use Prim.Native.Nat.{ℕ, zero, suc, _+_, _*_, _^_, _<_, _≤_}
 use mathlib.Core.Path.{_≡_, refl, sym, ap, _∙_}
 use mathlib.Core.Bool.{true, false}

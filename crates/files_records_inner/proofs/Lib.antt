@@ -1,0 +1,2 @@
+-- A record, and the records of a block (Going).
+pub mod Going

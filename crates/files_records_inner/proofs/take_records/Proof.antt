@@ -1,0 +1,167 @@
+-- `files_records_inner::take_records` meets its contract: what is done so far are records whose texts stand at the beginning of the output (Going), and each turn takes one more.
+use Prim.Native.Nat.{_-_}
+use mathlib.Core.Path.{_≡_}
+use native.Mathlib.Omega.{arith}
+use lib.ListN.{length}
+use lib.ListN.{length-take, length-drop}
+use Rattle.files_records_inner.proofs.Going.{Going, going-none, going-room, turn-size, turn-on, turn-same, turn-stop, turn-over}
+use borrow.Author.Needs.{needs}
+use Rattle.files_records_inner.proofs.take_records.Statement.{statement}
+use Rattle.files_records_inner.proofs.take_records.Tie as tie
+
+abbrev Inv-loop : tie.InvT-loop
+Inv-loop job place block last out₀ ring₀ i₀ len₀ out ring i len = Going job place block out₀ i len out × (length ring ≡ 64)
+
+abbrev μ-loop : tie.MeasureT-loop
+μ-loop job place block last out₀ ring₀ i₀ len₀ out ring i len = length block - i
+
+loop-holds : tie.Need-loop-holds Inv-loop μ-loop
+loop-holds c = (going-none _ _ _ _, search needs)
+
+sub-enough : tie.Need-sub-enough Inv-loop μ-loop
+sub-enough c = omega (arith, c .loop .inv .0 .inside)
+
+enough-requires : tie.Need-enough-requires Inv-loop μ-loop
+enough-requires c κs = search needs
+
+add-take-one : tie.Need-add-take-one Inv-loop μ-loop
+add-take-one c = omega (arith, c .before .before .loop .inv .0 .inside, c .before .before .before .before .before .pre .0)
+
+sub-take-one : tie.Need-sub-take-one Inv-loop μ-loop
+sub-take-one c = omega (arith, c .before .before .loop .inv .0 .inside)
+
+part-take-one-start : tie.Need-part-take-one-start Inv-loop μ-loop
+part-take-one-start c = omega (arith, c .before .before .loop .inv .0 .inside)
+
+part-take-one-end : tie.Need-part-take-one-end Inv-loop μ-loop
+part-take-one-end c = search needs
+
+slice-aggregate-take-one : tie.Need-slice-aggregate-take-one Inv-loop μ-loop
+slice-aggregate-take-one c = search needs
+
+take-one-requires : tie.Need-take-one-requires Inv-loop μ-loop
+take-one-requires c κs =
+    let a = c .before .before .before .before .before .before .before .before .args in
+    let loop = c .before .before .before .before .before .loop in
+    let g = loop .inv .0 in
+    let r = going-room (a .job) (a .place) (a .block .now) (a .out .now) (loop .i) (loop .len) (loop .out) g (c .before .before .before .before .before .before .before .before .pre .1) in
+    ((simp (length-take, length-drop) (omega (arith, c .before .before .before .before .before .before .before .before .pre .0, g .inside)), loop .inv .1), r .1)
+
+enum-known-m : tie.Need-enum-known-m Inv-loop μ-loop
+enum-known-m c = search needs
+
+add-i : tie.Need-add-i Inv-loop μ-loop
+add-i c =
+    let a = c .before .before .before .before .before .before .before .before .before .before .before .before .before .before .before .args in
+    let loop = c .before .before .before .before .before .before .before .before .before .before .before .before .loop in
+    let g = loop .inv .0 in
+    let take-one = c .before .before .before .before .before .before .take-one in
+    let q = turn-size (a .job) (a .place) (a .block .now) (a .out .now) (loop .i) (loop .len) (loop .out) g (take-one .result) _ (take-one .ensures) _ _ (c .before .m .given .1) in
+    omega (arith, q, c .before .before .before .before .before .before .before .before .before .before .before .before .before .before .before .pre .0)
+
+loop-less : tie.Need-loop-less Inv-loop μ-loop
+loop-less c =
+    let a = c .before .before .before .before .before .before .before .before .before .before .before .before .before .before .before .args in
+    let loop = c .before .before .before .before .before .before .before .before .before .before .before .before .loop in
+    let g = loop .inv .0 in
+    let take-one = c .before .before .before .before .before .before .take-one in
+    let q = turn-size (a .job) (a .place) (a .block .now) (a .out .now) (loop .i) (loop .len) (loop .out) g (take-one .result) _ (take-one .ensures) _ _ (c .before .m .given .1) in
+    omega (arith, q)
+
+loop-again : tie.Need-loop-again Inv-loop μ-loop
+loop-again c =
+    let a = c .before .before .before .before .before .before .before .before .before .before .before .before .before .before .before .args in
+    let loop = c .before .before .before .before .before .before .before .before .before .before .before .before .loop in
+    let g = loop .inv .0 in
+    let take-one = c .before .before .before .before .before .before .take-one in
+    (turn-on (a .job) (a .place) (a .block .now) (a .out .now) (loop .i) (loop .len) (loop .out) g (take-one .result) _ (take-one .ensures) _ _ (c .before .m .given .1), search needs)
+
+enum-known-r : tie.Need-enum-known-r Inv-loop μ-loop
+enum-known-r c = search needs
+
+stop-requires : tie.Need-stop-requires Inv-loop μ-loop
+stop-requires c κs =
+    let a = c .before .before .before .before .before .before .before .before .before .before .before .before .before .before .before .before .args in
+    let loop = c .before .before .before .before .before .before .before .before .before .before .before .before .before .loop in
+    let g = loop .inv .0 in
+    let take-one = c .before .before .before .before .before .before .before .take-one in
+    let q = turn-same (a .job) (a .place) (a .block .now) (a .out .now) (loop .i) (loop .len) (loop .out) g (take-one .result) _ (take-one .ensures) _ (c .before .before .r .given .1) in
+    let pre = c .before .before .before .before .before .before .before .before .before .before .before .before .before .before .before .before .pre in
+    let r = going-room (a .job) (a .place) (a .block .now) (a .out .now) (loop .i) (loop .len) (loop .out) g (pre .1) in
+    (omega (arith, c .before .before .before .before .before .before .before .before .before .before .before .before .before .before .before .before .pre .0, g .inside), rw q (omega (arith, r .1)))
+
+same-length : tie.Need-same-length Inv-loop μ-loop
+same-length c =
+    let out′ = c .before .before .before .before .before .before .before .before .out in
+    let args = c .before .before .before .before .before .before .before .before .before .before .before .before .before .before .before .before .before .before .before .args in
+    let loop = c .before .before .before .before .before .before .before .before .before .before .before .before .before .before .before .before .loop in
+    let pre = c .before .before .before .before .before .before .before .before .before .before .before .before .before .before .before .before .before .before .before .pre in
+    omega (arith, c .before .out2 .given, out′ .given, going-room (args .job) (args .place) (args .block .now) (args .out .now) (loop .i) (loop .len) (loop .out) (loop .inv .0) (pre .1) .0)
+
+returns : tie.Need-returns Inv-loop μ-loop
+returns c =
+    let a = c .before .before .before .before .before .before .before .before .before .before .before .before .before .before .before .before .before .before .before .args in
+    let loop = c .before .before .before .before .before .before .before .before .before .before .before .before .before .before .before .before .loop in
+    let g = loop .inv .0 in
+    let take-one = c .before .before .before .before .before .before .before .before .before .before .take-one in
+    let stop = c .before .before .stop in
+    let enough = c .before .before .before .before .before .before .before .before .before .before .before .before .before .before .before .enough in
+    let r = c .before .before .before .before .before .r in
+    let if1 = c .before .before .before .before .before .before .before .before .before .before .before .before .before .before .if1 in
+    let pre = c .before .before .before .before .before .before .before .before .before .before .before .before .before .before .before .before .before .before .before .pre in
+    turn-stop (a .job) (a .place) (a .block .now) (a .out .now) (loop .i) (loop .len) (loop .out) g (take-one .result) _ (take-one .ensures)
+    (a .last) _ (stop .result) _ (enough .result) (r .given .1) (if1 .taken) (enough .ensures) (pre .1) (stop .ensures)
+
+finish-requires : tie.Need-finish-requires Inv-loop μ-loop
+finish-requires c κs =
+    let a = c .before .before .before .before .before .before .args in
+    let loop = c .before .before .before .loop in
+    let g = loop .inv .0 in
+    let r = going-room (a .job) (a .place) (a .block .now) (a .out .now) (loop .i) (loop .len) (loop .out) g (c .before .before .before .before .before .before .pre .1) in
+    (omega (arith, c .before .before .before .before .before .before .pre .0, g .inside), omega (arith, r .1))
+
+same-length-2 : tie.Need-same-length-2 Inv-loop μ-loop
+same-length-2 c =
+    let args = c .before .before .before .before .before .before .before .before .before .args in
+    let loop = c .before .before .before .before .before .before .loop in
+    let pre = c .before .before .before .before .before .before .before .before .before .pre in
+    omega (arith, c .before .out3 .given, going-room (args .job) (args .place) (args .block .now) (args .out .now) (loop .i) (loop .len) (loop .out) (loop .inv .0) (pre .1) .0)
+
+returns-2 : tie.Need-returns-2 Inv-loop μ-loop
+returns-2 c =
+    let a = c .before .before .before .before .before .before .before .before .before .args in
+    let loop = c .before .before .before .before .before .before .loop in
+    let g = loop .inv .0 in
+    let finish = c .before .before .finish in
+    let enough = c .before .before .before .before .before .enough in
+    let if1 = c .before .before .before .before .if1 in
+    let pre = c .before .before .before .before .before .before .before .before .before .pre in
+    turn-over (a .job) (a .place) (a .block .now) (a .out .now) (loop .i) (loop .len) (loop .out) g
+    (a .last) (finish .result) _ (enough .result) (if1 .left) (enough .ensures) (pre .1) (finish .ensures)
+
+pub take-records-spec : {M : Type 1} → statement M
+take-records-spec =
+    tie.close
+    (tie.spec
+    Inv-loop
+    μ-loop
+    loop-holds
+    sub-enough
+    enough-requires
+    add-take-one
+    sub-take-one
+    part-take-one-start
+    part-take-one-end
+    slice-aggregate-take-one
+    take-one-requires
+    enum-known-m
+    add-i
+    loop-less
+    loop-again
+    enum-known-r
+    stop-requires
+    same-length
+    returns
+    finish-requires
+    same-length-2
+    returns-2)

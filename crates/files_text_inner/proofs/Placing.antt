@@ -1,0 +1,125 @@
+-- Texts and records that stand where they were placed.
+--     line-short, line-puts       a record's line has room, and is what a telling shows
+--     record-short, wrote-puts, bytes-puts    a record has room, what the writer wrote is its bytes, at their place, and that is what a move shows
+--     never-refused               a ring that passes the checks is not refused where there is room
+--     end-read, end-move, damage-short, damage-read, damage-move    what stands behind the last record
+use Prim.Native.Nat.{ℕ, zero, suc, _+_, _^_, _<_, _≤_}
+use mathlib.Core.Path.{_≡_, refl, sym, ap, _∙_}
+use mathlib.Core.List.{List, [], _∷_, _++_, append-assoc}
+use native.Mathlib.Omega.{arith}
+use lib.ListN.{length, getD, take, drop, length-drop}
+use lib.Seq.{sets, sets-eq, drop-drop}
+use Rattle.text_spec.specs.Put.{Placed}
+use Rattle.text_spec.proofs.Put.{length-two}
+use Rattle.text_spec.proofs.Digits.{length-decimal}
+use Rattle.text_spec.specs.Ascii.{ascii}
+use Rattle.text_spec.specs.Text.{twoNumbers}
+use Rattle.text_fill_spec.specs.Filled.{filledText, slots, longest}
+use Rattle.text_fill_spec.proofs.Laws.{filled-short}
+use Rattle.refusal.specs.declared.Refusal.{Refusal}
+use Rattle.refusal.specs.declared.Checked.{Checked}
+use Rattle.refusal.specs.declared.Checked.the-variants as C
+use Rattle.refusal.specs.Numbers.{numberOf, placeOf}
+use Rattle.refusal.specs.Order.{Passed, Given}
+use Rattle.refusal.specs.Calls.{oneReading}
+use Rattle.refusal.proofs.Unique.{never-both}
+use Rattle.record_spec.specs.declared.Kind.{Kind}
+use Rattle.record_spec.specs.declared.Kind.the-variants.{Front, Packed}
+use Rattle.record_spec.specs.declared.Written.the-variants.{After, Refused}
+use Rattle.record_spec.specs.Layout.{bodyLength}
+use Rattle.record_spec.specs.Writes.{writeOrder, WriteSays}
+use Rattle.record_spec.proofs.Forms.{few-bytes}
+use Rattle.record_spec.proofs.Wrote.{recordBytes, length-record, wrote-bytes}
+use Rattle.stream_spec.specs.Blocks.{Puts}
+use Rattle.files_spec.specs.declared.Job.{Job}
+use Rattle.files_spec.specs.declared.Job.the-variants as J
+use Rattle.files_spec.specs.Shows.{otherKind, lineForm, recordLine, Filled, Shows, lastText}
+use Rattle.files_spec.proofs.Unique.{bytes-filled}
+use Rattle.files_text_inner.specs.Room.{recordRoom, endRoom, Answered}
+
+-- a number that the code holds has at most 20 digits
+abbrev pub Few : ℕ → Type 0
+Few x = x < 10 ^ 20
+
+numbers-few : (s n k : ℕ) → Few s → Few n → Few k → (i : ℕ) → getD (s ∷ n ∷ k ∷ []) i 0 < 10 ^ 20
+numbers-few s n k a b c zero = a
+numbers-few s n k a b c (suc zero) = b
+numbers-few s n k a b c (suc (suc zero)) = c
+numbers-few s n k a b c (suc (suc (suc i))) = omega arith
+
+form-short : (x : Kind) (n : ℕ) → n ≤ 64 → longest (lineForm x) n ≤ recordRoom
+unfolding longest slots
+form-short Front n l = omega arith
+form-short Packed n l = omega arith
+
+pub line-short : (s : ℕ) (x : Kind) (n k : ℕ) (w : List ℕ) → Few s → Few n → Few k → n ≤ 64 → length (recordLine s x n k w) ≤ recordRoom
+line-short s x n k w a b c l = omega (arith, filled-short (lineForm x) (s ∷ n ∷ k ∷ []) n w (numbers-few s n k a b c), form-short x n l)
+
+-- ---- the writer
+
+-- bytes v stored from a place on
+stored : (b v : List ℕ) (at m : ℕ) → length v ≡ m → at + m ≤ length b → sets b at v ≡ take at b ++ (v ++ drop m (drop at b))
+stored b v at m e l =
+    sets-eq v b at (omega arith) ∙ append-assoc (take at b) v (drop (at + length v) b) ∙ ap (λ (z : List ℕ). take at b ++ (v ++ z)) (ap (λ (i : ℕ). drop (at + i) b) e ∙ sym (drop-drop m at b))
+
+module _ (w : List ℕ) (k : ℕ) (x : Kind) (g : Passed (oneReading w k)) where
+  -- a record takes at most 68 bytes
+  pub record-short : 4 + bodyLength x (length w) k ≤ 68
+  record-short = omega (arith, few-bytes (length w) k x (g .0 .0 .0 .0 .1), g .0 .0 .0 .0 .0 .0 .1)
+
+  pub wrote-puts : (b : List ℕ) (at e : ℕ) (d : List ℕ) → at + recordRoom ≤ length b → WriteSays w k x b at (After e) d → Puts (Filled w k x) recordRoom b at e d
+  wrote-puts b at e d l h =
+      record {
+        text = recordBytes x k w;
+        says = bytes-filled w k x g;
+        short = omega (arith, length-record w k x g, record-short);
+        placed =
+            record {
+              next = omega (arith, h .follows, length-record w k x g);
+              bytes = wrote-bytes w k x g b at e d h ∙ sym (stored b (recordBytes x k w) at (4 + bodyLength x (length w) k) (length-record w k x g) (omega (arith, record-short)));
+            };
+      }
+
+  pub never-refused : (b : List ℕ) (at : ℕ) (r : Refusal) (d : List ℕ) → at + recordRoom ≤ length b → WriteSays w k x b at (Refused r) d → ⊥
+  never-refused b at r d l h =
+      never-both (writeOrder w k x (drop at b) at) r (h .0) (g, omega (arith, length-drop at b, record-short))
+
+-- ---- what a record shows
+
+module _ (j : Job) (s n k : ℕ) (x : Kind) (w b : List ℕ) (at r : ℕ) (d : List ℕ) where
+  pub line-puts : j ≡ J.Read → Few s → Few n → Few k → n ≤ 64 → Placed b at (recordLine s x n k w) r d → Puts (Shows j s n k x w) recordRoom b at r d
+  line-puts e f g h l p = rw e (record { text = recordLine s x n k w; says = refl; short = line-short s x n k w f g h l; placed = p })
+
+  pub bytes-puts : (y : Kind) → j ≡ J.Move → y ≡ otherKind x → Puts (Filled w k y) recordRoom b at r d → Puts (Shows j s n k x w) recordRoom b at r d
+  bytes-puts y e f p = rw e (rw f at p)
+
+-- a ring of at most 64 sectors
+pub answered-few : (n k : ℕ) (w : List ℕ) → Answered n k w → n ≤ 64
+answered-few n k w a = omega (arith, a .long, a .passed .0 .0 .0 .0 .0 .0 .1)
+
+-- ---- behind the last record
+
+pub damage-short : (x p : ℕ) → Few x → Few p → length (twoNumbers (ascii "refused ") x (ascii " at ") p) ≤ endRoom
+damage-short x p f g = omega (arith, length-two (ascii "refused ") x (ascii " at ") p, length-decimal 19 x f, length-decimal 19 p g)
+
+module _ (j : Job) (b : List ℕ) (at : ℕ) where
+  -- nothing
+  nothing : (v : Checked) → j ≡ J.Move → Puts (λ t. t ≡ lastText j v) endRoom b at at b
+  unfolding lastText
+  nothing v e = rw e (record { text = []; says = refl; short = omega arith; placed = record { next = omega arith; bytes = refl } })
+
+  pub end-read : (r : ℕ) (d : List ℕ) → j ≡ J.Read → Placed b at (ascii "end\n") r d → Puts (λ t. t ≡ lastText j C.Good) endRoom b at r d
+  unfolding lastText
+  end-read r d e p = rw e (record { text = ascii "end\n"; says = refl; short = omega arith; placed = p })
+
+  pub end-move : j ≡ J.Move → Puts (λ t. t ≡ lastText j C.Good) endRoom b at at b
+  end-move e = nothing C.Good e
+
+  pub damage-move : (q : Refusal) → j ≡ J.Move → Puts (λ t. t ≡ lastText j (C.Refused q)) endRoom b at at b
+  damage-move q e = nothing (C.Refused q) e
+
+  pub damage-read : (q : Refusal) (x p r : ℕ) (d : List ℕ) → j ≡ J.Read → x ≡ numberOf q → p ≡ placeOf q → Few x → Few p →
+      Placed b at (twoNumbers (ascii "refused ") x (ascii " at ") p) r d → Puts (λ t. t ≡ lastText j (C.Refused q)) endRoom b at r d
+  unfolding lastText
+  damage-read q x p r d e f g h i l =
+      rw e (record { text = twoNumbers (ascii "refused ") x (ascii " at ") p; says = rw (f, g); short = damage-short x p h i; placed = l })

@@ -1,0 +1,60 @@
+-- `files_text_inner::place_damage` meets its contract: the number and the place have room, and are those of the refusal.
+use native.Mathlib.Omega.{arith}
+use Rattle.files_text_inner.proofs.Placing.{damage-short, damage-read, damage-move}
+use borrow.Author.Needs.{needs}
+use Rattle.files_text_inner.proofs.place_damage.Statement.{statement}
+use Rattle.files_text_inner.proofs.place_damage.Tie as tie
+
+enum-told : tie.Need-enum-told
+enum-told c = search needs
+
+number-requires : tie.Need-number-requires
+number-requires c κs = search needs
+
+place-requires : tie.Need-place-requires
+place-requires c κs = search needs
+
+slice-aggregate-place-two : tie.Need-slice-aggregate-place-two
+slice-aggregate-place-two c = search needs
+
+slice-aggregate-place-two-2 : tie.Need-slice-aggregate-place-two-2
+slice-aggregate-place-two-2 c = search needs
+
+place-two-requires : tie.Need-place-two-requires
+place-two-requires c κs =
+    let pre = c .before .before .before .before .before .before .before .before .pre in
+    let number = c .before .before .before .before .number in
+    let place = c .before .before .before .place in
+    omega (arith, pre, damage-short (number .result) (place .result) (search needs) (search needs))
+
+enum-told-2 : tie.Need-enum-told-2
+enum-told-2 c = search needs
+
+same-length : tie.Need-same-length
+same-length c = search needs
+
+returns : tie.Need-returns
+returns c =
+    let enum-told = c .before .before .before .before .before .before .before .before .enum-told in
+    let number = c .before .before .before .before .before .before .before .number in
+    let place = c .before .before .before .before .before .before .place in
+    let place-two = c .before .before .place-two in
+    damage-read _ _ _ _ _ _ _ _ (enum-told .given .1) (number .ensures) (place .ensures) (search needs) (search needs) (place-two .ensures)
+
+returns-2 : tie.Need-returns-2
+returns-2 c = damage-move _ _ _ _ (c .enum-told2 .given .1)
+
+pub place-damage-spec : {M : Type 1} → statement M
+place-damage-spec =
+    tie.close
+    (tie.spec
+    enum-told
+    number-requires
+    place-requires
+    slice-aggregate-place-two
+    slice-aggregate-place-two-2
+    place-two-requires
+    enum-told-2
+    same-length
+    returns
+    returns-2)

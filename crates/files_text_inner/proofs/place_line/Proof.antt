@@ -1,0 +1,66 @@
+-- `files_text_inner::place_line` meets its contract: the line has room, and is that of its form.
+use native.Mathlib.Omega.{arith}
+use Rattle.files_text_inner.proofs.Placing.{line-short, answered-few}
+use Rattle.record_spec.specs.declared.Kind.the-variants.{Front, Packed}
+use borrow.Author.Needs.{needs}
+use Rattle.files_text_inner.proofs.place_line.Statement.{statement}
+use Rattle.files_text_inner.proofs.place_line.Tie as tie
+
+enum-told : tie.Need-enum-told
+enum-told c = search needs
+
+slice-aggregate-place-filled : tie.Need-slice-aggregate-place-filled
+slice-aggregate-place-filled c = search needs
+
+slice-aggregate-place-filled-2 : tie.Need-slice-aggregate-place-filled-2
+slice-aggregate-place-filled-2 c = search needs
+
+place-filled-requires : tie.Need-place-filled-requires
+place-filled-requires c κs =
+    let a = c .before .before .before .before .before .before .before .args in
+    let pre = c .before .before .before .before .before .before .before .pre in
+    omega (arith, pre .1, line-short (a .at-record) Front (a .n) (a .k) (a .ring .now) (search needs) (search needs) (search needs) (answered-few _ _ _ (pre .0)))
+
+enum-told-2 : tie.Need-enum-told-2
+enum-told-2 c = search needs
+
+slice-aggregate-place-filled-3 : tie.Need-slice-aggregate-place-filled-3
+slice-aggregate-place-filled-3 c = search needs
+
+slice-aggregate-place-filled-4 : tie.Need-slice-aggregate-place-filled-4
+slice-aggregate-place-filled-4 c = search needs
+
+place-filled-requires-2 : tie.Need-place-filled-requires-2
+place-filled-requires-2 c κs =
+    let a = c .before .before .before .before .before .before .before .args in
+    let pre = c .before .before .before .before .before .before .before .pre in
+    omega (arith, pre .1, line-short (a .at-record) Packed (a .n) (a .k) (a .ring .now) (search needs) (search needs) (search needs) (answered-few _ _ _ (pre .0)))
+
+same-length : tie.Need-same-length
+same-length c = search needs
+
+returns : tie.Need-returns
+returns c = rw (c .before .before .before .before .before .before .enum-told .given .1) (c .before .before .place-filled .ensures)
+
+same-length-2 : tie.Need-same-length-2
+same-length-2 c = search needs
+
+returns-2 : tie.Need-returns-2
+returns-2 c = rw (c .before .before .before .before .before .before .enum-told2 .given .1) (c .before .before .place-filled2 .ensures)
+
+pub place-line-spec : {M : Type 1} → statement M
+place-line-spec =
+    tie.close
+    (tie.spec
+    enum-told
+    slice-aggregate-place-filled
+    slice-aggregate-place-filled-2
+    place-filled-requires
+    enum-told-2
+    slice-aggregate-place-filled-3
+    slice-aggregate-place-filled-4
+    place-filled-requires-2
+    same-length
+    returns
+    same-length-2
+    returns-2)

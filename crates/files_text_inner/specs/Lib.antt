@@ -1,0 +1,2 @@
+-- The room that texts take (Room).
+pub mod Room
