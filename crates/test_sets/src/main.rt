@@ -1,6 +1,7 @@
-// The call `sets::pick` run and compared with all that it leaves: the rings in the places, how many were taken and whether that is the wanted number, how many
-// other sectors are not 0; or a refusal's number and place, with all of that. The cases are the lines of stdin: n, k, the distance and the wanted number. The expected
-// text, stdout, is worked out from the definitions: every reading in order, each compared with all taken.
+// The calls `sets::pick` and, where a line ends with 1, `sets::pick_guarded` run and compared with all that they leave: the rings in the places, how many were taken
+// and whether that is the wanted number, how many other sectors are not 0; or a refusal's number and place, with all of that. The cases are the lines of stdin: n, k, the
+// distance and the wanted number. The expected text, stdout, is worked out from the definitions: every reading in order, each, and for guarded sets its mirror image and
+// its turns, compared with all taken.
 
 use refusal::Checked;
 use sets::Picked;
@@ -66,13 +67,21 @@ fn end(p: Picked, n: usize) {
     test_show::newline();
 }
 
+fn picked(n: usize, k: usize, d: usize, wanted: usize, guarded: usize) -> Picked {
+    if guarded == 1 {
+        return sets::pick_guarded(n, k, d, wanted);
+    }
+    sets::pick(n, k, d, wanted)
+}
+
 fn run(line: &[u8]) {
     let n = test_cases::number(line, 0);
-    let p = sets::pick(
+    let p = picked(
         n,
         test_cases::number(line, 1),
         test_cases::number(line, 2),
         test_cases::number(line, 3),
+        test_cases::number(line, 4),
     );
     let answer = p.answer;
     match answer {
