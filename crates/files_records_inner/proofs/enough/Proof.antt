@@ -1,4 +1,5 @@
 -- `files_records_inner::enough` meets its contract: none left, the last block, or the bytes of the longest record.
+use native.Mathlib.Omega.{arith}
 use Rattle.files_records_inner.proofs.Going.{enough-none, enough-last, enough-short, enough-long}
 use Rattle.files_records_inner.proofs.enough.Statement.{statement}
 use Rattle.files_records_inner.proofs.enough.Tie as tie
@@ -10,10 +11,10 @@ returns-2 : tie.Need-returns-2
 returns-2 c = enough-last (c .before .before .args .last) (c .before .before .args .left) (c .if2 .taken) (c .before .if1 .left)
 
 returns-3 : tie.Need-returns-3
-returns-3 c = enough-short (c .before .before .before .args .last) (c .before .before .before .args .left) (c .before .if2 .left) (c .if3 .taken)
+returns-3 c = enough-short (c .before .before .before .args .last) (c .before .before .before .args .left) (c .before .if2 .left) (omega (arith, c .if3 .taken))
 
 returns-4 : tie.Need-returns-4
-returns-4 c = enough-long (c .before .before .before .args .last) (c .before .before .before .args .left) (c .before .if2 .left) (c .if3 .left)
+returns-4 c = enough-long (c .before .before .before .args .last) (c .before .before .before .args .left) (c .before .if2 .left) (omega (arith, c .if3 .left))
 
 pub enough-spec : {M : Type 1} → statement M
 enough-spec = tie.close (tie.spec returns returns-2 returns-3 returns-4)

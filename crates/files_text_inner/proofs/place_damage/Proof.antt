@@ -22,10 +22,10 @@ slice-aggregate-place-two-2 c = search needs
 
 place-two-requires : tie.Need-place-two-requires
 place-two-requires c κs =
+    let x = c .before .before .before .before .number .result in
+    let p = c .before .before .before .place .result in
     let pre = c .before .before .before .before .before .before .before .before .pre in
-    let number = c .before .before .before .before .number in
-    let place = c .before .before .before .place in
-    omega (arith, pre, damage-short (number .result) (place .result) (search needs) (search needs))
+    omega (arith, pre, damage-short x p (search needs) (search needs), damage-short p x (search needs) (search needs))
 
 enum-told-2 : tie.Need-enum-told-2
 enum-told-2 c = search needs

@@ -19,7 +19,10 @@ place-filled-requires : tie.Need-place-filled-requires
 place-filled-requires c κs =
     let a = c .before .before .before .before .before .before .before .args in
     let pre = c .before .before .before .before .before .before .before .pre in
-    omega (arith, pre .1, line-short (a .at-record) Front (a .n) (a .k) (a .ring .now) (search needs) (search needs) (search needs) (answered-few _ _ _ (pre .0)))
+    let few = answered-few _ _ _ (pre .0) in
+    let f = line-short (a .at-record) Front (a .n) (a .k) (a .ring .now) (search needs) (search needs) (search needs) few in
+    let p = line-short (a .at-record) Packed (a .n) (a .k) (a .ring .now) (search needs) (search needs) (search needs) few in
+    omega (arith, pre .1, f, p)
 
 enum-told-2 : tie.Need-enum-told-2
 enum-told-2 c = search needs
@@ -34,7 +37,10 @@ place-filled-requires-2 : tie.Need-place-filled-requires-2
 place-filled-requires-2 c κs =
     let a = c .before .before .before .before .before .before .before .args in
     let pre = c .before .before .before .before .before .before .before .pre in
-    omega (arith, pre .1, line-short (a .at-record) Packed (a .n) (a .k) (a .ring .now) (search needs) (search needs) (search needs) (answered-few _ _ _ (pre .0)))
+    let few = answered-few _ _ _ (pre .0) in
+    let f = line-short (a .at-record) Front (a .n) (a .k) (a .ring .now) (search needs) (search needs) (search needs) few in
+    let p = line-short (a .at-record) Packed (a .n) (a .k) (a .ring .now) (search needs) (search needs) (search needs) few in
+    omega (arith, pre .1, f, p)
 
 same-length : tie.Need-same-length
 same-length c = search needs
