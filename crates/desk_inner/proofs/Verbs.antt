@@ -4,7 +4,7 @@
 --     orElse-known, orElse-unknown     group after group
 use Prim.Native.Nat.{ℕ}
 use mathlib.Core.Path.{_≡_, refl, sym, ap, _∙_}
-use mathlib.Core.Bool.{true, false, false≢true}
+use mathlib.Core.Bool.{Bool, true, false, false≢true}
 use mathlib.Core.List.{List}
 use Rattle.words.specs.Order.{same}
 use Rattle.text_spec.specs.Ascii.{ascii}
@@ -17,10 +17,10 @@ use Rattle.desk_spec.specs.declared.Found.the-variants.{Known, Unknown}
 use Rattle.desk_spec.specs.Verbs.{named, orElse, isKnown, aboutOf, bothOf, countOf, verbOf}
 
 named-yes : (t name : List ℕ) (v : Verb) (next : Found) → same t name ≡ true → Known v ≡ named t name v next
-named-yes t name v next e = rw e refl
+named-yes t name v next e = sym (ap (λ (b : Bool). elim b [ true ↦ Known v | false ↦ next ]) e)
 
 named-no : (t name : List ℕ) (v : Verb) (next : Found) → same t name ≡ false → next ≡ named t name v next
-named-no t name v next e = rw e refl
+named-no t name v next e = sym (ap (λ (b : Bool). elim b [ true ↦ Known v | false ↦ next ]) e)
 
 module _ (t : List ℕ) where
   pub about-1 : same t (ascii "class") ≡ true → Known (About Class) ≡ aboutOf t
