@@ -173,6 +173,22 @@ compile() {
     "$kit/on/$machine/bin/rattle-cases" --toolchain "$by/on/$machine/toolchain" --staticlib "$room/$name.a" "$@"
 }
 
+# build_programs DIR PROGRAM..: the programs in DIR, each by its own main.rt under its own name, from one static library; without a proof, as compile does.
+build_programs() {
+    into=$1
+    shift
+    {
+        for program; do grep '^use ' "$top/crates/$program/src/main.rt"; done | sort -u
+        for program; do
+            sed -e '/^use /d' -e "s/^fn main() {/#[no_mangle]\npub extern \"C\" fn program_$program() {/" "$top/crates/$program/src/main.rt"
+        done
+    } | compile programs || return 2
+    for program; do
+        echo "void program_$program(void); int main(void) { program_$program(); return 0; }" | object "main_$program" -O2 -fPIE || return 2
+        link "$into/$program" "$room/main_$program.o" "$room/programs.a" || return 2
+    done
+}
+
 # ---- the stack
 
 # keep_objects: room/kit, the toolchain once more, in links, but for the compiler, which also leaves two objects in room/kit: built.o as the code is built, and apart.o
