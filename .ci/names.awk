@@ -205,7 +205,7 @@ function kind_of(head) {
     if (head == "Where") return "W"
     if (head ~ /^Wrong programs/) return "P"
     if (head == "Call") return "L"
-    if (head == "Sentence" || head == "Demand" || head == "Row" || head ~ /^Its contract/) return "S"
+    if (head == "Statement" || head == "In symbols" || head == "About" || head == "From" || head == "Sentence" || head == "Demand" || head == "Row" || head ~ /^Its contract/) return "S"
     return ""
 }
 
