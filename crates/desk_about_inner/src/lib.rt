@@ -63,7 +63,15 @@ fn answer_about(v: About, k: usize, w: &[u8], out: &mut [u8], buf: &mut [u8], at
 }
 
 // The reading is spelt into the lent bytes w.
-fn ask_about(v: About, k: usize, t: &[u8], w: &mut [u8], out: &mut [u8], buf: &mut [u8], at: usize) -> usize
+fn ask_about(
+    v: About,
+    k: usize,
+    t: &[u8],
+    w: &mut [u8],
+    out: &mut [u8],
+    buf: &mut [u8],
+    at: usize,
+) -> usize
     requires { ⌜ length (now t) ≤ 1023 ⌝ }
     requires { ⌜ length (now w) ≡ length (now t) ⌝ }
     requires { ⌜ now out ≡ blank (length (now t)) ⌝ }

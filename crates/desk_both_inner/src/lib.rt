@@ -41,7 +41,16 @@ fn answer_both(v: Both, k: usize, a: &[u8], b: &[u8], buf: &mut [u8], at: usize)
 }
 
 // The readings are spelt into the lent bytes a and b.
-fn ask_both(v: Both, k: usize, s: &[u8], t: &[u8], a: &mut [u8], b: &mut [u8], buf: &mut [u8], at: usize) -> usize
+fn ask_both(
+    v: Both,
+    k: usize,
+    s: &[u8],
+    t: &[u8],
+    a: &mut [u8],
+    b: &mut [u8],
+    buf: &mut [u8],
+    at: usize,
+) -> usize
     requires { ⌜ length (now a) ≡ length (now s) ⌝ }
     requires { ⌜ length (now b) ≡ length (now t) ⌝ }
     requires { ⌜ at + deskRoom ≤ length (now buf) ⌝ }
@@ -57,7 +66,15 @@ fn ask_both(v: Both, k: usize, s: &[u8], t: &[u8], a: &mut [u8], b: &mut [u8], b
 }
 
 // Two words: each is a reading.
-fn ask_words(v: Both, k: usize, t: &[u8], a: &mut [u8], b: &mut [u8], buf: &mut [u8], at: usize) -> usize
+fn ask_words(
+    v: Both,
+    k: usize,
+    t: &[u8],
+    a: &mut [u8],
+    b: &mut [u8],
+    buf: &mut [u8],
+    at: usize,
+) -> usize
     requires { ⌜ length (now t) ≤ length (now a) ⌝ }
     requires { ⌜ length (now t) ≤ length (now b) ⌝ }
     requires { ⌜ at + deskRoom ≤ length (now buf) ⌝ }
@@ -68,7 +85,16 @@ fn ask_words(v: Both, k: usize, t: &[u8], a: &mut [u8], b: &mut [u8], buf: &mut 
         return desk_texts_inner::place_malformed(buf, at);
     }
     let m = t.len() - (e + 1);
-    ask_both(v, k, &t[..e], &t[e + 1..], &mut a[..e], &mut b[..m], buf, at)
+    ask_both(
+        v,
+        k,
+        &t[..e],
+        &t[e + 1..],
+        &mut a[..e],
+        &mut b[..m],
+        buf,
+        at,
+    )
 }
 
 // What the text behind the verb prints.

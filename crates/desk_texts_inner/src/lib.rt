@@ -15,7 +15,14 @@ ghost use Rattle.desk_spec.specs.Texts.{refusalText, malformedText, nameText, c
 ghost use Rattle.desk_texts_inner.specs.Says.{deskRoom, longestRing, Printed};
 
 // A filled text that is no longer than a line.
-pub fn place_line(buf: &mut [u8], at: usize, text: &[u8], numbers: &[usize], n: usize, ring: &[u8]) -> usize
+pub fn place_line(
+    buf: &mut [u8],
+    at: usize,
+    text: &[u8],
+    numbers: &[usize],
+    n: usize,
+    ring: &[u8],
+) -> usize
     requires { ⌜ longest (now text) n ≤ deskRoom ⌝ }
     requires { ⌜ at + deskRoom ≤ length (now buf) ⌝ }
     ensures { λ r. ⌜ Printed (now (buf .entry)) at (filled (now (text .entry)) (now (numbers .entry)) n (now (ring .entry))) r (now (buf .exit)) ⌝ }
@@ -70,7 +77,14 @@ pub fn place_homed(buf: &mut [u8], at: usize, a: Homed, ring: &[u8]) -> usize
     ensures { λ r. ⌜ Printed (now (buf .entry)) at (homeText a (now (ring .entry))) r (now (buf .exit)) ⌝ }
 {
     match a {
-        Homed::Home { shift, period } => place_line(buf, at, b"home @ shift % period %\n", &[shift, period], ring.len(), ring),
+        Homed::Home { shift, period } => place_line(
+            buf,
+            at,
+            b"home @ shift % period %\n",
+            &[shift, period],
+            ring.len(),
+            ring,
+        ),
         Homed::Refused(r) => place_refusal(buf, at, r),
     }
 }
