@@ -1,0 +1,41 @@
+-- `stream_asking_inner::place_text` meets its contract.
+use borrow.Author.Needs.{needs}
+use Rattle.stream_asking_inner.proofs.place_text.Statement.{statement}
+use Rattle.stream_asking_inner.proofs.place_text.Tie as tie
+
+enum-told : tie.Need-enum-told
+enum-told c = search needs
+
+place-answer-requires : tie.Need-place-answer-requires
+place-answer-requires c κs = rw (c .before .enum-told .given .1) at (c .before .before .before .before .before .pre)
+
+enum-told-2 : tie.Need-enum-told-2
+enum-told-2 c = search needs
+
+place-answer-requires-2 : tie.Need-place-answer-requires-2
+place-answer-requires-2 c κs = rw (c .before .enum-told2 .given .1) at (c .before .before .before .before .before .pre)
+
+same-length : tie.Need-same-length
+same-length c = search needs
+
+returns : tie.Need-returns
+returns c = rw (c .before .before .before .before .enum-told .given .1) (c .before .before .place-answer .ensures)
+
+same-length-2 : tie.Need-same-length-2
+same-length-2 c = search needs
+
+returns-2 : tie.Need-returns-2
+returns-2 c = rw (c .before .before .before .before .enum-told2 .given .1) (c .before .before .place-answer2 .ensures)
+
+pub place-text-spec : {M : Type 1} → statement M
+place-text-spec =
+    tie.close
+    (tie.spec
+    enum-told
+    place-answer-requires
+    enum-told-2
+    place-answer-requires-2
+    same-length
+    returns
+    same-length-2
+    returns-2)
