@@ -182,10 +182,10 @@ build_programs() {
         for program; do
             sed -e '/^use /d' -e "s/^fn main() {/#[no_mangle]\npub extern \"C\" fn program_$program() {/" "$top/crates/$program/src/main.rt"
         done
-    } | compile programs || return 2
+    } | compile joined || return 2
     for program; do
         echo "void program_$program(void); int main(void) { program_$program(); return 0; }" | object "main_$program" -O2 -fPIE || return 2
-        link "$into/$program" "$room/main_$program.o" "$room/programs.a" || return 2
+        link "$into/$program" "$room/main_$program.o" "$room/joined.a" || return 2
     done
 }
 

@@ -27,7 +27,7 @@ use Rattle.refusal.specs.declared.Refusal.{Refusal}
 use Rattle.refusal.specs.declared.Refusal.the-variants.{OffWalk}
 use Rattle.refusal.specs.Order.{Passed, Given}
 use Rattle.refusal.specs.Calls.{withRoom}
-use Rattle.walk_moves_inner.specs.Going.{ReadyToStep}
+use Rattle.walk_kind_laws.specs.Kinds.{ReadyToStep}
 use Rattle.bracelet_next_inner.specs.Going.{ByteReading}
 use Rattle.walk_spec.specs.declared.Outcome.the-variants as O
 use Rattle.walk_bracelet_spec.specs.declared.Arrival.the-variants as A

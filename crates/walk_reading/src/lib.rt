@@ -4,14 +4,14 @@
 use refusal::Checked;
 use refusal::Refusal;
 use walk_bracelet_spec::Arrival;
-use walk_moves_inner::Kind;
+use walk_kind_laws::Kind;
 use walk_spec::Outcome;
 ghost use mathlib.Core.Path.{_≡_};
 ghost use lib.ListN.{length};
 ghost use Rattle.rings.specs.Necklace.{necklace, lyndon};
 ghost use Rattle.rings.specs.Prenecklace.{prenecklace};
 ghost use Rattle.refusal.specs.Order.{Passed, CheckSays};
-ghost use Rattle.walk_moves_inner.specs.Kinds.{kindOf};
+ghost use Rattle.walk_kind_laws.specs.Kinds.{kindOf};
 ghost use Rattle.walk_reading_spec.specs.Says.{readingOrder, StepFromSays, BraceletFromSays};
 
 // The checks, for an output of `room` places: 1, 2, 3, 4, 5.

@@ -1,5 +1,5 @@
 -- `walk_reading::next_lyndon` meets its contract.
-use Rattle.walk_moves_inner.specs.Kinds.{kindOf}
+use Rattle.walk_kind_laws.specs.Kinds.{kindOf}
 use borrow.Author.Needs.{needs}
 use Rattle.walk_reading.proofs.next_lyndon.Statement.{statement}
 use Rattle.walk_reading.proofs.next_lyndon.Tie as tie

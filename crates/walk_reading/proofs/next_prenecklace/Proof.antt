@@ -1,5 +1,5 @@
 -- `walk_reading::next_prenecklace` meets its contract.
-use Rattle.walk_moves_inner.specs.Kinds.{kindOf}
+use Rattle.walk_kind_laws.specs.Kinds.{kindOf}
 use borrow.Author.Needs.{needs}
 use Rattle.walk_reading.proofs.next_prenecklace.Statement.{statement}
 use Rattle.walk_reading.proofs.next_prenecklace.Tie as tie

@@ -2,7 +2,7 @@
 use Prim.Native.Nat.{_<_}
 use native.Mathlib.Omega.{arith}
 use lib.ListN.{length}
-use Rattle.walk_moves_inner.specs.Kinds.{kindOf}
+use Rattle.walk_kind_laws.specs.Kinds.{kindOf}
 use Rattle.word_copy_laws.proofs.Copy.{copied}
 use Rattle.walk_reading.proofs.Passing.{passed-ready, step-moved, step-done}
 use borrow.Author.Needs.{needs}
