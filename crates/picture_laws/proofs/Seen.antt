@@ -197,4 +197,5 @@ shown-sector w i u l p q = elim (test (ltb i o)) [ passes x ↦ far (ltb-true i 
     near h = from i (i - o) h (omega (arith, some)) (short refl) (omega arith) ∙ turn-low o w (i - o) i (omega arith) l
 
     far : i < o → seen (length w) 16 (arcsFrom 16 o v) u ≡ getD w i 0
-    far h = from (length w + i) (length w - o + i) (omega (arith, most)) (omega (arith, h)) (past refl) (omega (arith, most)) ∙ turn-high o w most (length w - o + i) i (omega (arith, most)) (omega (arith, h, most))
+    far h = from (length w + i) (length w - o + i) (omega (arith, most)) (omega (arith, h)) (past refl) (omega (arith, most)) ∙ turn-high o w most (length w - o + i) i (omega
+        (arith, most)) (omega (arith, h, most))

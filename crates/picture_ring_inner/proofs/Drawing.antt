@@ -110,7 +110,8 @@ module _ (tone : Tone) (k : ℕ) (w : List ℕ) (o : ℕ) (b : List ℕ) (at p i
   pub drawing-room : i < length w → length w ≤ 64 → at + 16384 ≤ length b → q + 256 ≤ length b′
   drawing-room h l r = fits-room (f .fits) 256 (omega arith)
 
-  pub drawing-on : i < length w → (s r : ℕ) → s ≡ getD w i 0 → (b″ : List ℕ) → Fits 256 b′ q (arcTexts tone (length w) k (sectorArcs p (o + i) (drop i w))) r b″ → Drawing tone k w o b at s (i + 1) r b″
+  pub drawing-on : i < length w → (s r : ℕ) → s ≡ getD w i 0 → (b″ : List ℕ) → Fits 256 b′ q (arcTexts tone (length w) k (sectorArcs p (o + i)
+      (drop i w))) r b″ → Drawing tone k w o b at s (i + 1) r b″
   drawing-on h s r e b″ y =
       let n = length w in
       let x = arcTexts tone n k (sectorArcs p (o + i) (drop i w)) in

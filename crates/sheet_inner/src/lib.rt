@@ -27,7 +27,7 @@ fn place_cell_head(buf: &mut [u8], at: usize, x: usize, y: usize, size: usize, n
     text_form_inner::place_form(
         buf,
         at,
-        b"<g transform=\"translate(% %)\">\n<svg x=\"-%\" y=\"-%\" width=\"%\" height=\"%\" viewBox=\"-% -% % %\">\n<g fill=\"none\" stroke-width=\"%\" transform=\"rotate(-90)\">\n",
+        b"<g transform=\"translate(% %)\">\n<svg x=\"-%\" y=\"-%\" width=\"%\" height=\"%\" overflow=\"visible\" viewBox=\"-% -% % %\">\n<g fill=\"none\" stroke-width=\"%\" transform=\"rotate(-90)\">\n",
         &[
             x,
             y,

@@ -28,7 +28,7 @@ use Rattle.sheet_spec.specs.Layout.{pitch, perPage, across, down}
 
 abbrev pub cellForm : List ℕ
 cellForm =
-    ascii "<g transform=\"translate(% %)\">\n<svg x=\"-%\" y=\"-%\" width=\"%\" height=\"%\" viewBox=\"-% -% % %\">\n"
+    ascii "<g transform=\"translate(% %)\">\n<svg x=\"-%\" y=\"-%\" width=\"%\" height=\"%\" overflow=\"visible\" viewBox=\"-% -% % %\">\n"
     ++ ascii "<g fill=\"none\" stroke-width=\"%\" transform=\"rotate(-90)\">\n"
 
 unfoldable pub cellHead : ℕ → ℕ → ℕ → ℕ → List ℕ

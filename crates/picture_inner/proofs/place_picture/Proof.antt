@@ -17,15 +17,19 @@ place-ring-requires c κs =
 
 place-tail-requires : tie.Need-place-tail-requires
 place-tail-requires c κs =
-    let z = c .before .before .before .before .before .before .before .before .before .before .before .pre in
-    (z .0 .3, fits-room (fits-append (c .before .before .before .before .before .before .before .place-head .ensures) (c .before .before .before .place-ring .ensures)) 64 (omega (arith, z .1 .1)))
+    let z = c .before .before .before .before .before .before .before .before .before .before .before .pre in (
+      z .0 .3,
+      fits-room (fits-append (c .before .before .before .before .before .before .before .place-head .ensures) (c .before .before .before .place-ring .ensures)) 64 (omega
+          (arith, z .1 .1)),
+    )
 
 same-length : tie.Need-same-length
 same-length c = search needs
 
 returns : tie.Need-returns
 unfolding pictureText
-returns c = fits-append (fits-append (c .before .before .before .before .before .before .before .before .before .before .place-head .ensures) (c .before .before .before .before .before .before .place-ring .ensures)) (c .before .before .place-tail .ensures)
+returns c = fits-append (fits-append (c .before .before .before .before .before .before .before .before .before .before .place-head .ensures)
+    (c .before .before .before .before .before .before .place-ring .ensures)) (c .before .before .place-tail .ensures)
 
 pub place-picture-spec : {M : Type 1} → statement M
 place-picture-spec =

@@ -22,8 +22,14 @@ loop-holds c =
 
 place-sector-requires : tie.Need-place-sector-requires Inv-loop μ-loop
 place-sector-requires c κs =
-    let z = c .before .before .before .before .before .pre in
-    ((z .0 .0, z .0 .1, z .0 .2, z .0 .3, c .before .loop-test .taken), (z .1 .0, drawing-room _ _ _ _ _ _ _ _ _ _ (c .before .before .loop .inv .1) (c .before .loop-test .taken) (z .0 .2) (z .1 .1)))
+    let z = c .before .before .before .before .before .pre in (
+      (z .0 .0, z .0 .1, z .0 .2, z .0 .3, c .before .loop-test .taken),
+      (
+        z .1 .0,
+        drawing-room _ _ _ _ _ _ _ _ _ _ (c .before .before .loop .inv .1) (c .before .loop-test .taken)
+            (z .0 .2) (z .1 .1),
+      ),
+    )
 
 shared-slice-read-before : tie.Need-shared-slice-read-before Inv-loop μ-loop
 shared-slice-read-before c = search needs
@@ -35,7 +41,13 @@ loop-less : tie.Need-loop-less Inv-loop μ-loop
 loop-less c = search needs
 
 loop-again : tie.Need-loop-again Inv-loop μ-loop
-loop-again c = (omega arith, drawing-on _ _ _ _ _ _ _ _ _ _ (c .before .before .before .before .before .before .loop .inv .1) (c .before .before .before .before .before .loop-test .taken) _ _ refl _ (c .before .before .before .place-sector .ensures), fits-length (c .before .before .before .place-sector .ensures) ∙ c .before .before .before .before .before .before .loop .inv .2)
+loop-again c = (
+  omega arith,
+  drawing-on _ _ _ _ _ _ _ _ _ _ (c .before .before .before .before .before .before .loop .inv .1)
+      (c .before .before .before .before .before .loop-test .taken) _ _ refl _ (c .before .before .before .place-sector .ensures),
+  fits-length
+      (c .before .before .before .place-sector .ensures) ∙ c .before .before .before .before .before .before .loop .inv .2,
+)
 
 same-length : tie.Need-same-length Inv-loop μ-loop
 same-length c = c .before .loop .inv .2

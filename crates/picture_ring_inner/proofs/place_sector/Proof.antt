@@ -25,8 +25,15 @@ add-place-arc c = search needs
 
 place-arc-requires : tie.Need-place-arc-requires
 place-arc-requires c κs =
-    let z = c .before .before .before .before .before .before .before .pre in
-    ((omega (arith, z .0 .4), z .0 .2, run-le _ (c .before .before .before .before .before .before .before .args .ring .now) (c .before .before .before .before .before .before .before .args .i) _ (c .before .before .run-at .ensures)), z .1 .1)
+    let z = c .before .before .before .before .before .before .before .pre in (
+      (
+        omega (arith, z .0 .4),
+        z .0 .2,
+        run-le _ (c .before .before .before .before .before .before .before .args .ring .now)
+            (c .before .before .before .before .before .before .before .args .i) _ (c .before .before .run-at .ensures),
+      ),
+      z .1 .1,
+    )
 
 same-length : tie.Need-same-length
 same-length c = search needs
@@ -34,7 +41,9 @@ same-length c = search needs
 returns-2 : tie.Need-returns-2
 returns-2 c =
     let a = c .before .before .before .before .before .before .before .before .before .before .args in
-    fits-arc (a .tone) _ (a .k) (a .before) (a .o + a .i) (a .ring .now) (a .i) (c .before .before .before .before .before .before .before .before .before .before .pre .0 .4) (a .buf .now) (a .at) (c .before .before .before .before .before .before .if1 .left) _ _ (c .before .before .before .before .before .run-at .ensures) (c .before .before .before .before .gray-of .ensures) _ _ (c .before .before .place-arc .ensures)
+    fits-arc (a .tone) _ (a .k) (a .before) (a .o + a .i) (a .ring .now) (a .i) (c .before .before .before .before .before .before .before .before .before .before .pre .0 .4)
+    (a .buf .now) (a .at) (c .before .before .before .before .before .before .if1 .left) _ _ (c .before .before .before .before .before .run-at .ensures)
+    (c .before .before .before .before .gray-of .ensures) _ _ (c .before .before .place-arc .ensures)
 
 pub place-sector-spec : {M : Type 1} → statement M
 place-sector-spec =

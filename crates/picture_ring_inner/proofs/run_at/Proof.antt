@@ -37,7 +37,12 @@ loop-less : tie.Need-loop-less Inv-loop μ-loop
 loop-less c = search needs
 
 loop-again : tie.Need-loop-again Inv-loop μ-loop
-loop-again c = (omega (arith, c .before .before .before .loop .inv .0), omega (arith, c .before .before .loop-test .taken), run-on _ _ _ _ (c .before .before .before .loop .inv .0) (c .before .before .loop-test .taken) (c .if1 .left) (c .before .before .before .loop .inv .2))
+loop-again c = (
+  omega (arith, c .before .before .before .loop .inv .0),
+  omega (arith, c .before .before .loop-test .taken),
+  run-on _ _ _ _ (c .before .before .before .loop .inv .0)
+      (c .before .before .loop-test .taken) (c .if1 .left) (c .before .before .before .loop .inv .2),
+)
 
 sub-result-2 : tie.Need-sub-result-2 Inv-loop μ-loop
 sub-result-2 c = search needs

@@ -44,7 +44,8 @@ same-length c = search needs
 returns-3 : tie.Need-returns-3
 returns-3 c =
     let a = c .before .before .before .before .before .before .before .before .before .before .args in
-    let p : Passed (oneReading (a .reading .now) (a .k)) = rw (c .before .before .before .before .before .enum-told .given .1) at (c .before .before .before .before .before .before .before .check-reading .ensures) in
+    let p : Passed (oneReading (a .reading .now) (a .k)) = rw (c .before .before .before .before .before .enum-told .given .1) at
+    (c .before .before .before .before .before .before .before .check-reading .ensures) in
     let f = c .before .before .place-picture .ensures in
     ((p, c .before .before .before .before .if1 .left), f .placed, omega (arith, f .short, f .placed .next))
 

@@ -18,7 +18,15 @@ across-of-requires : tie.Need-across-of-requires
 across-of-requires c κs = (c .before .before .before .pre .1 .1 .0, omega (arith, mod-lt (c .before .before .before .args .i) (c .per-page .ensures .1), c .per-page .ensures .2))
 
 down-of-requires : tie.Need-down-of-requires
-down-of-requires c κs = (c .before .before .before .before .pre .1 .1 .0, omega (arith, mod-lt (c .before .before .before .before .args .i) (c .before .per-page .ensures .1), c .before .per-page .ensures .2))
+down-of-requires c κs = (
+  c .before .before .before .before .pre .1 .1 .0,
+  omega (
+    arith,
+    mod-lt (c .before .before .before .before .args .i)
+        (c .before .per-page .ensures .1),
+    c .before .per-page .ensures .2,
+  ),
+)
 
 place-cell-head-requires : tie.Need-place-cell-head-requires
 place-cell-head-requires c κs = search needs
@@ -41,7 +49,10 @@ returns : tie.Need-returns
 returns c =
     let w = c .before .before .before .before .before .before .before .before .before .before .before .before .before .before .before .before .before .before .before .before .before .args .ring .now in
     cell-fits _ _ w _ _ _ (c .before .before .before .before .before .before .before .before .before .before .before .before .before .before .before .before .before .before .per-page .ensures .0) (c .before .before .before .before .before .before .before .before .before .before .before .before .before .before .before .before .before .across-of .ensures) (c .before .before .before .before .before .before .before .before .before .before .before .before .before .before .before .before .down-of .ensures) _ _ _ _
-    (fits-append (fits-append (fits-append (c .before .before .before .before .before .before .before .before .before .before .before .before .before .before .place-cell-head .ensures) (c .before .before .before .before .before .before .before .before .before .before .place-ring .ensures)) (c .before .before .before .before .before .before .place-tail .ensures)) (c .before .before .place-cell-foot .ensures))
+    (fits-append (fits-append (fits-append
+    (c .before .before .before .before .before .before .before .before .before .before .before .before .before .before .place-cell-head .ensures)
+    (c .before .before .before .before .before .before .before .before .before .before .place-ring .ensures))
+    (c .before .before .before .before .before .before .place-tail .ensures)) (c .before .before .place-cell-foot .ensures))
 
 pub place-cell-spec : {M : Type 1} → statement M
 place-cell-spec =

@@ -29,7 +29,8 @@ same-length c = search needs
 
 returns-2 : tie.Need-returns-2
 unfolding longest slots
-returns-2 c = fits-where 256 _ _ _ _ _ _ (c .before .before .before .before .before .before .before .if1 .left) (rw leaf-plain at (fits-more (c .before .before .place-form .ensures) 256 (omega arith)))
+returns-2 c = fits-where 256 _ _ _ _ _ _ (c .before .before .before .before .before .before .before .if1 .left) (rw leaf-plain at (fits-more
+    (c .before .before .place-form .ensures) 256 (omega arith)))
 
 pub place-opening-spec : {M : Type 1} → statement M
 place-opening-spec =

@@ -31,8 +31,14 @@ div-place-closing c = search needs
 place-closing-requires : tie.Need-place-closing-requires
 place-closing-requires c κs =
     let z = c .before .before .before .before .before .before .before .before .before .before .before .before .before .pre in (
-      omega (arith, z .0 .4, div-le-self (c .before .before .before .before .before .before .before .before .before .before .before .before .before .args .i) (c .before .before .before .before .before .before .before .before .before .before .per-page .result)),
-      fits-room (fits-append (c .before .before .before .before .before .before .before .before .place-opening .ensures) (c .before .before .before .before .place-home .ensures)) 384 (omega (arith, z .1 .1 .1)),
+      omega (
+        arith,
+        z .0 .4,
+        div-le-self (c .before .before .before .before .before .before .before .before .before .before .before .before .before .args .i)
+            (c .before .before .before .before .before .before .before .before .before .before .per-page .result),
+      ),
+      fits-room (fits-append (c .before .before .before .before .before .before .before .before .place-opening .ensures) (c .before .before .before .before .place-home .ensures)) 384
+          (omega (arith, z .1 .1 .1)),
     )
 
 same-length : tie.Need-same-length
@@ -41,8 +47,10 @@ same-length c = search needs
 returns : tie.Need-returns
 returns c =
     let w = c .before .before .before .before .before .before .before .before .before .before .before .before .before .before .before .before .args .ring .now in
-    target-fits _ _ _ w _ _ (c .before .before .before .before .before .before .before .before .before .before .before .before .before .per-page .ensures .0) (c .before .before .before .before .ends-page .ensures) _ _ _ _
-    (fits-append (fits-append (c .before .before .before .before .before .before .before .before .before .before .before .place-opening .ensures) (c .before .before .before .before .before .before .before .place-home .ensures)) (c .before .before .place-closing .ensures))
+    target-fits _ _ _ w _ _ (c .before .before .before .before .before .before .before .before .before .before .before .before .before .per-page .ensures .0)
+    (c .before .before .before .before .ends-page .ensures) _ _ _ _
+    (fits-append (fits-append (c .before .before .before .before .before .before .before .before .before .before .before .place-opening .ensures)
+    (c .before .before .before .before .before .before .before .place-home .ensures)) (c .before .before .place-closing .ensures))
 
 pub place-target-spec : {M : Type 1} → statement M
 place-target-spec =

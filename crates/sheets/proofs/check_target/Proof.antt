@@ -37,14 +37,30 @@ fitting-requires c κs = search needs
 returns-3 : tie.Need-returns-3
 returns-3 c =
     let a = c .before .before .before .before .before .before .before .before .before .args in
-    let p : Passed (oneReading (a .ring .now) (a .sheet .k)) = rw (c .before .before .before .before .before .enum-told .given .1) at (c .before .before .before .before .before .before .before .check-reading .ensures) in
-    inl (inr (((p, c .before .before .before .if1 .left), omega (arith, c .before .before .if2 .left)), (refl, fit-no _ _ (c .before .fitting .result) (c .if3 .taken) (c .before .fitting .ensures))))
+    let p : Passed (oneReading (a .ring .now) (a .sheet .k)) = rw (c .before .before .before .before .before .enum-told .given .1) at
+    (c .before .before .before .before .before .before .before .check-reading .ensures) in
+    inl (inr (
+      ((p, c .before .before .before .if1 .left), omega (arith, c .before .before .if2 .left)),
+      (
+        refl,
+        fit-no _ _ (c .before .fitting .result) (c .if3 .taken)
+            (c .before .fitting .ensures),
+      ),
+    ))
 
 returns-4 : tie.Need-returns-4
 returns-4 c =
     let a = c .before .before .before .before .before .before .before .before .before .before .args in
-    let p : Passed (oneReading (a .ring .now) (a .sheet .k)) = rw (c .before .before .before .before .before .before .enum-told .given .1) at (c .before .before .before .before .before .before .before .before .check-reading .ensures) in
-    inr ((((p, c .before .before .before .before .if1 .left), omega (arith, c .before .before .before .if2 .left)), fit-yes _ _ (c .before .before .fitting .result) (c .before .if3 .left) (c .before .before .fitting .ensures)), (refl, λ h. omega (arith, h, c .if4 .taken)))
+    let p : Passed (oneReading (a .ring .now) (a .sheet .k)) = rw (c .before .before .before .before .before .before .enum-told .given .1) at
+    (c .before .before .before .before .before .before .before .before .check-reading .ensures) in
+    inr (
+      (
+        ((p, c .before .before .before .before .if1 .left), omega (arith, c .before .before .before .if2 .left)),
+        fit-yes _ _ (c .before .before .fitting .result)
+            (c .before .if3 .left) (c .before .before .fitting .ensures),
+      ),
+      (refl, λ h. omega (arith, h, c .if4 .taken)),
+    )
 
 returns-5 : tie.Need-returns-5
 returns-5 c =
@@ -55,8 +71,15 @@ returns-5 c =
 returns-6 : tie.Need-returns-6
 returns-6 c =
     let a = c .before .before .before .before .before .before .before .before .before .before .args in
-    let p : Passed (oneReading (a .ring .now) (a .sheet .k)) = rw (c .before .before .before .before .before .before .enum-told .given .1) at (c .before .before .before .before .before .before .before .before .check-reading .ensures) in
-    ((((p, c .before .before .before .before .if1 .left), omega (arith, c .before .before .before .if2 .left)), fit-yes _ _ (c .before .before .fitting .result) (c .before .if3 .left) (c .before .before .fitting .ensures)), c .if4 .left)
+    let p : Passed (oneReading (a .ring .now) (a .sheet .k)) = rw (c .before .before .before .before .before .before .enum-told .given .1) at
+    (c .before .before .before .before .before .before .before .before .check-reading .ensures) in (
+      (
+        ((p, c .before .before .before .before .if1 .left), omega (arith, c .before .before .before .if2 .left)),
+        fit-yes _ _ (c .before .before .fitting .result) (c .before .if3 .left)
+            (c .before .before .fitting .ensures),
+      ),
+      c .if4 .left,
+    )
 
 pub check-target-spec : {M : Type 1} → statement M
 check-target-spec =
