@@ -84,7 +84,7 @@ fn place_cell_foot(buf: &mut [u8], at: usize, size: usize, i: usize, ring: &[u8]
             second,
             f,
             third,
-            i + 1,
+            i,
         ],
         32,
         ring,

@@ -5,7 +5,7 @@ use Prim.Native.Nat.{ℕ}
 use mathlib.Core.List.{List, [], _∷_, _++_}
 use Rattle.text_spec.specs.Ascii.{ascii}
 use Rattle.text_spec.specs.Decimal.{decimalIn, decimal}
-use Rattle.text_fill_spec.specs.Filled.{filled}
+use Rattle.text_fill_spec.specs.Filled.{filledText}
 use Rattle.sheet_spec.specs.Text.{cellFoot}
 use mathlib.Core.Path.{_≡_, refl}
 use Rattle.sheet_spec.specs.Layout.{rowsFor, perPage, across, down}
@@ -22,9 +22,9 @@ usual-cells = (refl, refl, refl, refl, refl, refl, refl)
 pub larger-page : (perPage 30 4 ≡ 24) × (across 30 4 0 ≡ 390) × (across 30 4 3 ≡ 1710)
 larger-page = (refl, refl, refl)
 
--- target 7 of 24 mm shows 011
+-- target 6 of 24 mm shows 011
 pub under-a-target : cellFoot 24 6 (0 ∷ 1 ∷ 1 ∷ []) ≡
     ascii "<path d=\"M-130 -110V-130H-110M-130 110V130H-110M130 -110V-130H110M130 110V130H110\" fill=\"none\" stroke=\"black\" stroke-width=\"1\"/>\n"
-    ++ ascii "<text y=\"150\" font-size=\"19\">011</text>\n<text y=\"170\" font-size=\"19\"></text>\n<text y=\"200\" font-size=\"20\">7</text>\n</g>\n"
-unfolding cellFoot filled decimal decimalIn
+    ++ ascii "<text y=\"150\" font-size=\"19\">011</text>\n<text y=\"170\" font-size=\"19\"></text>\n<text y=\"200\" font-size=\"20\">6</text>\n</g>\n"
+unfolding cellFoot filledText decimal decimalIn
 under-a-target = refl

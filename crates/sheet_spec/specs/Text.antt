@@ -1,15 +1,14 @@
 -- The text of a sheet: pages of SVG one after another, each with its targets, their home readings in lines of 32 sectors and their numbers under them, crop marks around
 -- them, and a line at the foot. Lengths are tenths of a millimetre.
---     leafHead, leafTail           the beginning and the end of a page
+--     leafHead                     the beginning of a page
 --     cellHead x y s n             a target's beginning: its middle at x and y, s mm wide
---     cellFoot s i w               its crop marks, the reading w and the number i + 1
+--     cellFoot s i w               its crop marks, the reading w and the number i: targets count from 0, as a sighting tells them
 --     cellText sheet i w           target i of a sheet, which shows the reading w
 --     footText sheet p             the line at the foot of page p, counted from 0
 --     pageOpening sheet i, closing sheet i last    what stands before and behind target i: where it is the first of its page, and where it is the last of it, or of all
 --     targetText sheet i last w    target i with these
 --     sheetFrom sheet i ws         the rings ws from target i on, each by its home reading
 --     sheetText sheet ws           the whole
--- That it is page after page: sheet_laws.
 use Prim.Native.Nat.{ℕ, suc, _+_, _-_, _*_, _/_, _%_}
 use mathlib.Core.Bool.{Bool, true, false, _||_}
 use mathlib.Core.List.{List, [], _∷_, _++_}
@@ -46,7 +45,7 @@ marksNumbers a b s f x =
     a ∷ b ∷ a ∷ b ∷ a ∷ b ∷ a ∷ b ∷ a ∷ b ∷ a ∷ b ∷ a ∷ b ∷ a ∷ b ∷ (5 * s + 30) ∷ f ∷ (5 * s + 50) ∷ f ∷ (5 * s + 80) ∷ x ∷ []
 
 unfoldable pub cellFoot : ℕ → ℕ → List ℕ → List ℕ
-cellFoot s i w = filledText marksForm (marksNumbers (5 * s + 10) (5 * s - 10) s (pitch s / 20) (i + 1)) 32 w
+cellFoot s i w = filledText marksForm (marksNumbers (5 * s + 10) (5 * s - 10) s (pitch s / 20) i) 32 w
 
 unfoldable pub cellText : Sheet → ℕ → List ℕ → List ℕ
 cellText o i w =

@@ -47,9 +47,6 @@ add-third c = search needs
 slice-aggregate-place-form : tie.Need-slice-aggregate-place-form
 slice-aggregate-place-form c = search needs
 
-add-t14 : tie.Need-add-t14
-add-t14 c = search needs
-
 slice-aggregate-place-form-2 : tie.Need-slice-aggregate-place-form-2
 slice-aggregate-place-form-2 c = search needs
 
@@ -81,7 +78,6 @@ place-cell-foot-spec =
     mul-third
     add-third
     slice-aggregate-place-form
-    add-t14
     slice-aggregate-place-form-2
     place-form-requires
     same-length
