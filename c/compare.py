@@ -2,8 +2,8 @@
 """compare.py CRATES: every call of the library that is loaded (rings.py) on the cases of the repository's own runs, compared with their stored texts.
 
 The cases are the lines of crates/test_*/stdin, and the texts crates/test_*/stdout, which were written from the documents: what a program of evidence prints by the calls is printed
-here by the library. A case that C cannot put, a walk's record that no walk has made, is passed over, and counted. Where there are programs test_desk*, lines `VERB WORDS` and the
-text of each, their verbs are answered by the library too. The calls that no run has, `nearest`, `pick_guarded`
+here by the library. A case that C cannot put, a walk's record that no walk has made, is passed over, and counted. The lines of the desk, `VERB WORDS`, and the
+text of each, are answered by the library too. The calls that no run has, `nearest`, `pick_guarded`
 and `sight`, are tried by their definitions. Ends with 'N cases of M runs .. F differ'."""
 import glob
 import itertools
@@ -325,14 +325,15 @@ def converter(line):
 
 
 def sets(line):
-    n, k, d, wanted = (number(line, i) for i in range(4))
+    n, k, d, wanted, guarded = (number(line, i) for i in range(5))
+    pick, c_pick = (rings.pick_guarded, rings._c_pick_guarded) if guarded == 1 else (rings.pick, rings._c_pick)
     try:
-        p = rings.pick(n, k, d, wanted)
+        p = pick(n, k, d, wanted)
     except rings.Refused as e:
         return [f"{refused(e)}, taken 0 not full, others 0"]
     # `others` are the sectors beside those of the rings taken: an output that was not 0 before would show
     out = lent(b"\xff" * 768)
-    rings._c_pick(n, k, d, wanted, out, 768)
+    c_pick(n, k, d, wanted, out, 768)
     others = sum(x != 0 for i, x in enumerate(held(out)) if not (i % 24 < n and i // 24 < len(p.rings)))
     return [shown(r) for r in p.rings] + [f"taken {len(p.rings)} {'full' if p.full else 'not full'}, others {others}"]
 
@@ -369,6 +370,9 @@ def desk(line):
         v = rings.next_bracelet(r, k)
         return f"next {shown(v)}" if v is not None else "done"
 
+    # a longer line is malformed, whatever it says
+    if len(line) > 1023:
+        return ["refused 11 at 0"]
     one = {"class": classed, "home": homed, "even": lambda k, r: ("no", "yes")[rings.even_handed(r, k)], "place": lambda k, r: f"place {rings.place(r, k)}",
            "next": stepped(rings.next_necklace), "lyndon": stepped(rings.next_lyndon), "prenecklace": stepped(rings.next_prenecklace), "bracelet": bracelet}
     two = {"same": lambda k, a, b: ("no", "yes")[rings.same(a, b, k)], "apart": lambda k, a, b: f"apart {rings.apart(a, b, k)}"}
@@ -491,7 +495,7 @@ def run(name, answer, lines, expected):
 def main():
     crates = sys.argv[1]
     runs = [(name, answer) for name, answer in RUNS.items()]
-    runs += [(os.path.basename(d), desk) for d in sorted(glob.glob(os.path.join(crates, "test_desk*"))) if os.path.exists(os.path.join(d, "stdin"))]
+    runs += [(os.path.basename(d), desk) for d in sorted(glob.glob(os.path.join(crates, "test_desk*")) + glob.glob(os.path.join(crates, "desk"))) if os.path.exists(os.path.join(d, "stdin"))]
     totals = [0, 0, 0]
     for name, answer in runs:
         lines = open(os.path.join(crates, name, "stdin"), encoding="latin-1", newline="\n").read().split("\n")

@@ -25,7 +25,7 @@ use Rattle.record_spec.specs.declared.Entry.the-variants as E
 use Rattle.record_spec.specs.Layout.{bodyLength, nOf, kOf}
 use Rattle.record_spec.specs.Order.{recordOrder}
 use Rattle.record_spec.specs.Says.{Read, ReadSays}
-use Rattle.record_spec.specs.Steps.{RecordSays}
+use Rattle.record_body_inner.specs.Steps.{RecordSays}
 use Rattle.record_spec.proofs.Forms.{some-bytes}
 use Rattle.record_spec.proofs.Rounds.{length-answer, answer-passes}
 use Rattle.stream_spec.specs.Blocks.{Puts}

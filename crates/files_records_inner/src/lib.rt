@@ -8,7 +8,7 @@ use refusal::Refusal;
 ghost use Prim.Native.Nat.{_+_, _*_, _≤_};
 ghost use mathlib.Core.Path.{_≡_};
 ghost use lib.ListN.{length};
-ghost use Rattle.record_spec.specs.Steps.{Held};
+ghost use Rattle.record_body_inner.specs.Steps.{Held};
 ghost use Rattle.files_spec.specs.declared.How.the-variants.{Refused};
 ghost use Rattle.files_spec.specs.Blocks.{TakeSays};
 ghost use Rattle.files_text_inner.specs.Room.{recordRoom, endRoom};

@@ -14,7 +14,7 @@ use Rattle.stream_asking_inner.specs.declared.Kind.the-variants.{Count, 
 
 abbrev pub Said : Kind → Relation
 Said Count = reports.Answers
-Said Desk = desks.Answers
+Said Desk = desks.DeskAnswers
 
 abbrev pub mostOf : Kind → ℕ
 mostOf Count = 9

@@ -4,7 +4,7 @@ use native.Mathlib.Omega.{arith}
 use lib.ListN.{length-take}
 use Rattle.files_records_inner.proofs.Going.{answered-ring, size, step-after}
 use Rattle.record_spec.specs.Says.{Read}
-use Rattle.record_spec.specs.Steps.{RecordSays}
+use Rattle.record_body_inner.specs.Steps.{RecordSays}
 use Rattle.record_spec.specs.declared.Entry.the-variants as E
 use borrow.Author.Needs.{needs}
 use Rattle.files_records_inner.proofs.take_one.Statement.{statement}
