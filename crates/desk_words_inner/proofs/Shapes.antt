@@ -88,7 +88,8 @@ module _ (v : Both) (k : ℕ) (t : List ℕ) where
         record {
           sectors = s .0 .below;
           others = s .1 .below;
-          words = pieces-more 32 t e p h ∙ ap (λ (x : List ℕ). x ∷ pieces 32 (drop (e + 1) t)) (s .0 .digits) ∙ ap (λ (x : List (List ℕ)). map hexOf (q .0) ∷ x) (one-word (drop (e + 1) t) (q .1) (s .1));
+          words =
+              pieces-more 32 t e p h ∙ ap (λ (x : List ℕ). x ∷ pieces 32 (drop (e + 1) t)) (s .0 .digits) ∙ ap (λ (x : List (List ℕ)). map hexOf (q .0) ∷ x) (one-word (drop (e + 1) t) (q .1) (s .1));
         },
         λ u y. y,
       )

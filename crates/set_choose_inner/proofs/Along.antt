@@ -145,7 +145,8 @@ module _ (n k d want : ℕ) (w : Walk) (t : ℕ) (ask : Askable n k d want) (e :
           tallies = λ j b. let z : j ≡ 0 = omega arith in rw (z, g) one-zero;
         };
         within = omega (arith, ask .settable);
-        rests = sym (chosen-from Plain n k d want ∙ rw q (ap (greedyBy (clear d) want []) (lyndons-one k (omega (arith, ask .numbers .shaded))) ∙ ap (λ (x : ℕ). greedyBy (clear d) x [] (zeros 1 ∷ rest k (zeros 1))) more-one ∙ first-clear));
+        rests =
+            sym (chosen-from Plain n k d want ∙ rw q (ap (greedyBy (clear d) want []) (lyndons-one k (omega (arith, ask .numbers .shaded))) ∙ ap (λ (x : ℕ). greedyBy (clear d) x [] (zeros 1 ∷ rest k (zeros 1))) more-one ∙ first-clear));
       }
     where
       blank : (j y : ℕ) → getD (getD (zeros 1 ∷ []) j []) y 0 ≡ 0
@@ -267,5 +268,6 @@ module _ (rule : Rule) (n k d want : ℕ) (ask : Askable n k d want) (w : Walk) 
           pre = necklace-prenecklace (c .ring) (lyndon-necklace (c .ring) (next-facts lyndon k (a .last) (c .ring) (c .next) .2));
           holds = now;
           within = omega (arith, now .number, offered-most (mayJoin rule d) (a .set) (c .ring), a .holds .number);
-          rests = sym (greedy-offer (mayJoin rule d) want (a .set) (rest k (c .ring)) (c .ring) (omega (arith, a .holds .number))) ∙ ap (greedyBy (mayJoin rule d) (want - length (a .set)) (a .set)) (sym (rest-step k (a .last) (c .ring) (c .next))) ∙ a .rests;
+          rests =
+              sym (greedy-offer (mayJoin rule d) want (a .set) (rest k (c .ring)) (c .ring) (omega (arith, a .holds .number))) ∙ ap (greedyBy (mayJoin rule d) (want - length (a .set)) (a .set)) (sym (rest-step k (a .last) (c .ring) (c .next))) ∙ a .rests;
         }

@@ -24,10 +24,14 @@ same-length-2 : tie.Need-same-length-2
 same-length-2 c = search needs
 
 returns : tie.Need-returns
-returns c = put-bad _ _ _ _ _ _ (rw (not-true (c .before .before .before .before .before .before .before .spell .result) (c .before .before .before .before .if1 .taken)) at (c .before .before .before .before .before .before .before .spell .ensures)) (c .before .before .place-malformed .ensures)
+returns c =
+    put-bad _ _ _ _ _ _ (rw (not-true (c .before .before .before .before .before .before .before .spell .result) (c .before .before .before .before .if1 .taken)) at (c .before .before .before .before .before .before .before .spell .ensures)) (c .before .before .place-malformed .ensures)
 
 answer-about-requires : tie.Need-answer-about-requires
-answer-about-requires c κs = let g = c .before .before .before .before .before .before .before .before .before .before .before .before in let l = c .before .before .before .before .before .before .spell .kept .1 .0 ∙ g .pre .1 .0 in (omega (arith, l, g .pre .0), (g .pre .1 .1 .0 ∙ ap blank (sym l), g .pre .1 .1 .1))
+answer-about-requires c κs =
+    let g = c .before .before .before .before .before .before .before .before .before .before .before .before in
+    let l = c .before .before .before .before .before .before .spell .kept .1 .0 ∙ g .pre .1 .0 in
+    (omega (arith, l, g .pre .0), (g .pre .1 .1 .0 ∙ ap blank (sym l), g .pre .1 .1 .1))
 
 same-length-3 : tie.Need-same-length-3
 same-length-3 c = search needs
@@ -39,7 +43,8 @@ same-length-5 : tie.Need-same-length-5
 same-length-5 c = search needs
 
 returns-2 : tie.Need-returns-2
-returns-2 c = put-good _ _ _ _ _ _ _ (rw (not-false (c .before .before .before .before .before .before .before .before .before .before .before .spell .result) (c .before .before .before .before .before .before .before .before .if1 .left)) at (c .before .before .before .before .before .before .before .before .before .before .before .spell .ensures)) (c .before .before .before .before .answer-about .ensures)
+returns-2 c =
+    put-good _ _ _ _ _ _ _ (rw (not-false (c .before .before .before .before .before .before .before .before .before .before .before .spell .result) (c .before .before .before .before .before .before .before .before .if1 .left)) at (c .before .before .before .before .before .before .before .before .before .before .before .spell .ensures)) (c .before .before .before .before .answer-about .ensures)
 
 pub ask-about-spec : {M : Type 1} → statement M
 ask-about-spec =

@@ -45,19 +45,24 @@ slice-aggregate-ask-about-2 : tie.Need-slice-aggregate-ask-about-2
 slice-aggregate-ask-about-2 c = simp length-take (omega (arith, c .before .before .before .before .before .before .before .before .before .pre .0))
 
 ask-about-requires : tie.Need-ask-about-requires
-ask-about-requires c κs = let g = c .before .before .before .before .before .before .before .before .before .before in let q = ask-room (g .args .t .now) (c .before .before .before .before .before .k .given .0 .1 .0) (g .pre .0) in (q .0, (q .1, (q .2, g .pre .1)))
+ask-about-requires c κs =
+    let g = c .before .before .before .before .before .before .before .before .before .before in
+    let q = ask-room (g .args .t .now) (c .before .before .before .before .before .k .given .0 .1 .0) (g .pre .0) in
+    (q .0, (q .1, (q .2, g .pre .1)))
 
 same-length : tie.Need-same-length
 same-length c = search needs
 
 returns : tie.Need-returns
-returns c = put-bad _ _ _ _ _ _ (no-reading (c .before .before .before .before .before .before .before .before .before .args .t .now) (rw (c .before .before .before .before .enum-told .given .1) at (c .before .before .before .before .before .before .head-of .ensures))) (c .before .before .place-malformed .ensures)
+returns c =
+    put-bad _ _ _ _ _ _ (no-reading (c .before .before .before .before .before .before .before .before .before .args .t .now) (rw (c .before .before .before .before .enum-told .given .1) at (c .before .before .before .before .before .before .head-of .ensures))) (c .before .before .place-malformed .ensures)
 
 same-length-2 : tie.Need-same-length-2
 same-length-2 c = search needs
 
 returns-2 : tie.Need-returns-2
-returns-2 c = put-reading (c .before .before .before .before .before .before .before .before .before .before .before .before .before .before .before .args .t .now) (c .before .before .before .before .before .before .before .before .before .before .k .given .0 .0) _ (rw (c .before .before .before .before .before .before .before .before .before .before .k .given .1) at (c .before .before .before .before .before .before .before .before .before .before .before .before .head-of .ensures)) (AboutSays (c .before .before .before .before .before .before .before .before .before .before .before .before .before .before .before .args .v)) _ _ _ _ (c .before .before .before .before .ask-about .ensures)
+returns-2 c =
+    put-reading (c .before .before .before .before .before .before .before .before .before .before .before .before .before .before .before .args .t .now) (c .before .before .before .before .before .before .before .before .before .before .k .given .0 .0) _ (rw (c .before .before .before .before .before .before .before .before .before .before .k .given .1) at (c .before .before .before .before .before .before .before .before .before .before .before .before .head-of .ensures)) (AboutSays (c .before .before .before .before .before .before .before .before .before .before .before .before .before .before .before .args .v)) _ _ _ _ (c .before .before .before .before .ask-about .ensures)
 
 pub place-about-spec : {M : Type 1} → statement M
 place-about-spec =

@@ -17,7 +17,10 @@ same-length : tie.Need-same-length
 same-length c = search needs
 
 returns : tie.Need-returns
-returns c = let a = c .before .before .before .before .before .before .before .before .before .before .args in let e = c .before .before .before .before .before .piece-end in put-bad _ _ _ _ _ _ (no-both (a .v) (a .k) (a .t .now) (e .result) (e .ensures) (c .before .before .before .before .if1 .taken)) (c .before .before .place-malformed .ensures)
+returns c =
+    let a = c .before .before .before .before .before .before .before .before .before .before .args in
+    let e = c .before .before .before .before .before .piece-end in
+    put-bad _ _ _ _ _ _ (no-both (a .v) (a .k) (a .t .now) (e .result) (e .ensures) (c .before .before .before .before .if1 .taken)) (c .before .before .place-malformed .ensures)
 
 add-m : tie.Need-add-m
 add-m c = search needs
@@ -44,7 +47,8 @@ slice-relend-prefix-ask-both : tie.Need-slice-relend-prefix-ask-both
 slice-relend-prefix-ask-both c = search needs
 
 slice-aggregate-ask-both-2 : tie.Need-slice-aggregate-ask-both-2
-slice-aggregate-ask-both-2 c = simp length-take (omega (arith, c .before .before .before .before .before .before .before .before .before .pre .0, c .before .before .before .before .piece-end .ensures .within))
+slice-aggregate-ask-both-2 c =
+    simp length-take (omega (arith, c .before .before .before .before .before .before .before .before .before .pre .0, c .before .before .before .before .piece-end .ensures .within))
 
 slice-relend-prefix-ask-both-2 : tie.Need-slice-relend-prefix-ask-both-2
 slice-relend-prefix-ask-both-2 c = search needs
@@ -53,7 +57,10 @@ slice-aggregate-ask-both-3 : tie.Need-slice-aggregate-ask-both-3
 slice-aggregate-ask-both-3 c = simp length-take (omega (arith, c .before .before .before .before .before .before .before .before .before .before .pre .1 .0))
 
 ask-both-requires : tie.Need-ask-both-requires
-ask-both-requires c κs = let g = c .before .before .before .before .before .before .before .before .before .before .before in let e = c .before .before .before .before .before .before .piece-end in (simp length-take (omega (arith, g .pre .0, e .ensures .within)), (simp (length-take, length-drop) (omega (arith, g .pre .1 .0)), g .pre .1 .1))
+ask-both-requires c κs =
+    let g = c .before .before .before .before .before .before .before .before .before .before .before in
+    let e = c .before .before .before .before .before .before .piece-end in
+    (simp length-take (omega (arith, g .pre .0, e .ensures .within)), (simp (length-take, length-drop) (omega (arith, g .pre .1 .0)), g .pre .1 .1))
 
 same-length-2 : tie.Need-same-length-2
 same-length-2 c = search needs
@@ -65,7 +72,10 @@ same-length-4 : tie.Need-same-length-4
 same-length-4 c = search needs
 
 returns-2 : tie.Need-returns-2
-returns-2 c = let a = c .before .before .before .before .before .before .before .before .before .before .before .before .before .before .before .before .before .before .args in let e = c .before .before .before .before .before .before .before .before .before .before .before .before .before .piece-end in put-both (a .v) (a .k) (a .t .now) (e .result) (e .ensures) (omega (arith, c .before .before .before .before .before .before .before .before .before .before .before .before .if1 .left)) _ _ _ _ (c .before .before .before .before .before .before .ask-both .ensures)
+returns-2 c =
+    let a = c .before .before .before .before .before .before .before .before .before .before .before .before .before .before .before .before .before .before .args in
+    let e = c .before .before .before .before .before .before .before .before .before .before .before .before .before .piece-end in
+    put-both (a .v) (a .k) (a .t .now) (e .result) (e .ensures) (omega (arith, c .before .before .before .before .before .before .before .before .before .before .before .before .if1 .left)) _ _ _ _ (c .before .before .before .before .before .before .ask-both .ensures)
 
 pub ask-words-spec : {M : Type 1} → statement M
 ask-words-spec =

@@ -41,13 +41,17 @@ same-length : tie.Need-same-length
 same-length c = search needs
 
 returns : tie.Need-returns
-returns c = put-bad _ _ _ _ _ _ (no-pair (c .before .before .before .before .before .before .before .before .before .args .t .now) (rw (c .before .before .before .before .enum-told .given .1) at (c .before .before .before .before .before .before .head-of .ensures))) (c .before .before .place-malformed .ensures)
+returns c =
+    put-bad _ _ _ _ _ _ (no-pair (c .before .before .before .before .before .before .before .before .before .args .t .now) (rw (c .before .before .before .before .enum-told .given .1) at (c .before .before .before .before .before .before .head-of .ensures))) (c .before .before .place-malformed .ensures)
 
 same-length-2 : tie.Need-same-length-2
 same-length-2 c = search needs
 
 returns-2 : tie.Need-returns-2
-returns-2 c = let a = c .before .before .before .before .before .before .before .before .before .before .before .before .before .before .before .args in let k = c .before .before .before .before .before .before .before .before .before .before .k .given in put-pair (a .v) (k .0 .0) (a .t .now) (k .0 .0) _ (rw (k .1) at (c .before .before .before .before .before .before .before .before .before .before .before .before .head-of .ensures)) _ _ _ _ (c .before .before .before .before .ask-words .ensures)
+returns-2 c =
+    let a = c .before .before .before .before .before .before .before .before .before .before .before .before .before .before .before .args in
+    let k = c .before .before .before .before .before .before .before .before .before .before .k .given in
+    put-pair (a .v) (k .0 .0) (a .t .now) (k .0 .0) _ (rw (k .1) at (c .before .before .before .before .before .before .before .before .before .before .before .before .head-of .ensures)) _ _ _ _ (c .before .before .before .before .ask-words .ensures)
 
 pub place-both-spec : {M : Type 1} → statement M
 place-both-spec =

@@ -17,7 +17,8 @@ same-length : tie.Need-same-length
 same-length c = search needs
 
 returns : tie.Need-returns
-returns c = put-shown _ _ (c .before .before .before .before .before .necklaces .result, c .before .before .before .before .lyndon-words .result) (c .before .before .before .before .before .necklaces .ensures, c .before .before .before .before .lyndon-words .ensures) _ _ _ _ (c .before .before .place-many .ensures)
+returns c =
+    put-shown _ _ (c .before .before .before .before .before .necklaces .result, c .before .before .before .before .lyndon-words .result) (c .before .before .before .before .before .necklaces .ensures, c .before .before .before .before .lyndon-words .ensures) _ _ _ _ (c .before .before .place-many .ensures)
 
 pub answer-many-spec : {M : Type 1} → statement M
 answer-many-spec =

@@ -24,13 +24,16 @@ same-length : tie.Need-same-length
 same-length c = search needs
 
 returns : tie.Need-returns
-returns c = put-bad _ _ _ _ _ _ (no-numbers (c .before .before .before .before .before .before .before .before .before .args .t .now) (rw (c .before .before .before .before .enum-told .given .1) at (c .before .before .before .before .before .before .parse-fields .ensures))) (c .before .before .place-malformed .ensures)
+returns c =
+    put-bad _ _ _ _ _ _ (no-numbers (c .before .before .before .before .before .before .before .before .before .args .t .now) (rw (c .before .before .before .before .enum-told .given .1) at (c .before .before .before .before .before .before .parse-fields .ensures))) (c .before .before .place-malformed .ensures)
 
 same-length-2 : tie.Need-same-length-2
 same-length-2 c = search needs
 
 returns-2 : tie.Need-returns-2
-returns-2 c = let k = c .before .before .before .before .before .k .given in put-good _ _ _ _ _ _ (k .0 .0, k .0 .1 .0) (numbers (c .before .before .before .before .before .before .before .before .before .before .args .t .now) (k .0 .0) (k .0 .1 .0) (rw (k .1) at (c .before .before .before .before .before .before .before .parse-fields .ensures))) (c .before .before .answer-many .ensures)
+returns-2 c =
+    let k = c .before .before .before .before .before .k .given in
+    put-good _ _ _ _ _ _ (k .0 .0, k .0 .1 .0) (numbers (c .before .before .before .before .before .before .before .before .before .before .args .t .now) (k .0 .0) (k .0 .1 .0) (rw (k .1) at (c .before .before .before .before .before .before .before .parse-fields .ensures))) (c .before .before .answer-many .ensures)
 
 pub place-many-spec : {M : Type 1} → statement M
 place-many-spec =

@@ -24,7 +24,8 @@ same-length : tie.Need-same-length
 same-length c = search needs
 
 returns : tie.Need-returns
-returns c = put-bad _ _ _ _ _ _ (no-byte (c .before .before .before .before .before .before .before .before .before .args .t .now) (rw (c .before .before .before .before .enum-told .given .1) at (c .before .before .before .before .before .before .parse-number .ensures))) (c .before .before .place-malformed .ensures)
+returns c =
+    put-bad _ _ _ _ _ _ (no-byte (c .before .before .before .before .before .before .before .before .before .args .t .now) (rw (c .before .before .before .before .enum-told .given .1) at (c .before .before .before .before .before .before .parse-number .ensures))) (c .before .before .place-malformed .ensures)
 
 place-malformed-requires-2 : tie.Need-place-malformed-requires-2
 place-malformed-requires-2 c κs = search needs
@@ -33,7 +34,9 @@ same-length-2 : tie.Need-same-length-2
 same-length-2 c = search needs
 
 returns-2 : tie.Need-returns-2
-returns-2 c = let b = c .before .before .before .before .before .before .b .given in put-bad _ _ _ _ _ _ (great (c .before .before .before .before .before .before .before .before .before .before .before .args .t .now) (b .0 .0) (rw (b .1) at (c .before .before .before .before .before .before .before .before .parse-number .ensures)) (c .before .before .before .before .if1 .taken)) (c .before .before .place-malformed2 .ensures)
+returns-2 c =
+    let b = c .before .before .before .before .before .before .b .given in
+    put-bad _ _ _ _ _ _ (great (c .before .before .before .before .before .before .before .before .before .before .before .args .t .now) (b .0 .0) (rw (b .1) at (c .before .before .before .before .before .before .before .before .parse-number .ensures)) (c .before .before .before .before .if1 .taken)) (c .before .before .place-malformed2 .ensures)
 
 cast-stock-home : tie.Need-cast-stock-home
 cast-stock-home c = search needs
@@ -48,7 +51,9 @@ same-length-3 : tie.Need-same-length-3
 same-length-3 c = search needs
 
 returns-3 : tie.Need-returns-3
-returns-3 c = let b = c .before .before .before .before .before .before .before .b .given in put-good _ _ _ _ _ _ (b .0 .0) (byte (c .before .before .before .before .before .before .before .before .before .before .before .before .args .t .now) (b .0 .0) (rw (b .1) at (c .before .before .before .before .before .before .before .before .before .parse-number .ensures)) (omega (arith, c .before .before .before .before .before .if1 .left))) (put-text _ _ _ _ _ _ (ap stockText (c .before .before .before .before .stock-home .ensures)) (c .before .before .place-stock .ensures))
+returns-3 c =
+    let b = c .before .before .before .before .before .before .before .b .given in
+    put-good _ _ _ _ _ _ (b .0 .0) (byte (c .before .before .before .before .before .before .before .before .before .before .before .before .args .t .now) (b .0 .0) (rw (b .1) at (c .before .before .before .before .before .before .before .before .before .parse-number .ensures)) (omega (arith, c .before .before .before .before .before .if1 .left))) (put-text _ _ _ _ _ _ (ap stockText (c .before .before .before .before .stock-home .ensures)) (c .before .before .place-stock .ensures))
 
 pub place-stock-spec : {M : Type 1} → statement M
 place-stock-spec =

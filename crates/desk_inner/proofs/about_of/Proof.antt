@@ -21,7 +21,8 @@ same-text-requires-2 : tie.Need-same-text-requires-2
 same-text-requires-2 c κs = search needs
 
 returns-2 : tie.Need-returns-2
-returns-2 c = about-2 (c .before .before .before .before .before .before .before .args .t .now) (sym (c .before .before .before .before .same-text .ensures) ∙ c .before .before .before .if1 .left) (sym (c .before .same-text2 .ensures) ∙ c .if2 .taken)
+returns-2 c =
+    about-2 (c .before .before .before .before .before .before .before .args .t .now) (sym (c .before .before .before .before .same-text .ensures) ∙ c .before .before .before .if1 .left) (sym (c .before .same-text2 .ensures) ∙ c .if2 .taken)
 
 slice-aggregate-same-text-3 : tie.Need-slice-aggregate-same-text-3
 slice-aggregate-same-text-3 c = search needs
@@ -30,7 +31,8 @@ same-text-requires-3 : tie.Need-same-text-requires-3
 same-text-requires-3 c κs = search needs
 
 returns-3 : tie.Need-returns-3
-returns-3 c = about-3 (c .before .before .before .before .before .before .before .before .before .before .args .t .now) (sym (c .before .before .before .before .before .before .before .same-text .ensures) ∙ c .before .before .before .before .before .before .if1 .left) (sym (c .before .before .before .before .same-text2 .ensures) ∙ c .before .before .before .if2 .left) (sym (c .before .same-text3 .ensures) ∙ c .if3 .taken)
+returns-3 c =
+    about-3 (c .before .before .before .before .before .before .before .before .before .before .args .t .now) (sym (c .before .before .before .before .before .before .before .same-text .ensures) ∙ c .before .before .before .before .before .before .if1 .left) (sym (c .before .before .before .before .same-text2 .ensures) ∙ c .before .before .before .if2 .left) (sym (c .before .same-text3 .ensures) ∙ c .if3 .taken)
 
 slice-aggregate-same-text-4 : tie.Need-slice-aggregate-same-text-4
 slice-aggregate-same-text-4 c = search needs
@@ -39,10 +41,12 @@ same-text-requires-4 : tie.Need-same-text-requires-4
 same-text-requires-4 c κs = search needs
 
 returns-4 : tie.Need-returns-4
-returns-4 c = about-4 (c .before .before .before .before .before .before .before .before .before .before .before .before .before .args .t .now) (sym (c .before .before .before .before .before .before .before .before .before .before .same-text .ensures) ∙ c .before .before .before .before .before .before .before .before .before .if1 .left) (sym (c .before .before .before .before .before .before .before .same-text2 .ensures) ∙ c .before .before .before .before .before .before .if2 .left) (sym (c .before .before .before .before .same-text3 .ensures) ∙ c .before .before .before .if3 .left) (sym (c .before .same-text4 .ensures) ∙ c .if4 .taken)
+returns-4 c =
+    about-4 (c .before .before .before .before .before .before .before .before .before .before .before .before .before .args .t .now) (sym (c .before .before .before .before .before .before .before .before .before .before .same-text .ensures) ∙ c .before .before .before .before .before .before .before .before .before .if1 .left) (sym (c .before .before .before .before .before .before .before .same-text2 .ensures) ∙ c .before .before .before .before .before .before .if2 .left) (sym (c .before .before .before .before .same-text3 .ensures) ∙ c .before .before .before .if3 .left) (sym (c .before .same-text4 .ensures) ∙ c .if4 .taken)
 
 returns-5 : tie.Need-returns-5
-returns-5 c = about-none (c .before .before .before .before .before .before .before .before .before .before .before .before .before .args .t .now) (sym (c .before .before .before .before .before .before .before .before .before .before .same-text .ensures) ∙ c .before .before .before .before .before .before .before .before .before .if1 .left) (sym (c .before .before .before .before .before .before .before .same-text2 .ensures) ∙ c .before .before .before .before .before .before .if2 .left) (sym (c .before .before .before .before .same-text3 .ensures) ∙ c .before .before .before .if3 .left) (sym (c .before .same-text4 .ensures) ∙ c .if4 .left)
+returns-5 c =
+    about-none (c .before .before .before .before .before .before .before .before .before .before .before .before .before .args .t .now) (sym (c .before .before .before .before .before .before .before .before .before .before .same-text .ensures) ∙ c .before .before .before .before .before .before .before .before .before .if1 .left) (sym (c .before .before .before .before .before .before .before .same-text2 .ensures) ∙ c .before .before .before .before .before .before .if2 .left) (sym (c .before .before .before .before .same-text3 .ensures) ∙ c .before .before .before .if3 .left) (sym (c .before .same-text4 .ensures) ∙ c .if4 .left)
 
 pub about-of-spec : {M : Type 1} → statement M
 about-of-spec =

@@ -21,10 +21,12 @@ same-text-requires-2 : tie.Need-same-text-requires-2
 same-text-requires-2 c κs = search needs
 
 returns-2 : tie.Need-returns-2
-returns-2 c = both-2 (c .before .before .before .before .before .before .before .args .t .now) (sym (c .before .before .before .before .same-text .ensures) ∙ c .before .before .before .if1 .left) (sym (c .before .same-text2 .ensures) ∙ c .if2 .taken)
+returns-2 c =
+    both-2 (c .before .before .before .before .before .before .before .args .t .now) (sym (c .before .before .before .before .same-text .ensures) ∙ c .before .before .before .if1 .left) (sym (c .before .same-text2 .ensures) ∙ c .if2 .taken)
 
 returns-3 : tie.Need-returns-3
-returns-3 c = both-none (c .before .before .before .before .before .before .before .args .t .now) (sym (c .before .before .before .before .same-text .ensures) ∙ c .before .before .before .if1 .left) (sym (c .before .same-text2 .ensures) ∙ c .if2 .left)
+returns-3 c =
+    both-none (c .before .before .before .before .before .before .before .args .t .now) (sym (c .before .before .before .before .same-text .ensures) ∙ c .before .before .before .if1 .left) (sym (c .before .same-text2 .ensures) ∙ c .if2 .left)
 
 pub both-of-spec : {M : Type 1} → statement M
 both-of-spec =

@@ -14,7 +14,8 @@ same-length : tie.Need-same-length
 same-length c = search needs
 
 returns : tie.Need-returns
-returns c = put-bad _ _ _ _ _ _ (line-long (c .before .before .before .before .before .before .before .args .line .now) (c .before .before .before .before .if1 .taken)) (c .before .before .place-malformed .ensures)
+returns c =
+    put-bad _ _ _ _ _ _ (line-long (c .before .before .before .before .before .before .before .args .line .now) (c .before .before .before .before .if1 .taken)) (c .before .before .place-malformed .ensures)
 
 piece-end-requires : tie.Need-piece-end-requires
 piece-end-requires c κs = search needs
@@ -26,7 +27,9 @@ same-length-2 : tie.Need-same-length-2
 same-length-2 c = search needs
 
 returns-2 : tie.Need-returns-2
-returns-2 c = let e = c .before .before .before .before .before .piece-end in put-bad _ _ _ _ _ _ (line-alone (c .before .before .before .before .before .before .before .before .before .args .line .now) (e .result) (e .ensures) (c .before .before .before .before .if2 .taken)) (c .before .before .place-malformed2 .ensures)
+returns-2 c =
+    let e = c .before .before .before .before .before .piece-end in
+    put-bad _ _ _ _ _ _ (line-alone (c .before .before .before .before .before .before .before .before .before .args .line .now) (e .result) (e .ensures) (c .before .before .before .before .if2 .taken)) (c .before .before .place-malformed2 .ensures)
 
 slice-aggregate-verb-of : tie.Need-slice-aggregate-verb-of
 slice-aggregate-verb-of c = simp length-take (omega (arith, c .before .before .piece-end .ensures .within))
@@ -56,19 +59,24 @@ part-place-verb-end : tie.Need-part-place-verb-end
 part-place-verb-end c = search needs
 
 place-verb-requires : tie.Need-place-verb-requires
-place-verb-requires c κs = (simp (length-take, length-drop) (omega (arith, c .before .before .before .before .before .before .before .before .before .if1 .left)), c .before .before .before .before .before .before .before .before .before .before .before .before .pre)
+place-verb-requires c κs =
+    (simp (length-take, length-drop) (omega (arith, c .before .before .before .before .before .before .before .before .before .if1 .left)), c .before .before .before .before .before .before .before .before .before .before .before .before .pre)
 
 same-length-3 : tie.Need-same-length-3
 same-length-3 c = search needs
 
 returns-3 : tie.Need-returns-3
-returns-3 c = let e = c .before .before .before .before .before .before .before .before .before .piece-end in put-bad _ _ _ _ _ _ (line-unknown (c .before .before .before .before .before .before .before .before .before .before .before .before .before .args .line .now) (e .result) (e .ensures) (c .before .before .before .before .before .before .verb-of .result) (c .before .before .before .before .before .before .verb-of .ensures) (c .before .before .before .before .enum-told .given .1)) (c .before .before .place-malformed3 .ensures)
+returns-3 c =
+    let e = c .before .before .before .before .before .before .before .before .before .piece-end in
+    put-bad _ _ _ _ _ _ (line-unknown (c .before .before .before .before .before .before .before .before .before .before .before .before .before .args .line .now) (e .result) (e .ensures) (c .before .before .before .before .before .before .verb-of .result) (c .before .before .before .before .before .before .verb-of .ensures) (c .before .before .before .before .enum-told .given .1)) (c .before .before .place-malformed3 .ensures)
 
 same-length-4 : tie.Need-same-length-4
 same-length-4 c = search needs
 
 returns-4 : tie.Need-returns-4
-returns-4 c = let e = c .before .before .before .before .before .before .before .before .before .before .before .piece-end in put-line (c .before .before .before .before .before .before .before .before .before .before .before .before .before .before .before .args .line .now) (e .result) (e .ensures) (omega (arith, c .before .before .before .before .before .before .before .before .before .before .before .before .if1 .left)) (omega (arith, c .before .before .before .before .before .before .before .before .before .before .if2 .left)) (c .before .before .before .before .before .before .before .before .verb-of .result) (c .before .before .before .before .before .before .before .before .verb-of .ensures) (c .before .before .before .before .before .before .v .given .0 .0) (c .before .before .before .before .before .before .v .given .1) _ _ _ _ (c .before .before .place-verb .ensures)
+returns-4 c =
+    let e = c .before .before .before .before .before .before .before .before .before .before .before .piece-end in
+    put-line (c .before .before .before .before .before .before .before .before .before .before .before .before .before .before .before .args .line .now) (e .result) (e .ensures) (omega (arith, c .before .before .before .before .before .before .before .before .before .before .before .before .if1 .left)) (omega (arith, c .before .before .before .before .before .before .before .before .before .before .if2 .left)) (c .before .before .before .before .before .before .before .before .verb-of .result) (c .before .before .before .before .before .before .before .before .verb-of .ensures) (c .before .before .before .before .before .before .v .given .0 .0) (c .before .before .before .before .before .before .v .given .1) _ _ _ _ (c .before .before .place-verb .ensures)
 
 pub place-answer-spec : {M : Type 1} → statement M
 place-answer-spec =

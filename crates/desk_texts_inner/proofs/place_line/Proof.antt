@@ -18,7 +18,8 @@ returns c =
     let a = c .before .before .before .before .before .before .before .before .args in
     let n = c .before .before .before .before .before .shared-slice-known2 in
     record {
-      short = omega (arith, c .before .before .before .before .before .before .before .before .pre, filled-short (a .text .now) (a .numbers .now) (a .n) (a .ring .now) (λ i. omega (arith, n .given i)));
+      short =
+          omega (arith, c .before .before .before .before .before .before .before .before .pre, filled-short (a .text .now) (a .numbers .now) (a .n) (a .ring .now) (λ i. omega (arith, n .given i)));
       placed = c .before .before .place-filled .ensures;
     }
 

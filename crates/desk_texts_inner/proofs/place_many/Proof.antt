@@ -51,7 +51,8 @@ same-length-3 : tie.Need-same-length-3
 same-length-3 c = search needs
 
 returns-3 : tie.Need-returns-3
-returns-3 c = rw (c .before .before .before .before .before .before .before .before .before .before .before .a2 .given .1, c .before .before .before .before .before .before .before .before .b2 .given .1) (c .before .before .place-line .ensures)
+returns-3 c =
+    rw (c .before .before .before .before .before .before .before .before .before .before .before .a2 .given .1, c .before .before .before .before .before .before .before .before .b2 .given .1) (c .before .before .place-line .ensures)
 
 pub place-many-spec : {M : Type 1} → statement M
 place-many-spec =

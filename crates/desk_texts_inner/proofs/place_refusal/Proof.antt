@@ -27,7 +27,8 @@ same-length : tie.Need-same-length
 same-length c = search needs
 
 returns : tie.Need-returns
-returns c = rw (c .before .before .before .before .before .before .before .before .number .ensures, c .before .before .before .before .before .before .before .place .ensures) at (c .before .before .place-line .ensures)
+returns c =
+    rw (c .before .before .before .before .before .before .before .before .number .ensures, c .before .before .before .before .before .before .before .place .ensures) at (c .before .before .place-line .ensures)
 
 pub place-refusal-spec : {M : Type 1} → statement M
 place-refusal-spec =

@@ -28,7 +28,9 @@ add-t10 : tie.Need-add-t10
 add-t10 c = search needs
 
 returns-2 : tie.Need-returns-2
-returns-2 c = let e = c .before .before .before .before .before .piece-end in head-none (c .before .before .before .before .before .before .before .args .t .now) (e .result) (e .ensures) (rw (c .enum-told .given .1) at (c .before .before .parse-number .ensures))
+returns-2 c =
+    let e = c .before .before .before .before .before .piece-end in
+    head-none (c .before .before .before .before .before .before .before .args .t .now) (e .result) (e .ensures) (rw (c .enum-told .given .1) at (c .before .before .parse-number .ensures))
 
 returns-3 : tie.Need-returns-3
 returns-3 c =

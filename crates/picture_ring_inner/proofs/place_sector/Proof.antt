@@ -18,7 +18,8 @@ run-at-requires : tie.Need-run-at-requires
 run-at-requires c κs = search needs
 
 gray-of-requires : tie.Need-gray-of-requires
-gray-of-requires c κs = (c .before .before .before .before .before .pre .0 .0, c .before .before .before .before .before .pre .0 .1, c .before .before .before .before .before .pre .1 .0 _ (c .before .before .before .before .before .pre .0 .4))
+gray-of-requires c κs =
+    (c .before .before .before .before .before .pre .0 .0, c .before .before .before .before .before .pre .0 .1, c .before .before .before .before .before .pre .1 .0 _ (c .before .before .before .before .before .pre .0 .4))
 
 add-place-arc : tie.Need-add-place-arc
 add-place-arc c = search needs

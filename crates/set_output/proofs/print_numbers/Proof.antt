@@ -17,19 +17,29 @@ enum-told : tie.Need-enum-told
 enum-told c = search needs
 
 place-set-requires : tie.Need-place-set-requires
-place-set-requires c κs = let a = c .before .before .before .before .before .before .before .before .args in let r = c .before .before .before .before .before .before .pick-by .result in (places-fit (a .rule) (a .n) (a .k) (a .d) (a .wanted) (r .places) (r .taken) (r .full) (rw (c .before .before .before .before .enum-told .given .1) at (c .before .before .before .before .before .before .pick-by .ensures)), c .before .before .before .before .before .before .before .before .pre)
+place-set-requires c κs =
+    let a = c .before .before .before .before .before .before .before .before .args in
+    let r = c .before .before .before .before .before .before .pick-by .result in
+    (places-fit (a .rule) (a .n) (a .k) (a .d) (a .wanted) (r .places) (r .taken) (r .full) (rw (c .before .before .before .before .enum-told .given .1) at (c .before .before .before .before .before .before .pick-by .ensures)), c .before .before .before .before .before .before .before .before .pre)
 
 same-length : tie.Need-same-length
 same-length c = search needs
 
 returns : tie.Need-returns
-returns c = let a = c .before .before .before .before .before .before .before .before .before .args in let g = c .before .before .before .before .before .answer .given in let p = rw (g .1) at (c .before .before .before .before .before .before .before .pick-by .ensures) in numbers-refused (a .rule) (a .n) (a .k) (a .d) (a .wanted) (g .0 .0) (p .0) (a .buf .now) _ _ (c .before .before .print-refused .ensures)
+returns c =
+    let a = c .before .before .before .before .before .before .before .before .before .args in
+    let g = c .before .before .before .before .before .answer .given in
+    let p = rw (g .1) at (c .before .before .before .before .before .before .before .pick-by .ensures) in
+    numbers-refused (a .rule) (a .n) (a .k) (a .d) (a .wanted) (g .0 .0) (p .0) (a .buf .now) _ _ (c .before .before .print-refused .ensures)
 
 same-length-2 : tie.Need-same-length-2
 same-length-2 c = search needs
 
 returns-2 : tie.Need-returns-2
-returns-2 c = let a = c .before .before .before .before .before .before .before .before .before .before .before .args in let r = c .before .before .before .before .before .before .before .before .before .pick-by .result in numbers-chosen (a .rule) (a .n) (a .k) (a .d) (a .wanted) (r .places) (r .taken) (r .full) (rw (c .before .before .before .before .before .before .before .enum-told .given .1) at (c .before .before .before .before .before .before .before .before .before .pick-by .ensures)) (a .buf .now) _ _ (c .before .before .place-set .ensures)
+returns-2 c =
+    let a = c .before .before .before .before .before .before .before .before .before .before .before .args in
+    let r = c .before .before .before .before .before .before .before .before .before .pick-by .result in
+    numbers-chosen (a .rule) (a .n) (a .k) (a .d) (a .wanted) (r .places) (r .taken) (r .full) (rw (c .before .before .before .before .before .before .before .enum-told .given .1) at (c .before .before .before .before .before .before .before .before .before .pick-by .ensures)) (a .buf .now) _ _ (c .before .before .place-set .ensures)
 
 pub print-numbers-spec : {M : Type 1} → statement M
 print-numbers-spec =

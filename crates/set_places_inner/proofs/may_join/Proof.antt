@@ -15,7 +15,8 @@ is-clear-requires : tie.Need-is-clear-requires
 is-clear-requires c κs = search needs
 
 returns : tie.Need-returns
-returns c = not-clear-in (length (c .before .before .before .before .before .before .args .ring .now)) (c .before .before .before .before .before .before .args .d) (c .before .before .before .before .before .before .args .places .now) (c .before .before .before .before .before .before .args .taken) (c .before .before .before .before .before .before .args .ring .now) (c .before .before .before .before .before .before .args .rule) (sym (c .before .is-clear .ensures) ∙ not-true _ (c .if1 .taken))
+returns c =
+    not-clear-in (length (c .before .before .before .before .before .before .args .ring .now)) (c .before .before .before .before .before .before .args .d) (c .before .before .before .before .before .before .args .places .now) (c .before .before .before .before .before .before .args .taken) (c .before .before .before .before .before .before .args .ring .now) (c .before .before .before .before .before .before .args .rule) (sym (c .before .is-clear .ensures) ∙ not-true _ (c .if1 .taken))
 
 enum-told : tie.Need-enum-told
 enum-told c = search needs
@@ -53,7 +54,9 @@ returns-2 : tie.Need-returns-2
 returns-2 c = rw (c .enum-told .given .1) (sym (sym (c .before .before .before .is-clear .ensures) ∙ not-false _ (c .before .before .if1 .left)))
 
 returns-3 : tie.Need-returns-3
-returns-3 c = rw (c .before .before .before .before .before .enum-told2 .given .1) (may-guarded (length (c .before .before .before .before .before .before .before .before .before .before .before .before .before .args .ring .now)) (c .before .before .before .before .before .before .before .before .before .before .before .before .before .args .d) (c .before .before .before .before .before .before .before .before .before .before .before .before .before .args .places .now) (c .before .before .before .before .before .before .before .before .before .before .before .before .before .args .taken) (c .before .before .before .before .before .before .before .before .before .before .before .before .before .args .ring .now) (c .is-guarded .result) (sym (c .before .before .before .before .before .before .before .before .is-clear .ensures) ∙ not-false _ (c .before .before .before .before .before .before .before .if1 .left)) (c .is-guarded .ensures))
+returns-3 c =
+    rw (c .before .before .before .before .before .enum-told2 .given .1) (may-guarded (length (c .before .before .before .before .before .before .before .before .before .before .before .before .before .args .ring .now)) (c .before .before .before .before .before .before .before .before .before .before .before .before .before .args .d) (c .before .before .before .before .before .before .before .before .before .before .before .before .before .args .places .now) (c .before .before .before .before .before .before .before .before .before .before .before .before .before .args .taken) (c .before .before .before .before .before .before .before .before .before .before .before .before .before .args .ring .now) (c .is-guarded .result) (sym (c .before .before .before .before .before .before .before .before .is-clear .ensures) ∙ not-false _ (c .before .before .before .before .before .before .before .if1 .left)) (c .is-guarded .ensures))
 
 pub may-join-spec : {M : Type 1} → statement M
-may-join-spec = tie.close (tie.spec is-clear-requires returns enum-told enum-told-2 array-borrow-prefix-back slice-aggregate-write-reversed write-reversed-requires array-share-prefix-back slice-aggregate-is-guarded is-guarded-requires returns-2 returns-3)
+may-join-spec =
+    tie.close (tie.spec is-clear-requires returns enum-told enum-told-2 array-borrow-prefix-back slice-aggregate-write-reversed write-reversed-requires array-share-prefix-back slice-aggregate-is-guarded is-guarded-requires returns-2 returns-3)

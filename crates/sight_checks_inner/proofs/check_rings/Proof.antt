@@ -23,13 +23,15 @@ returns-4 : tie.Need-returns-4
 returns-4 c = inl (inr (((omega (arith, c .before .before .before .if1 .left), omega (arith, c .before .before .if2 .left)), c .before .if3 .left), (refl, λ s. omega (arith, s .0, c .if4 .taken))))
 
 returns-5 : tie.Need-returns-5
-returns-5 c = inl (inr (((omega (arith, c .before .before .before .before .if1 .left), omega (arith, c .before .before .before .if2 .left)), c .before .before .if3 .left), (refl, λ s. omega (arith, s .1, c .if5 .taken))))
+returns-5 c =
+    inl (inr (((omega (arith, c .before .before .before .before .if1 .left), omega (arith, c .before .before .before .if2 .left)), c .before .before .if3 .left), (refl, λ s. omega (arith, s .1, c .if5 .taken))))
 
 check-sectors-requires : tie.Need-check-sectors-requires
 check-sectors-requires c κs = search needs
 
 returns-6 : tie.Need-returns-6
-returns-6 c = sectors-settle (c .before .before .before .before .before .before .before .before .args .reading .now) (c .before .before .before .before .before .before .before .before .args .rings .now) (c .before .before .before .before .before .before .before .before .args .k) (omega (arith, c .before .before .before .before .before .if1 .left), omega (arith, c .before .before .before .before .if2 .left)) (c .before .before .before .if3 .left) (omega (arith, c .before .before .if4 .left), omega (arith, c .before .if5 .left)) (c .check-sectors .result) (c .check-sectors .ensures)
+returns-6 c =
+    sectors-settle (c .before .before .before .before .before .before .before .before .args .reading .now) (c .before .before .before .before .before .before .before .before .args .rings .now) (c .before .before .before .before .before .before .before .before .args .k) (omega (arith, c .before .before .before .before .before .if1 .left), omega (arith, c .before .before .before .before .if2 .left)) (c .before .before .before .if3 .left) (omega (arith, c .before .before .if4 .left), omega (arith, c .before .if5 .left)) (c .check-sectors .result) (c .check-sectors .ensures)
 
 pub check-rings-spec : {M : Type 1} → statement M
 check-rings-spec = tie.close (tie.spec returns returns-2 rem-if3 returns-3 returns-4 returns-5 check-sectors-requires returns-6)

@@ -25,7 +25,8 @@ part-nearest-end : tie.Need-part-nearest-end
 part-nearest-end c = omega (arith, ring-fits (length (c .before .before .args .reading .now)) (c .before .before .args .rings .now) (c .before .before .args .j) (c .before .before .pre .1))
 
 nearest-requires : tie.Need-nearest-requires
-nearest-requires c κs = (c .before .before .before .pre .0, simp (length-take, length-drop) (omega (arith, ring-fits (length (c .before .before .before .args .reading .now)) (c .before .before .before .args .rings .now) (c .before .before .before .args .j) (c .before .before .before .pre .1))))
+nearest-requires c κs =
+    (c .before .before .before .pre .0, simp (length-take, length-drop) (omega (arith, ring-fits (length (c .before .before .before .args .reading .now)) (c .before .before .before .args .rings .now) (c .before .before .before .args .j) (c .before .before .before .pre .1))))
 
 returns : tie.Need-returns
 returns c =

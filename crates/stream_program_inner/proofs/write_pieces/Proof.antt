@@ -39,7 +39,10 @@ smaller-of-requires : tie.Need-smaller-of-requires Inv-loop μ-loop
 smaller-of-requires c κs = search needs
 
 add-write-piece : tie.Need-add-write-piece Inv-loop μ-loop
-add-write-piece c = let b = c .before .before .before .before .before .before .before .args .block .now in let l = c .before .before .loop in omega (arith, c .smaller-of .ensures, smaller-left (length b - l .i) (c .before .before .before .piece-length .result), c .before .loop-test .taken)
+add-write-piece c =
+    let b = c .before .before .before .before .before .before .before .args .block .now in
+    let l = c .before .before .loop in
+    omega (arith, c .smaller-of .ensures, smaller-left (length b - l .i) (c .before .before .before .piece-length .result), c .before .loop-test .taken)
 
 sub-write-piece : tie.Need-sub-write-piece Inv-loop μ-loop
 sub-write-piece c = omega arith
@@ -48,7 +51,10 @@ part-write-piece-start : tie.Need-part-write-piece-start Inv-loop μ-loop
 part-write-piece-start c = search needs
 
 part-write-piece-end : tie.Need-part-write-piece-end Inv-loop μ-loop
-part-write-piece-end c = let b = c .before .before .before .before .before .before .before .args .block .now in let l = c .before .before .loop in omega (arith, c .smaller-of .ensures, smaller-left (length b - l .i) (c .before .before .before .piece-length .result), c .before .loop-test .taken)
+part-write-piece-end c =
+    let b = c .before .before .before .before .before .before .before .args .block .now in
+    let l = c .before .before .loop in
+    omega (arith, c .smaller-of .ensures, smaller-left (length b - l .i) (c .before .before .before .piece-length .result), c .before .loop-test .taken)
 
 write-piece-requires : tie.Need-write-piece-requires Inv-loop μ-loop
 write-piece-requires c κs =
@@ -61,16 +67,21 @@ write-piece-requires c κs =
     (l .inv .1 ∙ g .pre .0, (l .inv .2, piece-room _ (p .result) _ _ q (p .ensures .1) (omega (arith, l .inv .3, g .pre .1 .1))))
 
 same-length : tie.Need-same-length Inv-loop μ-loop
-same-length c = c .before .before .before .before .before .before .write-piece .kept .1 .1 .0 ∙ c .before .before .before .before .before .before .before .before .before .before .before .before .loop .inv .1
+same-length c =
+    c .before .before .before .before .before .before .write-piece .kept .1 .1 .0 ∙ c .before .before .before .before .before .before .before .before .before .before .before .before .loop .inv .1
 
 same-length-2 : tie.Need-same-length-2 Inv-loop μ-loop
-same-length-2 c = c .before .before .before .before .before .before .write-piece .kept .1 .1 .1 .1 .0 ∙ c .before .before .before .before .before .before .before .before .before .before .before .before .loop .inv .3
+same-length-2 c =
+    c .before .before .before .before .before .before .write-piece .kept .1 .1 .1 .1 .0 ∙ c .before .before .before .before .before .before .before .before .before .before .before .before .loop .inv .3
 
 returns : tie.Need-returns Inv-loop μ-loop
 returns c = let q = c .before .before .before .before .before .before .write-piece in (q .ensures .0, rw (not-true (q .result .all) (c .if1 .taken)) tt)
 
 add-i : tie.Need-add-i Inv-loop μ-loop
-add-i c = let b = c .before .before .before .before .before .before .before .before .before .before .before .before .before .before .before .before .before .args .block .now in let l = c .before .before .before .before .before .before .before .before .before .before .before .before .loop in omega (arith, c .before .before .before .before .before .before .before .before .before .before .smaller-of .ensures, smaller-left (length b - l .i) (c .before .before .before .before .before .before .before .before .before .before .before .before .before .piece-length .result), c .before .before .before .before .before .before .before .before .before .before .before .loop-test .taken)
+add-i c =
+    let b = c .before .before .before .before .before .before .before .before .before .before .before .before .before .before .before .before .before .args .block .now in
+    let l = c .before .before .before .before .before .before .before .before .before .before .before .before .loop in
+    omega (arith, c .before .before .before .before .before .before .before .before .before .before .smaller-of .ensures, smaller-left (length b - l .i) (c .before .before .before .before .before .before .before .before .before .before .before .before .before .piece-length .result), c .before .before .before .before .before .before .before .before .before .before .before .loop-test .taken)
 
 loop-less : tie.Need-loop-less Inv-loop μ-loop
 loop-less c =

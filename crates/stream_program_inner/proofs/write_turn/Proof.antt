@@ -51,7 +51,9 @@ same-length-4 : tie.Need-same-length-4
 same-length-4 c = search needs
 
 returns-2 : tie.Need-returns-2
-returns-2 c = let g = c .before .before .before .before .before .before .before .before .before .before in (omega arith, turn-over (g .args .kind) _ _ (g .args .block .now) _ _ _ (g .args .got) (c .before .before .before .before .before .enum-told .given .1) (c .before .before .write-last .ensures))
+returns-2 c =
+    let g = c .before .before .before .before .before .before .before .before .before .before in
+    (omega arith, turn-over (g .args .kind) _ _ (g .args .block .now) _ _ _ (g .args .got) (c .before .before .before .before .before .enum-told .given .1) (c .before .before .write-last .ensures))
 
 returns-3 : tie.Need-returns-3
 returns-3 c = let g = c .before .before .before .before .before in (g .pre .1 .0, turn-failed (g .args .kind) _ (g .args .got) _ (g .args .block .now) _ (c .enum-told2 .given .1))

@@ -44,4 +44,5 @@ returns : tie.Need-returns Inv-loop μ-loop
 returns c = search needs
 
 pub all-spec : {M : Type 1} → statement M
-all-spec = tie.close (tie.spec Inv-loop μ-loop ways-requires times-requires times-requires-2 times-requires-3 loop-holds numbered-requires wrapping-add-usize-requires add-c loop-less loop-again returns)
+all-spec =
+    tie.close (tie.spec Inv-loop μ-loop ways-requires times-requires times-requires-2 times-requires-3 loop-holds numbered-requires wrapping-add-usize-requires add-c loop-less loop-again returns)

@@ -28,7 +28,8 @@ same-length : tie.Need-same-length Inv-loop μ-loop
 same-length c = c .before .before .before .before .loop .inv .1 ∙ sym (c .before .before .before .before .before .before .before .pre)
 
 returns : tie.Need-returns Inv-loop μ-loop
-returns c = upto-not (c .before .before .before .before .before .before .before .args .t .now) (c .before .before .before .before .loop .i) (c .before .value-of .result) (c .before .before .before .loop-test .taken) (c .if1 .taken) (c .before .value-of .ensures)
+returns c =
+    upto-not (c .before .before .before .before .before .before .before .args .t .now) (c .before .before .before .before .loop .i) (c .before .value-of .result) (c .before .before .before .loop-test .taken) (c .if1 .taken) (c .before .value-of .ensures)
 
 slice-write-out : tie.Need-slice-write-out Inv-loop μ-loop
 slice-write-out c = omega (arith, c .before .before .before .before .loop .inv .1, c .before .before .before .loop-test .taken)
@@ -40,7 +41,8 @@ loop-less : tie.Need-loop-less Inv-loop μ-loop
 loop-less c = search needs
 
 loop-again : tie.Need-loop-again Inv-loop μ-loop
-loop-again c = (omega arith, simp length-set (c .before .before .before .before .loop .inv .1), upto-on (c .before .before .before .before .before .before .before .args .t .now) (c .before .before .before .before .loop .out) (c .before .before .before .before .loop .i) (c .before .value-of .result) (omega (arith, c .before .before .before .before .loop .inv .1, c .before .before .before .loop-test .taken)) (c .before .before .before .before .loop .inv .2) (c .if1 .left) (c .before .value-of .ensures))
+loop-again c =
+    (omega arith, simp length-set (c .before .before .before .before .loop .inv .1), upto-on (c .before .before .before .before .before .before .before .args .t .now) (c .before .before .before .before .loop .out) (c .before .before .before .before .loop .i) (c .before .value-of .result) (omega (arith, c .before .before .before .before .loop .inv .1, c .before .before .before .loop-test .taken)) (c .before .before .before .before .loop .inv .2) (c .if1 .left) (c .before .value-of .ensures))
 
 same-length-2 : tie.Need-same-length-2 Inv-loop μ-loop
 same-length-2 c = c .before .loop .inv .1 ∙ sym (c .before .before .before .before .pre)
