@@ -371,7 +371,7 @@ def desk(line):
         return f"next {shown(v)}" if v is not None else "done"
 
     # a longer line is malformed, whatever it says
-    if len(line) > 1023:
+    if len(line) > 4095:
         return ["refused 11 at 0"]
     one = {"class": classed, "home": homed, "even": lambda k, r: ("no", "yes")[rings.even_handed(r, k)], "place": lambda k, r: f"place {rings.place(r, k)}",
            "next": stepped(rings.next_necklace), "lyndon": stepped(rings.next_lyndon), "prenecklace": stepped(rings.next_prenecklace), "bracelet": bracelet}

@@ -23,7 +23,7 @@ fn answer_class(k: usize, w: &[u8], buf: &mut [u8], at: usize) -> usize
 }
 
 fn answer_home(k: usize, w: &[u8], out: &mut [u8], buf: &mut [u8], at: usize) -> usize
-    requires { ⌜ length (now w) ≤ 1023 ⌝ }
+    requires { ⌜ length (now w) ≤ 4095 ⌝ }
     requires { ⌜ now out ≡ blank (length (now w)) ⌝ }
     requires { ⌜ at + deskRoom ≤ length (now buf) ⌝ }
     ensures { λ r. ⌜ Puts (AboutSays asks.Home k (now (w .entry))) deskRoom (now (buf .entry)) at r (now (buf .exit)) ⌝ }
@@ -49,7 +49,7 @@ fn answer_place(k: usize, w: &[u8], buf: &mut [u8], at: usize) -> usize
 }
 
 fn answer_about(v: About, k: usize, w: &[u8], out: &mut [u8], buf: &mut [u8], at: usize) -> usize
-    requires { ⌜ length (now w) ≤ 1023 ⌝ }
+    requires { ⌜ length (now w) ≤ 4095 ⌝ }
     requires { ⌜ now out ≡ blank (length (now w)) ⌝ }
     requires { ⌜ at + deskRoom ≤ length (now buf) ⌝ }
     ensures { λ r. ⌜ Puts (AboutSays v k (now (w .entry))) deskRoom (now (buf .entry)) at r (now (buf .exit)) ⌝ }
@@ -72,7 +72,7 @@ fn ask_about(
     buf: &mut [u8],
     at: usize,
 ) -> usize
-    requires { ⌜ length (now t) ≤ 1023 ⌝ }
+    requires { ⌜ length (now t) ≤ 4095 ⌝ }
     requires { ⌜ length (now w) ≡ length (now t) ⌝ }
     requires { ⌜ now out ≡ blank (length (now t)) ⌝ }
     requires { ⌜ at + deskRoom ≤ length (now buf) ⌝ }
@@ -86,7 +86,7 @@ fn ask_about(
 
 // What the text behind the verb prints.
 pub fn place_about(v: About, t: &[u8], buf: &mut [u8], at: usize) -> usize
-    requires { ⌜ length (now t) ≤ 1023 ⌝ }
+    requires { ⌜ length (now t) ≤ 4095 ⌝ }
     requires { ⌜ at + deskRoom ≤ length (now buf) ⌝ }
     ensures { λ r. ⌜ Puts (VerbSays (verbs.About v) (now (t .entry))) deskRoom (now (buf .entry)) at r (now (buf .exit)) ⌝ }
 {
@@ -94,8 +94,8 @@ pub fn place_about(v: About, t: &[u8], buf: &mut [u8], at: usize) -> usize
         Head::Malformed => desk_texts_inner::place_malformed(buf, at),
         Head::Number(k, e) => {
             let n = t.len() - e;
-            let mut w = [0u8; 1023];
-            let mut out = [0u8; 1023];
+            let mut w = [0u8; 4095];
+            let mut out = [0u8; 4095];
             ask_about(v, k, &t[e..], &mut w[..n], &mut out[..n], buf, at)
         }
     }

@@ -99,15 +99,15 @@ fn ask_words(
 
 // What the text behind the verb prints.
 pub fn place_both(v: Both, t: &[u8], buf: &mut [u8], at: usize) -> usize
-    requires { ⌜ length (now t) ≤ 1023 ⌝ }
+    requires { ⌜ length (now t) ≤ 4095 ⌝ }
     requires { ⌜ at + deskRoom ≤ length (now buf) ⌝ }
     ensures { λ r. ⌜ Puts (VerbSays (verbs.Both v) (now (t .entry))) deskRoom (now (buf .entry)) at r (now (buf .exit)) ⌝ }
 {
     match desk_words_inner::head_of(t) {
         Head::Malformed => desk_texts_inner::place_malformed(buf, at),
         Head::Number(k, e) => {
-            let mut a = [0u8; 1023];
-            let mut b = [0u8; 1023];
+            let mut a = [0u8; 4095];
+            let mut b = [0u8; 4095];
             ask_words(v, k, &t[e..], &mut a, &mut b, buf, at)
         }
     }

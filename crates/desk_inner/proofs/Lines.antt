@@ -19,7 +19,7 @@ use Rattle.desk_texts_inner.specs.Says.{deskRoom}
 use Rattle.desk_texts_inner.proofs.Putting.{put-good}
 use Rattle.desk_words_inner.proofs.Shapes.{rest-all}
 
-pub line-long : (s : List ℕ) → 1023 < length s → (q : Verb × List ℕ) → LineReads s q → ⊥
+pub line-long : (s : List ℕ) → 4095 < length s → (q : Verb × List ℕ) → LineReads s q → ⊥
 line-long s h q x = omega (arith, h, x .within)
 
 module _ (s : List ℕ) (e : ℕ) (p : PieceAt 32 s e) where
@@ -32,7 +32,7 @@ module _ (s : List ℕ) (e : ℕ) (p : PieceAt 32 s e) where
       let z : Unknown ≡ Known (q .0) = sym u ∙ d ∙ ap (λ (i : ℕ). verbOf (take i s)) a ∙ x .verb in
       false≢true (ap isKnown z)
 
-  pub put-line : length s ≤ 1023 → e < length s → (f : Found) → f ≡ verbOf (take e s) → (v : Verb) → f ≡ Known v → (b : List ℕ) (at r : ℕ) (b′ : List ℕ) →
+  pub put-line : length s ≤ 4095 → e < length s → (f : Found) → f ≡ verbOf (take e s) → (v : Verb) → f ≡ Known v → (b : List ℕ) (at r : ℕ) (b′ : List ℕ) →
       Puts (VerbSays v (take (length s - (e + 1)) (drop (e + 1) s))) deskRoom b at r b′ → Puts (DeskAnswers s) deskRoom b at r b′
   put-line l h f d v k b at r b′ x =
       put-good (LineReads s) (λ q. VerbSays (q .0) (q .1)) b at r b′ (v, drop (e + 1) s)

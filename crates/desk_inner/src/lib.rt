@@ -80,7 +80,7 @@ fn verb_of(t: &[u8]) -> Found
 
 // What the text behind a verb prints.
 fn place_verb(v: Verb, t: &[u8], buf: &mut [u8], at: usize) -> usize
-    requires { ⌜ length (now t) ≤ 1023 ⌝ }
+    requires { ⌜ length (now t) ≤ 4095 ⌝ }
     requires { ⌜ at + deskRoom ≤ length (now buf) ⌝ }
     ensures { λ r. ⌜ Puts (VerbSays v (now (t .entry))) deskRoom (now (buf .entry)) at r (now (buf .exit)) ⌝ }
 {
@@ -97,7 +97,7 @@ pub fn place_answer(line: &[u8], buf: &mut [u8], at: usize) -> usize
     requires { ⌜ at + deskRoom ≤ length (now buf) ⌝ }
     ensures { λ r. ⌜ Puts (DeskAnswers (now (line .entry))) deskRoom (now (buf .entry)) at r (now (buf .exit)) ⌝ }
 {
-    if 1023 < line.len() {
+    if 4095 < line.len() {
         return desk_texts_inner::place_malformed(buf, at);
     }
     let e = text_spell_inner::piece_end(line, b' ');

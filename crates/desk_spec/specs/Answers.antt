@@ -74,7 +74,7 @@ VerbSays Asks.Many t text = Replies (ReadsNumbers t) (λ q. ManySays (q .0) (q .
 VerbSays Asks.Stock t text = Replies (ReadsByte t) (λ b x. x ≡ stockText (homeByte b)) text
 
 abbrev pub longestLine : ℕ
-longestLine = 1023
+longestLine = 4095
 
 -- a verb, and what stands behind its word: a word ends at the first space
 pub record LineReads (s : List ℕ) (q : Verb × List ℕ) : Type 0 where

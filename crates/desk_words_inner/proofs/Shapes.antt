@@ -62,12 +62,12 @@ pub rest-long : (t : List ℕ) (at : ℕ) → length (take (length t - at) (drop
 rest-long t at = rw (rest-all t at) (length-drop at t)
 
 -- what the parts of a text behind a number ask: it is short, the bytes lent for the reading are as many, and so is the output, which is 0
-pub ask-room : (t : List ℕ) (at : ℕ) → length t ≤ 1023 →
-    (length (take (length t - at) (drop at t)) ≤ 1023) × (length (take (length t - at) (blank 1023)) ≡ length (take (length t - at) (drop at t)))
-    × (take (length t - at) (blank 1023) ≡ blank (length (take (length t - at) (drop at t))))
+pub ask-room : (t : List ℕ) (at : ℕ) → length t ≤ 4095 →
+    (length (take (length t - at) (drop at t)) ≤ 4095) × (length (take (length t - at) (blank 4095)) ≡ length (take (length t - at) (drop at t)))
+    × (take (length t - at) (blank 4095) ≡ blank (length (take (length t - at) (drop at t))))
 ask-room t at h =
     let r = rest-long t at in
-    let e = take-blank (length t - at) 1023 (omega arith) in
+    let e = take-blank (length t - at) 4095 (omega arith) in
     (omega (arith, r), ap length e ∙ length-replicate (length t - at) 0 ∙ sym r, e ∙ sym (ap (λ (x : ℕ). blank x) r))
 
 -- ---- two readings

@@ -18,7 +18,7 @@ Said Desk = desks.DeskAnswers
 
 abbrev pub mostOf : Kind → ℕ
 mostOf Count = 9
-mostOf Desk = 1024
+mostOf Desk = 4096
 
 abbrev pub roomOf : Kind → ℕ
 roomOf Count = blocks.lineRoom

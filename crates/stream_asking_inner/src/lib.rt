@@ -18,7 +18,7 @@ pub fn kept_bytes(kind: Kind) -> usize
 {
     match kind {
         Kind::Count => 9,
-        Kind::Desk => 1024,
+        Kind::Desk => 4096,
     }
 }
 
