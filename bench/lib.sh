@@ -1,6 +1,6 @@
 # What the scripts of this folder share, and those of c/, .ci/door, .ci/stack and .ci/c with them; they read it with '.', after setting `top` to the repository's folder. It finds the
 # toolchain's parts and makes a room for what is built, which is removed at the end. Then: build_c, build_list and build_calls build, compile compiles without a proof,
-# keep_objects, frames and deepest tell the stack, run runs, count counts instructions.
+# own_kit is a toolchain for this processor, keep_objects, frames and deepest tell the stack, run runs, count counts instructions.
 # Nothing but the toolchain is needed. Every path may have spaces.
 
 say() { printf '%s: %s\n' "$(basename "$0")" "$*" >&2; }
@@ -187,6 +187,29 @@ build_programs() {
         echo "void program_$program(void); int main(void) { program_$program(); return 0; }" | object "main_$program" -O2 -fPIE || return 2
         link "$into/$program" "$room/main_$program.o" "$room/joined.a" || return 2
     done
+}
+
+# own_kit DIR: the toolchain once more, in links, but for a compiler that is told this processor as its target: what is compiled by it runs here without an emulator.
+own_kit() {
+    own=on/$machine
+    mkdir -p "$1/$own/toolchain/bin"
+    for part in "$kit"/* "$kit/$own"/* "$kit/$own/toolchain"/* "$kit/$own/toolchain/bin"/*; do
+        [ -e "$1${part#"$kit"}" ] || ln -s "$part" "$1${part#"$kit"}"
+    done
+    mv "$1/$own/toolchain/bin/clang" "$1/$own/toolchain/bin/own-clang"
+    cat >"$1/$own/toolchain/bin/clang" <<COMPILER
+#!/bin/sh
+for word do
+    shift
+    case \$word in
+    --target=*) set -- "\$@" --target=$machine-unknown-linux-gnu -Wno-override-module ;;
+    -march=*) ;;
+    *) set -- "\$@" "\$word" ;;
+    esac
+done
+exec "\$(dirname "\$0")/own-clang" "\$@" 2>/dev/null
+COMPILER
+    chmod +x "$1/$own/toolchain/bin/clang"
 }
 
 # ---- the stack
