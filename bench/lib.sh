@@ -135,6 +135,42 @@ pub extern "C" fn walk_on(s: &[u8], k: usize, kind: usize, out: &mut [u8; 64]) -
 RATTLE
 }
 
+# The calls on sets that are measured, the same way; a sighting answers the target, 253 where there are several, 254 where there is none.
+chosen_source() {
+    cat <<'RATTLE'
+use refusal::Checked;
+use sets::Picked;
+use sight::Sighting;
+
+fn taken(p: Picked) -> usize {
+    let answer = p.answer;
+    match answer {
+        Checked::Good => p.taken,
+        Checked::Refused(_) => 255,
+    }
+}
+
+#[no_mangle]
+pub extern "C" fn pick(guarded: usize, n: usize, k: usize, d: usize, wanted: usize) -> usize {
+    if guarded == 0 {
+        return taken(sets::pick(n, k, d, wanted));
+    }
+    taken(sets::pick_guarded(n, k, d, wanted))
+}
+
+#[no_mangle]
+pub extern "C" fn sight(rings: &[u8], reading: &[u8], k: usize, most: usize) -> usize {
+    match sight::sight(rings, reading, k, most) {
+        Sighting::Front { target, .. } => target,
+        Sighting::Back { target, .. } => target,
+        Sighting::Several => 253,
+        Sighting::Unknown => 254,
+        Sighting::Refused(_) => 255,
+    }
+}
+RATTLE
+}
+
 # build_calls [KIT]: room/libcalls.a, the library of those calls for C. It is a crate that only stands here, in a repository of links to the proved crates, so that
 # neither the repository nor its gate has it. The crates are proved first where they are not yet. KIT is another toolchain's folder to build it by.
 build_calls() {
