@@ -23,15 +23,6 @@ sub-check-old c = omega (arith, c .before .loop .inv .inside)
 part-check-old-start : tie.Need-part-check-old-start Inv-loop μ-loop
 part-check-old-start c = omega (arith, c .before .loop .inv .inside)
 
-part-check-old-end : tie.Need-part-check-old-end Inv-loop μ-loop
-part-check-old-end c = search needs
-
-check-old-requires : tie.Need-check-old-requires Inv-loop μ-loop
-check-old-requires c κs = search needs
-
-enum-known-r : tie.Need-enum-known-r Inv-loop μ-loop
-enum-known-r c = search needs
-
 returns : tie.Need-returns Inv-loop μ-loop
 returns c = going-found _ _ (c .before .before .before .before .before .before .loop .inv) _ (c .before .before .before .before .before .loop-test .taken) (rw (c .before .r .given .1) at (c .before .before .before .check-old .ensures))
 
@@ -65,22 +56,6 @@ returns-2 c = going-ended _ _ (c .before .loop .inv) (c .loop-test .left)
 pub check-all-spec : {M : Type 1} → statement M
 check-all-spec =
     tie.close
-    (tie.spec
-    Inv-loop
-    μ-loop
-    loop-holds
-    sub-check-old
-    part-check-old-start
-    part-check-old-end
-    check-old-requires
-    enum-known-r
-    returns
-    enum-told
-    add-n
-    shared-slice-read-n
-    cast-n
-    add-at
-    add-at-2
-    loop-less
-    loop-again
+    (tie.spec Inv-loop μ-loop loop-holds sub-check-old part-check-old-start (λ c. search needs) (λ c κs. search needs)
+    (λ c. search needs) returns enum-told add-n shared-slice-read-n cast-n add-at add-at-2 loop-less loop-again
     returns-2)

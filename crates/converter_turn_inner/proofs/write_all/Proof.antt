@@ -68,23 +68,6 @@ returns c = going-ended _ _ _ (c .before .loop .inv) (c .loop-test .left)
 pub write-all-spec : {M : Type 1} → statement M
 write-all-spec =
     tie.close
-    (tie.spec
-    Inv-loop
-    μ-loop
-    loop-holds
-    add-n
-    shared-slice-read-n
-    cast-n
-    add-e
-    add-e-2
-    sub-put-front
-    part-put-front-start
-    part-put-front-end
-    sub-put-front-2
-    part-put-front-start-2
-    part-put-front-end-2
-    put-front-requires
-    loop-less
-    loop-again
-    same-length
-    returns)
+    (tie.spec Inv-loop μ-loop loop-holds add-n shared-slice-read-n cast-n add-e add-e-2 sub-put-front
+    part-put-front-start part-put-front-end sub-put-front-2 part-put-front-start-2 part-put-front-end-2
+    put-front-requires loop-less loop-again same-length returns)

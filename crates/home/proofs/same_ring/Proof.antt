@@ -7,12 +7,6 @@ use Rattle.refusal.specs.Calls.{askTwo}
 use Rattle.home.proofs.same_ring.Statement.{statement}
 use Rattle.home.proofs.same_ring.Tie as tie
 
-check-pair-requires : tie.Need-check-pair-requires
-check-pair-requires c κs = search needs
-
-enum-known-r : tie.Need-enum-known-r
-enum-known-r c = search needs
-
 enum-told : tie.Need-enum-told
 enum-told c = search needs
 
@@ -53,13 +47,5 @@ returns-3 c =
 pub same-ring-spec : {M : Type 1} → statement M
 same-ring-spec =
     tie.close
-    (tie.spec
-    check-pair-requires
-    enum-known-r
-    enum-told
-    least-shift-requires
-    least-shift-requires-2
-    same-turns-requires
-    returns
-    returns-2
-    returns-3)
+    (tie.spec (λ c κs. search needs) (λ c. search needs) enum-told least-shift-requires least-shift-requires-2
+    same-turns-requires returns returns-2 returns-3)

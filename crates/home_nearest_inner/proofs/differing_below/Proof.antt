@@ -25,21 +25,6 @@ loop-holds c = omega arith
 returns : tie.Need-returns Inv-loop μ-loop
 returns c = omega (arith, c .before .before .loop .inv .0, c .if1 .taken)
 
-sector-requires : tie.Need-sector-requires Inv-loop μ-loop
-sector-requires c κs = search needs
-
-shared-slice-read-y : tie.Need-shared-slice-read-y Inv-loop μ-loop
-shared-slice-read-y c = search needs
-
-add-d : tie.Need-add-d Inv-loop μ-loop
-add-d c = search needs
-
-add-m : tie.Need-add-m Inv-loop μ-loop
-add-m c = search needs
-
-loop-less : tie.Need-loop-less Inv-loop μ-loop
-loop-less c = search needs
-
 loop-again : tie.Need-loop-again Inv-loop μ-loop
 loop-again c =
     let a = c .before .before .before .before .before .before .before .before .args in
@@ -67,15 +52,5 @@ returns-2 c =
 pub differing-below-spec : {M : Type 1} → statement M
 differing-below-spec =
     tie.close
-    (tie.spec
-    Inv-loop
-    μ-loop
-    loop-holds
-    returns
-    sector-requires
-    shared-slice-read-y
-    add-d
-    add-m
-    loop-less
-    loop-again
-    returns-2)
+    (tie.spec Inv-loop μ-loop loop-holds returns (λ c κs. search needs) (λ c. search needs) (λ c. search needs)
+    (λ c. search needs) (λ c. search needs) loop-again returns-2)

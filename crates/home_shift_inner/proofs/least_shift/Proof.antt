@@ -77,23 +77,5 @@ returns-2 c = let l = c .before .loop in seeks-end (c .before .before .before .a
 pub least-shift-spec : {M : Type 1} → statement M
 least-shift-spec =
     tie.close
-    (tie.spec
-    Inv-loop
-    μ-loop
-    loop-holds
-    sector-requires
-    sector-requires-2
-    add-j
-    add-j-2
-    loop-less
-    loop-again
-    add-past
-    add-past-2
-    add-j-3
-    loop-less-2
-    loop-again-2
-    add-m
-    returns
-    loop-less-3
-    loop-again-3
-    returns-2)
+    (tie.spec Inv-loop μ-loop loop-holds sector-requires sector-requires-2 add-j add-j-2 loop-less loop-again add-past
+    add-past-2 add-j-3 loop-less-2 loop-again-2 add-m returns loop-less-3 loop-again-3 returns-2)

@@ -9,17 +9,8 @@ use borrow.Author.Needs.{needs}
 use Rattle.how_many_sums_inner.proofs.summand.Statement.{statement}
 use Rattle.how_many_sums_inner.proofs.summand.Tie as tie
 
-rem-if1 : tie.Need-rem-if1
-rem-if1 c = search needs
-
 returns : tie.Need-returns
 returns c = let a = c .before .args in (summand-none (a .w) (a .k) (a .n) (a .d) (c .if1 .taken), omega arith)
-
-weigh-requires : tie.Need-weigh-requires
-weigh-requires c κs = search needs
-
-div-e : tie.Need-div-e
-div-e c = search needs
 
 power-requires : tie.Need-power-requires
 power-requires c κs = let a = c .before .before .args in (omega (arith, c .before .before .pre), power-fits (a .k) (omega (arith, c .before .before .pre)) (a .n) (a .d) (c .before .before .pre .0 .few))
@@ -33,4 +24,5 @@ returns-2 c = let a = c .before .before .before .args in let b : c .power .resul
 pub summand-spec : {M : Type 1} → statement M
 summand-spec =
     tie.close
-    (tie.spec rem-if1 returns div-e weigh-requires power-requires mul-result returns-2)
+    (tie.spec (λ c. search needs) returns (λ c. search needs) (λ c κs. search needs) power-requires mul-result
+    returns-2)

@@ -48,20 +48,6 @@ returns-3 c =
 pub check-behind-spec : {M : Type 1} → statement M
 check-behind-spec =
     tie.close
-    (tie.spec
-    (λ c κs. search needs)
-    (λ c. search needs)
-    (λ c. search needs)
-    (λ c. search needs)
-    cast-n
-    (λ c. search needs)
-    cast-k
-    body-length-requires
-    add-e
-    returns
-    (λ c. search needs)
-    (λ c. search needs)
-    (λ c. search needs)
-    check-bytes-requires
-    returns-2
-    returns-3)
+    (tie.spec (λ c κs. search needs) (λ c. search needs) (λ c. search needs) (λ c. search needs) cast-n
+    (λ c. search needs) cast-k body-length-requires add-e returns (λ c. search needs) (λ c. search needs)
+    (λ c. search needs) check-bytes-requires returns-2 returns-3)

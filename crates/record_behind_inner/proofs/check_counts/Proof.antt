@@ -26,17 +26,5 @@ returns-3 c = let g = rw (c .enum-told .given .1) at (c .before .before .check-n
 pub check-counts-spec : {M : Type 1} → statement M
 check-counts-spec =
     tie.close
-    (tie.spec
-    (λ c. search needs)
-    cast-n
-    (λ c. search needs)
-    cast-k
-    (λ c κs. search needs)
-    (λ c. search needs)
-    (λ c κs. search needs)
-    (λ c. search needs)
-    returns
-    (λ c. search needs)
-    (λ c. search needs)
-    returns-2
-    returns-3)
+    (tie.spec (λ c. search needs) cast-n (λ c. search needs) cast-k (λ c κs. search needs) (λ c. search needs)
+    (λ c κs. search needs) (λ c. search needs) returns (λ c. search needs) (λ c. search needs) returns-2 returns-3)

@@ -28,15 +28,5 @@ returns-3 c = let a = c .before .before .before .before .before .args in let g =
 pub check-body-spec : {M : Type 1} → statement M
 check-body-spec =
     tie.close
-    (tie.spec
-    (λ c κs. search needs)
-    (λ c. search needs)
-    (λ c. search needs)
-    (λ c. search needs)
-    add-t9
-    (λ c. search needs)
-    (λ c. search needs)
-    add-t12
-    returns
-    returns-2
-    returns-3)
+    (tie.spec (λ c κs. search needs) (λ c. search needs) (λ c. search needs) (λ c. search needs) add-t9
+    (λ c. search needs) (λ c. search needs) add-t12 returns returns-2 returns-3)

@@ -52,19 +52,6 @@ returns c =
 pub read-good-spec : {M : Type 1} → statement M
 read-good-spec =
     tie.close
-    (tie.spec
-    (λ c. search needs)
-    (λ c. search needs)
-    (λ c. search needs)
-    (λ c. search needs)
-    body-length-requires
-    add-e
-    (λ c. search needs)
-    (λ c. search needs)
-    part-show-end
-    slice-relend-prefix-show
-    slice-aggregate-show
-    show-requires
-    add-t11
-    (λ c. search needs)
-    returns)
+    (tie.spec (λ c. search needs) (λ c. search needs) (λ c. search needs) (λ c. search needs) body-length-requires
+    add-e (λ c. search needs) (λ c. search needs) part-show-end slice-relend-prefix-show slice-aggregate-show
+    show-requires add-t11 (λ c. search needs) returns)

@@ -28,18 +28,6 @@ returns-6 c =
 pub read-head-spec : {M : Type 1} → statement M
 read-head-spec =
     tie.close
-    (tie.spec
-    returns
-    (λ c. search needs)
-    returns-2
-    (λ c κs. search needs)
-    returns-3
-    (λ c. search needs)
-    (λ c κs. search needs)
-    (λ c. search needs)
-    (λ c. search needs)
-    (λ c. search needs)
-    (λ c κs. search needs)
-    (λ c. search needs)
-    (λ c. search needs)
-    returns-6)
+    (tie.spec returns (λ c. search needs) returns-2 (λ c κs. search needs) returns-3 (λ c. search needs)
+    (λ c κs. search needs) (λ c. search needs) (λ c. search needs) (λ c. search needs) (λ c κs. search needs)
+    (λ c. search needs) (λ c. search needs) returns-6)

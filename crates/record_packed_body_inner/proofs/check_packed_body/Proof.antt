@@ -13,9 +13,6 @@ use borrow.Author.Needs.{needs}
 use Rattle.record_packed_body_inner.proofs.check_packed_body.Statement.{statement}
 use Rattle.record_packed_body_inner.proofs.check_packed_body.Tie as tie
 
-width-of-requires : tie.Need-width-of-requires
-width-of-requires c κs = search needs
-
 array-borrow-prefix-sectors : tie.Need-array-borrow-prefix-sectors
 array-borrow-prefix-sectors c = search needs
 
@@ -40,12 +37,5 @@ returns c = let a = c .before .before .before .before .before .before .before .a
 pub check-packed-body-spec : {M : Type 1} → statement M
 check-packed-body-spec =
     tie.close
-    (tie.spec
-    width-of-requires
-    array-borrow-prefix-sectors
-    slice-aggregate-unpack-into
-    unpack-into-requires
-    array-share-prefix-sectors
-    slice-aggregate-check-unpacked
-    check-unpacked-requires
-    returns)
+    (tie.spec (λ c κs. search needs) array-borrow-prefix-sectors slice-aggregate-unpack-into unpack-into-requires
+    array-share-prefix-sectors slice-aggregate-check-unpacked check-unpacked-requires returns)

@@ -43,24 +43,7 @@ returns-5 c = let e = c .before .before .before .before .before .before .before 
 pub check-unpacked-spec : {M : Type 1} → statement M
 check-unpacked-spec =
     tie.close
-    (tie.spec
-    (λ c κs. search needs)
-    padding-clear-requires
-    (λ c. search needs)
-    sub-last
-    (λ c. search needs)
-    (λ c κs. search needs)
-    (λ c. search needs)
-    (λ c. search needs)
-    byte-of-requires
-    add-t17
-    (λ c. search needs)
-    returns
-    (λ c. search needs)
-    (λ c. search needs)
-    byte-of-requires-2
-    add-t24
-    returns-2
-    returns-3
-    returns-4
+    (tie.spec (λ c κs. search needs) padding-clear-requires (λ c. search needs) sub-last (λ c. search needs)
+    (λ c κs. search needs) (λ c. search needs) (λ c. search needs) byte-of-requires add-t17 (λ c. search needs)
+    returns (λ c. search needs) (λ c. search needs) byte-of-requires-2 add-t24 returns-2 returns-3 returns-4
     returns-5)

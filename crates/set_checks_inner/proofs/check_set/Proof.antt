@@ -10,17 +10,8 @@ use Rattle.set_checks_inner.proofs.check_set.Tie as tie
 returns : tie.Need-returns
 returns c = inl (inl (refl, λ h. omega (arith, c .if1 .taken)))
 
-plan-numbers-requires : tie.Need-plan-numbers-requires
-plan-numbers-requires c κs = search needs
-
-enum-known-r : tie.Need-enum-known-r
-enum-known-r c = search needs
-
 enum-told : tie.Need-enum-told
 enum-told c = search needs
-
-check-distance-requires : tie.Need-check-distance-requires
-check-distance-requires c κs = search needs
 
 returns-2 : tie.Need-returns-2
 returns-2 c = inl (inr (omega (arith, c .before .before .before .before .if1 .left), rw (c .before .r .given .1) at (c .before .before .before .plan-numbers .ensures)))
@@ -31,11 +22,4 @@ returns-3 c = let a = c .before .before .before .before .before .args in let g =
 pub check-set-spec : {M : Type 1} → statement M
 check-set-spec =
     tie.close
-    (tie.spec
-    returns
-    plan-numbers-requires
-    enum-known-r
-    enum-told
-    check-distance-requires
-    returns-2
-    returns-3)
+    (tie.spec returns (λ c κs. search needs) (λ c. search needs) enum-told (λ c κs. search needs) returns-2 returns-3)

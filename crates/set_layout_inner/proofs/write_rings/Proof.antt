@@ -55,9 +55,6 @@ part-copy-end-2 : tie.Need-part-copy-end-2 Inv-loop μ-loop
 part-copy-end-2 c =
     omega (arith, c .before .before .before .before .before .pre, c .before .before .loop .inv .1, c .before .loop-test .taken, ring-room (c .before .before .before .before .before .args .n) (c .before .before .loop .j) (c .before .before .before .before .before .args .taken) (c .before .loop-test .taken))
 
-copy-requires : tie.Need-copy-requires Inv-loop μ-loop
-copy-requires c κs = search needs
-
 add-j : tie.Need-add-j Inv-loop μ-loop
 add-j c = omega (arith, c .before .before .before .before .before .loop-test .taken, c .before .before .before .before .before .before .before .before .before .pre)
 
@@ -77,4 +74,6 @@ returns c =
 
 pub write-rings-spec : {M : Type 1} → statement M
 write-rings-spec =
-    tie.close (tie.spec Inv-loop μ-loop loop-holds mul-from add-past mul-at add-end sub-copy part-copy-start part-copy-end sub-copy-2 part-copy-start-2 part-copy-end-2 copy-requires add-j loop-less loop-again same-length returns)
+    tie.close (tie.spec Inv-loop μ-loop loop-holds mul-from add-past mul-at add-end sub-copy part-copy-start
+    part-copy-end sub-copy-2 part-copy-start-2 part-copy-end-2 (λ c κs. search needs) add-j loop-less loop-again
+    same-length returns)

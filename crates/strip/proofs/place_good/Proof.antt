@@ -10,9 +10,6 @@ use Rattle.strip.proofs.Telling.{passed-listable}
 use Rattle.strip.proofs.place_good.Statement.{statement}
 use Rattle.strip.proofs.place_good.Tie as tie
 
-power-above-requires : tie.Need-power-above-requires
-power-above-requires c κs = search needs
-
 returns : tie.Need-returns
 returns c =
     let g = c .before .before .before in
@@ -48,11 +45,5 @@ returns-2 c =
 pub place-good-spec : {M : Type 1} → statement M
 place-good-spec =
     tie.close
-    (tie.spec
-    power-above-requires
-    returns
-    power-requires
-    array-borrow-prefix-sectors
-    slice-aggregate-place-on
-    place-on-requires
-    returns-2)
+    (tie.spec (λ c κs. search needs) returns power-requires array-borrow-prefix-sectors slice-aggregate-place-on
+    place-on-requires returns-2)

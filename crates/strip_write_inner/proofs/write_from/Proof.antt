@@ -27,12 +27,6 @@ add-at c = omega (arith, writing-room _ _ _ _ _ _ (c .before .before .before .be
 advance-requires : tie.Need-advance-requires Inv-loop μ-loop
 advance-requires c κs = c .before .before .before .before .before .before .loop .inv .0 .ready
 
-same-length : tie.Need-same-length Inv-loop μ-loop
-same-length c = search needs
-
-same-length-2 : tie.Need-same-length-2 Inv-loop μ-loop
-same-length-2 c = search needs
-
 returns : tie.Need-returns Inv-loop μ-loop
 returns c =
     let l = c .before .before .before .before .before .before .before .before .before .before .before .loop in
@@ -53,15 +47,5 @@ loop-again c =
 pub write-from-spec : {M : Type 1} → statement M
 write-from-spec =
     tie.close
-    (tie.spec
-    Inv-loop
-    μ-loop
-    loop-holds
-    lay-requires
-    add-at
-    advance-requires
-    same-length
-    same-length-2
-    returns
-    loop-less
-    loop-again)
+    (tie.spec Inv-loop μ-loop loop-holds lay-requires add-at advance-requires (λ c. search needs) (λ c. search needs)
+    returns loop-less loop-again)

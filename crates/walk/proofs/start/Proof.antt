@@ -14,11 +14,5 @@ returns c = (more-start (c .before .before .before .before .before .before .args
 pub start-spec : {M : Type 1} → statement M
 start-spec =
     tie.close
-    (tie.spec
-    (λ c κs. search needs)
-    (λ c. search needs)
-    (λ c κs. search needs)
-    (λ c. search needs)
-    start-good-requires
-    returns
-    (λ c. search needs))
+    (tie.spec (λ c κs. search needs) (λ c. search needs) (λ c κs. search needs) (λ c. search needs)
+    start-good-requires returns (λ c. search needs))

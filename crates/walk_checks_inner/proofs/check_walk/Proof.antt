@@ -8,12 +8,6 @@ use Rattle.walk_record_laws.proofs.Good.{on-record, off-class, off-counts}
 use Rattle.walk_checks_inner.proofs.check_walk.Statement.{statement}
 use Rattle.walk_checks_inner.proofs.check_walk.Tie as tie
 
-check-ring-requires : tie.Need-check-ring-requires
-check-ring-requires c κs = search needs
-
-enum-known-v : tie.Need-enum-known-v
-enum-known-v c = search needs
-
 enum-told : tie.Need-enum-told
 enum-told c = search needs
 
@@ -28,9 +22,6 @@ returns c =
 
 counts-of-requires : tie.Need-counts-of-requires
 counts-of-requires c κs = (rw (c .before .before .before .enum-told .given .1) at (c .before .before .before .before .before .check-ring .ensures)) .0 .0 .0 .0 .0 .0 .1
-
-same-counts-requires : tie.Need-same-counts-requires
-same-counts-requires c κs = search needs
 
 returns-2 : tie.Need-returns-2
 returns-2 c =
@@ -56,14 +47,5 @@ returns-4 c =
 pub check-walk-spec : {M : Type 1} → statement M
 check-walk-spec =
     tie.close
-    (tie.spec
-    check-ring-requires
-    enum-known-v
-    enum-told
-    on-walk-requires
-    returns
-    counts-of-requires
-    same-counts-requires
-    returns-2
-    returns-3
-    returns-4)
+    (tie.spec (λ c κs. search needs) (λ c. search needs) enum-told on-walk-requires returns counts-of-requires
+    (λ c κs. search needs) returns-2 returns-3 returns-4)

@@ -17,9 +17,6 @@ abbrev μ-loop : tie.MeasureT-loop
 loop-holds : tie.Need-loop-holds Inv-loop μ-loop
 loop-holds c = stands-start _ _ _ (c .before .pre)
 
-last-low-requires : tie.Need-last-low-requires Inv-loop μ-loop
-last-low-requires c κs = search needs
-
 same-length : tie.Need-same-length Inv-loop μ-loop
 same-length c = c .before .before .before .loop .inv .walked .long
 
@@ -92,17 +89,5 @@ loop-again c =
 pub advance-spec : {M : Type 1} → statement M
 advance-spec =
     tie.close
-    (tie.spec
-    Inv-loop
-    μ-loop
-    loop-holds
-    last-low-requires
-    same-length
-    returns
-    raise-requires
-    add-moves
-    of-kind-requires
-    same-length-2
-    returns-2
-    loop-less
-    loop-again)
+    (tie.spec Inv-loop μ-loop loop-holds (λ c κs. search needs) same-length returns raise-requires add-moves
+    of-kind-requires same-length-2 returns-2 loop-less loop-again)

@@ -5,18 +5,6 @@ use Rattle.walk_record_laws.proofs.Good.{start-off, start-on, start-is}
 use Rattle.walk_start_inner.proofs.start_good.Statement.{statement}
 use Rattle.walk_start_inner.proofs.start_good.Tie as tie
 
-class-of-requires : tie.Need-class-of-requires
-class-of-requires c κs = search needs
-
-is-loose-requires : tie.Need-is-loose-requires
-is-loose-requires c κs = search needs
-
-loose-place-requires : tie.Need-loose-place-requires
-loose-place-requires c κs = search needs
-
-empty-requires : tie.Need-empty-requires
-empty-requires c κs = search needs
-
 returns : tie.Need-returns
 returns c =
     let a = c .before .before .before .before .before .before .args in
@@ -39,12 +27,5 @@ returns-2 c =
 pub start-good-spec : {M : Type 1} → statement M
 start-good-spec =
     tie.close
-    (tie.spec
-    class-of-requires
-    is-loose-requires
-    loose-place-requires
-    empty-requires
-    returns
-    lay-out-requires
-    counts-of-requires
-    returns-2)
+    (tie.spec (λ c κs. search needs) (λ c κs. search needs) (λ c κs. search needs) (λ c κs. search needs) returns
+    lay-out-requires counts-of-requires returns-2)
