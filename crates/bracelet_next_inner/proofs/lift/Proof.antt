@@ -18,7 +18,9 @@ loop-holds : tie.Need-loop-holds Inv-loop μ-loop
 loop-holds c = let g = c .before in lifting-start (g .args .k) (g .args .s .now) (g .pre)
 
 loop-again : tie.Need-loop-again Inv-loop μ-loop
-loop-again c = let g = c .before .before .before .before .before in let a = g .args in let l = c .before .before .before .loop in lifting-full (a .k) (a .s .now) (g .pre) (l .s) (l .i) (l .i - 1) (a .k - 1) (l .inv) (omega arith) refl (c .if1 .taken)
+loop-again c =
+    let g = c .before .before .before .before .before in let a = g .args in let l = c .before .before .before .loop in
+    lifting-full (a .k) (a .s .now) (g .pre) (l .s) (l .i) (l .i - 1) (a .k - 1) (l .inv) (omega arith) refl (c .if1 .taken)
 
 is-bracelet-requires : tie.Need-is-bracelet-requires Inv-loop μ-loop
 is-bracelet-requires c κs = simp length-set (omega (arith, c .before .before .before .before .loop .inv .long, c .before .before .before .before .before .before .pre .pos))
@@ -44,7 +46,8 @@ settle-requires c κs =
     let l = c .before .before .before .before .before .before .before .loop in
     let is = sym (c .before .before .is-bracelet .ensures) ∙ c .before .if2 .taken in
     let up = c .before .before .before .before .if1 .left in
-    lifting-settles (a .k) (a .s .now) (g .pre) (l .s) (l .i) (l .i - 1) (a .k - 1) (l .inv) (omega arith) refl is up _ (omega (arith, lifting-below (a .k) (a .s .now) (g .pre) (l .s) (l .i) (l .i - 1) (a .k - 1) (l .inv) (omega arith) refl is up))
+    lifting-settles (a .k) (a .s .now) (g .pre) (l .s) (l .i) (l .i - 1) (a .k - 1) (l .inv) (omega arith) refl is up _
+    (omega (arith, lifting-below (a .k) (a .s .now) (g .pre) (l .s) (l .i) (l .i - 1) (a .k - 1) (l .inv) (omega arith) refl is up))
 
 same-length : tie.Need-same-length Inv-loop μ-loop
 same-length c =
@@ -58,10 +61,16 @@ returns c =
     let g = c .before .before .before .before .before .before .before .before .before .before .before .before in
     let a = g .args in
     let l = c .before .before .before .before .before .before .before .before .before .before .loop in
-    lifting-found (a .k) (a .s .now) (g .pre) (l .s) (l .i) (l .i - 1) (a .k - 1) (l .inv) (omega arith) refl (sym (c .before .before .before .before .before .is-bracelet .ensures) ∙ c .before .before .before .before .if2 .taken) (c .before .before .before .before .before .before .before .if1 .left) _ (omega arith) (omega arith) _ (c .before .before .settle .ensures)
+    lifting-found (a .k) (a .s .now) (g .pre) (l .s) (l .i) (l .i - 1) (a .k - 1) (l .inv) (omega arith) refl
+    (sym (c .before .before .before .before .before .is-bracelet .ensures) ∙ c .before .before .before .before .if2 .taken)
+    (c .before .before .before .before .before .before .before .if1 .left) _ (omega arith) (omega arith) _ (c .before .before .settle .ensures)
 
 loop-again-2 : tie.Need-loop-again-2 Inv-loop μ-loop
-loop-again-2 c = let g = c .before .before .before .before .before .before .before .before in let a = g .args in let l = c .before .before .before .before .before .before .loop in lifting-stuck (a .k) (a .s .now) (g .pre) (l .s) (l .i) (l .i - 1) (a .k - 1) (l .inv) (omega arith) refl (sym (c .before .is-bracelet .ensures) ∙ c .if2 .left)
+loop-again-2 c =
+    let g = c .before .before .before .before .before .before .before .before in let a = g .args in
+    let l = c .before .before .before .before .before .before .loop in
+    lifting-stuck (a .k) (a .s .now) (g .pre) (l .s) (l .i) (l .i - 1) (a .k - 1) (l .inv) (omega arith) refl
+    (sym (c .before .is-bracelet .ensures) ∙ c .if2 .left)
 
 returns-2 : tie.Need-returns-2 Inv-loop μ-loop
 returns-2 c = let g = c .before .before .before in let a = g .args in let l = c .before .loop in lifting-none (a .k) (a .s .now) (g .pre) (l .s) (l .i) (l .inv) (c .loop-test .left)

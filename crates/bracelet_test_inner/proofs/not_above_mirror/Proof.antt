@@ -36,21 +36,25 @@ returns-2 c =
     let l = c .before .before .before .before .before .before .loop in
     let r = c .before .before .before .around in
     sym
-    (facing-above (g .args .s .now) (g .pre .0) (g .pre .1) (l .i) (l .j) (l .inv) (c .before .before .before .before .before .loop-test .taken) (omega (arith, l .inv .fits, c .before .before .before .before .if1 .left)) (r .result) (r .ensures) (c .if2 .taken))
+    (facing-above (g .args .s .now) (g .pre .0) (g .pre .1) (l .i) (l .j) (l .inv) (c .before .before .before .before .before .loop-test .taken)
+    (omega (arith, l .inv .fits, c .before .before .before .before .if1 .left)) (r .result) (r .ensures) (c .if2 .taken))
 
 loop-again : tie.Need-loop-again Inv-loop μ-loop
 loop-again c =
     let g = c .before .before .before .before .before .before .before .before .before in
     let l = c .before .before .before .before .before .before .before .loop in
     let r = c .before .before .before .before .around in
-    facing-more (g .args .s .now) (g .pre .0) (g .pre .1) (l .i) (l .j) (l .inv) (c .before .before .before .before .before .before .loop-test .taken) (omega (arith, l .inv .fits, c .before .before .before .before .before .if1 .left)) (r .result) (r .ensures) (c .if3 .taken)
+    facing-more (g .args .s .now) (g .pre .0) (g .pre .1) (l .i) (l .j) (l .inv) (c .before .before .before .before .before .before .loop-test .taken)
+    (omega (arith, l .inv .fits, c .before .before .before .before .before .if1 .left)) (r .result) (r .ensures) (c .if3 .taken)
 
 loop-again-2 : tie.Need-loop-again-2 Inv-loop μ-loop
 loop-again-2 c =
     let g = c .before .before .before .before .before .before .before .before .before in
     let l = c .before .before .before .before .before .before .before .loop in
     let r = c .before .before .before .before .around in
-    facing-skip (g .args .s .now) (g .pre .0) (g .pre .1) (l .i) (l .j) (l .inv) (c .before .before .before .before .before .before .loop-test .taken) (omega (arith, l .inv .fits, c .before .before .before .before .before .if1 .left)) (r .result) (r .ensures) (omega (arith, c .before .if2 .left, c .if3 .left))
+    facing-skip (g .args .s .now) (g .pre .0) (g .pre .1) (l .i) (l .j) (l .inv) (c .before .before .before .before .before .before .loop-test .taken)
+    (omega (arith, l .inv .fits, c .before .before .before .before .before .if1 .left)) (r .result) (r .ensures)
+    (omega (arith, c .before .if2 .left, c .if3 .left))
 
 returns-3 : tie.Need-returns-3 Inv-loop μ-loop
 returns-3 c =

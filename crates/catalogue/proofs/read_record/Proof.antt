@@ -14,7 +14,10 @@ returns-2 : tie.Need-returns-2
 returns-2 c = (inl (inr (search needs, (refl, λ h. omega (arith, c .if2 .taken)))), refl)
 
 returns-4 : tie.Need-returns-4
-returns-4 c = let a = c .before .before .before .before .before .before .before .before .before .before .args in record-read (a .catalogue .now) (a .start) (a .out .now) (c .before .before .read-head .result) _ (search needs) (search needs) (c .before .before .read-head .ensures)
+returns-4 c =
+    let a = c .before .before .before .before .before .before .before .before .before .before .args in
+    record-read (a .catalogue .now) (a .start) (a .out .now) (c .before .before .read-head .result) _ (search needs) (search needs)
+    (c .before .before .read-head .ensures)
 
 pub read-record-spec : {M : Type 1} → statement M
 read-record-spec =

@@ -27,7 +27,10 @@ sub-t11 : tie.Need-sub-t11 Inv-loop μ-loop
 sub-t11 c = omega (arith, c .before .before .before .before .loop .inv .1 .short)
 
 returns : tie.Need-returns Inv-loop μ-loop
-returns c = let l = c .before .before .before .before .loop in scan-breaks (c .before .before .before .before .before .args .s .now) (l .i) (l .j) (l .inv .1) (c .before .before .before .loop-test .taken) (c .if1 .taken)
+returns c =
+    let l = c .before .before .before .before .loop in
+    scan-breaks (c .before .before .before .before .before .args .s .now) (l .i) (l .j) (l .inv .1) (c .before .before .before .loop-test .taken)
+    (c .if1 .taken)
 
 add-j : tie.Need-add-j Inv-loop μ-loop
 add-j c = omega (arith, c .before .before .before .before .before .loop .inv .1 .short)

@@ -6,7 +6,12 @@ use Rattle.converter_sides_inner.proofs.turn_there.Statement.{statement
 use Rattle.converter_sides_inner.proofs.turn_there.Tie as tie
 
 returns : tie.Need-returns
-returns c = let a = c .before .before .before .before .before .before .before .before .before .before .before .before .before .args in turned-there (a .i) _ (a .a .now) _ _ _ (c .before .before .before .before .before .before .before .before .before .before .before .before .before .pre) refl (c .before .before .before .before .before .before .before .before .before .before .reverse .ensures) (c .before .before .before .before .before .before .reverse2 .ensures) (c .before .before .reverse3 .ensures)
+returns c =
+    let a = c .before .before .before .before .before .before .before .before .before .before .before .before .before .args in
+    turned-there (a .i) _ (a .a .now) _ _ _
+    (c .before .before .before .before .before .before .before .before .before .before .before .before .before .pre) refl
+    (c .before .before .before .before .before .before .before .before .before .before .reverse .ensures)
+    (c .before .before .before .before .before .before .reverse2 .ensures) (c .before .before .reverse3 .ensures)
 
 pub turn-there-spec : {M : Type 1} → statement M
 turn-there-spec =

@@ -8,22 +8,55 @@ use Rattle.converter_turn_inner.proofs.put_front.Statement.{statement}
 use Rattle.converter_turn_inner.proofs.put_front.Tie as tie
 
 returns : tie.Need-returns
-returns c = let a = c .before .before .before .before .before .before .before .before .args in passed-on (a .part .now) (a .out .now) _ (c .before .before .before .before .before .before .before .before .pre .0) (c .before .before .before .before .before .before .before .before .pre .1) (c .before .before .before .before .copy .ensures .1) (c .if1 .taken)
+returns c =
+    let a = c .before .before .before .before .before .before .before .before .args in
+    passed-on (a .part .now) (a .out .now) _ (c .before .before .before .before .before .before .before .before .pre .0)
+    (c .before .before .before .before .before .before .before .before .pre .1) (c .before .before .before .before .copy .ensures .1) (c .if1 .taken)
 
 sub-turn-over-2 : tie.Need-sub-turn-over-2
-sub-turn-over-2 c = simp length-set (omega (arith, c .before .before .before .before .before .before .before .before .before .pre .0, c .before .before .before .before .before .before .before .before .before .pre .1, c .before .before .before .before .out .given))
+sub-turn-over-2 c =
+    simp length-set (omega (
+      arith,
+      c .before .before .before .before .before .before .before .before .before .pre .0,
+      c .before .before .before .before .before .before .before .before .before .pre .1,
+      c .before .before .before .before .out .given,
+    ))
 
 part-turn-over-start-2 : tie.Need-part-turn-over-start-2
-part-turn-over-start-2 c = simp length-set (omega (arith, c .before .before .before .before .before .before .before .before .before .pre .0, c .before .before .before .before .before .before .before .before .before .pre .1, c .before .before .before .before .out .given))
+part-turn-over-start-2 c =
+    simp length-set (omega (
+      arith,
+      c .before .before .before .before .before .before .before .before .before .pre .0,
+      c .before .before .before .before .before .before .before .before .before .pre .1,
+      c .before .before .before .before .out .given,
+    ))
 
 turn-over-requires : tie.Need-turn-over-requires
-turn-over-requires c κs = simp (length-take, length-drop, length-set) (omega (arith, c .before .before .before .before .before .before .before .before .before .before .pre .0, c .before .before .before .before .before .before .before .before .before .before .pre .1, c .before .before .before .before .before .out .given))
+turn-over-requires c κs =
+    simp (length-take, length-drop, length-set)
+    (omega (
+      arith,
+      c .before .before .before .before .before .before .before .before .before .before .pre .0,
+      c .before .before .before .before .before .before .before .before .before .before .pre .1,
+      c .before .before .before .before .before .out .given,
+    ))
 
 same-length-2 : tie.Need-same-length-2
-same-length-2 c = let a = c .before .before .before .before .before .before .before .before .before .before .before .before .before .args in kept (a .part .now) (a .out .now) _ _ _ (c .before .before .before .before .before .before .before .before .before .before .before .before .before .pre .0) (c .before .before .before .before .before .before .before .before .before .before .before .before .before .pre .1) (c .before .before .before .before .before .before .before .before .before .copy .ensures .1) (c .before .before .turn-over .ensures)
+same-length-2 c =
+    let a = c .before .before .before .before .before .before .before .before .before .before .before .before .before .args in
+    kept (a .part .now) (a .out .now) _ _ _
+    (c .before .before .before .before .before .before .before .before .before .before .before .before .before .pre .0)
+    (c .before .before .before .before .before .before .before .before .before .before .before .before .before .pre .1)
+    (c .before .before .before .before .before .before .before .before .before .copy .ensures .1) (c .before .before .turn-over .ensures)
 
 returns-2 : tie.Need-returns-2
-returns-2 c = let a = c .before .before .before .before .before .before .before .before .before .before .before .before .before .args in turned-over (a .part .now) (a .out .now) _ _ _ (c .before .before .before .before .before .before .before .before .before .before .before .before .before .pre .0) (c .before .before .before .before .before .before .before .before .before .before .before .before .before .pre .1) (c .before .before .before .before .before .before .before .before .before .copy .ensures .1) (c .before .before .before .before .before .if1 .left) (c .before .before .turn-over .ensures) refl
+returns-2 c =
+    let a = c .before .before .before .before .before .before .before .before .before .before .before .before .before .args in
+    turned-over (a .part .now) (a .out .now) _ _ _
+    (c .before .before .before .before .before .before .before .before .before .before .before .before .before .pre .0)
+    (c .before .before .before .before .before .before .before .before .before .before .before .before .before .pre .1)
+    (c .before .before .before .before .before .before .before .before .before .copy .ensures .1)
+    (c .before .before .before .before .before .if1 .left) (c .before .before .turn-over .ensures) refl
 
 pub put-front-spec : {M : Type 1} → statement M
 put-front-spec =

@@ -40,7 +40,8 @@ write-shades-requires c κs = let s = c .before .before .first-unreadable .ensur
 
 returns-8 : tie.Need-returns-8
 returns-8 c =
-    let good : _ ≡ true = sym (c .before .before .before .before .before .before .before .before .is-good .ensures) ∙ not-false _ (c .before .before .before .before .before .before .before .if5 .left) in
+    let good : _ ≡ true = sym (c .before .before .before .before .before .before .before .before .is-good .ensures) ∙ not-false _
+    (c .before .before .before .before .before .before .before .if5 .left) in
     let s = c .before .before .before .before .before .first-unreadable .ensures in
     (((((omega arith, omega arith), ((omega arith, omega arith), good)), omega arith), (λ i h. s .before i (omega arith))), c .before .before .write-shades .ensures)
 

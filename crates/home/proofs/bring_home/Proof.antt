@@ -12,10 +12,15 @@ enum-told : tie.Need-enum-told
 enum-told c = search needs
 
 least-shift-requires : tie.Need-least-shift-requires
-least-shift-requires c κs = let a = c .before .before .before .before .before .args in passed-pos (askRoom (a .s .now) (a .k) (length (a .out .now))) (rw (c .enum-told .given .1) at (c .before .before .check-room .ensures))
+least-shift-requires c κs =
+    let a = c .before .before .before .before .before .args in
+    passed-pos (askRoom (a .s .now) (a .k) (length (a .out .now))) (rw (c .enum-told .given .1) at (c .before .before .check-room .ensures))
 
 period-of-requires : tie.Need-period-of-requires
-period-of-requires c κs = let a = c .before .before .before .before .before .before .args in passed-pos (askRoom (a .s .now) (a .k) (length (a .out .now))) (rw (c .before .enum-told .given .1) at (c .before .before .before .check-room .ensures))
+period-of-requires c κs =
+    let a = c .before .before .before .before .before .before .args in
+    passed-pos (askRoom (a .s .now) (a .k) (length (a .out .now))) (rw (c .before .enum-told .given .1) at
+    (c .before .before .before .check-room .ensures))
 
 write-turn-requires : tie.Need-write-turn-requires
 write-turn-requires c κs =

@@ -50,7 +50,8 @@ turns-again c =
     let r = c .before .before .before .around in (
       omega (arith, l .inv .0),
       o .inv .1,
-      unmirrored-more w (l .t) (rw (l .inv .0) (o .inv .2)) (mirrors-no w (l .t) (l .m) (r .result) (omega (arith, l .inv .0)) (c .before .before .before .before .loop-test .taken) (r .ensures) (c .if1 .taken)),
+      unmirrored-more w (l .t) (rw (l .inv .0) (o .inv .2)) (mirrors-no w (l .t) (l .m) (r .result) (omega (arith, l .inv .0))
+          (c .before .before .before .before .loop-test .taken) (r .ensures) (c .if1 .taken)),
     )
 
 loop-again : tie.Need-loop-again Inv-loop μ-loop Inv-turns μ-turns

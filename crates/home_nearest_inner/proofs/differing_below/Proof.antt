@@ -33,8 +33,12 @@ loop-again c =
     let v = turn (a .i) (a .a .now) in
     let w = a .b .now in (
       ⊎-elim
-          (λ e. rw (e .1) (differing-one v w (length (a .a .now)) (l .m) (c .before .before .sector .result) (getD w (l .m) 0) (length-turn (a .i) (a .a .now) (p .1)) (sym (p .0)) (c .before .before .before .before .loop-test .taken) (c .before .before .sector .ensures) refl (l .d) (l .inv .0) (e .0 .taken)))
-          (λ e. rw (e .1) (differing-on v w (length (a .a .now)) (l .m) (c .before .before .sector .result) (getD w (l .m) 0) (length-turn (a .i) (a .a .now) (p .1)) (sym (p .0)) (c .before .before .before .before .loop-test .taken) (c .before .before .sector .ensures) refl (l .d) (l .inv .0) (e .0 .left)))
+          (λ e. rw (e .1) (differing-one v w (length (a .a .now)) (l .m) (c .before .before .sector .result) (getD w (l .m) 0)
+          (length-turn (a .i) (a .a .now) (p .1)) (sym (p .0)) (c .before .before .before .before .loop-test .taken)
+          (c .before .before .sector .ensures) refl (l .d) (l .inv .0) (e .0 .taken)))
+          (λ e. rw (e .1) (differing-on v w (length (a .a .now)) (l .m) (c .before .before .sector .result) (getD w (l .m) 0)
+          (length-turn (a .i) (a .a .now) (p .1)) (sym (p .0)) (c .before .before .before .before .loop-test .taken)
+          (c .before .before .sector .ensures) refl (l .d) (l .inv .0) (e .0 .left)))
           (c .if2 .came),
       omega arith,
       ⊎-elim (λ e. omega arith) (λ e. omega arith) (c .if2 .came),

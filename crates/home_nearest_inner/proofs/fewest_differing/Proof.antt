@@ -21,7 +21,9 @@ returns : tie.Need-returns Inv-loop μ-loop
 returns c =
     let a = c .before .before .before .before .before .before .args in
     let l = c .before .before .before .loop in
-    nearest-none (a .a .now) (a .b .now) (l .i + 1) (c .before .differing-below .result) (nearest-more (a .a .now) (a .b .now) (l .i) (l .best) (c .before .differing-below .result) (l .inv .0) (c .before .before .loop-test .taken) (c .before .differing-below .ensures)) (c .if1 .taken)
+    nearest-none (a .a .now) (a .b .now) (l .i + 1) (c .before .differing-below .result)
+    (nearest-more (a .a .now) (a .b .now) (l .i) (l .best) (c .before .differing-below .result) (l .inv .0) (c .before .before .loop-test .taken)
+    (c .before .differing-below .ensures)) (c .if1 .taken)
 
 loop-again : tie.Need-loop-again Inv-loop μ-loop
 loop-again c =

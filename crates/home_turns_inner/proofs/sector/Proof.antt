@@ -9,7 +9,10 @@ shared-slice-read-result : tie.Need-shared-slice-read-result
 shared-slice-read-result c = omega (arith, c .before .around .ensures .inside)
 
 returns : tie.Need-returns
-returns c = let a = c .before .before .before .args in sector-around (a .s .now) (a .i) (a .m) (c .before .around .result) (c .before .before .before .pre .0) (c .before .before .before .pre .1) (c .before .around .ensures)
+returns c =
+    let a = c .before .before .before .args in
+    sector-around (a .s .now) (a .i) (a .m) (c .before .around .result) (c .before .before .before .pre .0) (c .before .before .before .pre .1)
+    (c .before .around .ensures)
 
 pub sector-spec : {M : Type 1} → statement M
 sector-spec = tie.close (tie.spec (λ c κs. search needs) shared-slice-read-result returns)

@@ -24,7 +24,13 @@ add-x : tie.Need-add-x Inv-loop μ-loop
 add-x c = omega (arith, c .prime-divisor .ensures .1)
 
 loop-again : tie.Need-loop-again Inv-loop μ-loop
-loop-again c = let a = c .before .before .before .args in (omega arith, sum-on (λ j. bit (prime j && divides j (a .m))) (c .before .before .loop .x) (c .before .before .loop .i) (c .prime-divisor .result) (c .before .before .loop .inv .1) (c .prime-divisor .ensures .0), omega (arith, c .prime-divisor .ensures .1))
+loop-again c =
+    let a = c .before .before .before .args in (
+      omega arith,
+      sum-on (λ j. bit (prime j && divides j (a .m))) (c .before .before .loop .x) (c .before .before .loop .i) (c .prime-divisor .result)
+          (c .before .before .loop .inv .1) (c .prime-divisor .ensures .0),
+      omega (arith, c .prime-divisor .ensures .1),
+    )
 
 returns : tie.Need-returns Inv-loop μ-loop
 unfolding primesOf

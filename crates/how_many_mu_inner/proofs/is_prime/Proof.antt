@@ -26,7 +26,9 @@ returns-2 : tie.Need-returns-2 Inv-loop μ-loop
 returns-2 c = prime-no (c .before .before .before .before .args .p) (c .before .before .loop .d) (omega arith) (c .before .loop-test .taken) (c .if2 .taken)
 
 loop-again : tie.Need-loop-again Inv-loop μ-loop
-loop-again c = let p = c .before .before .before .before .args .p in let d = c .before .before .loop .d in (omega arith, omega arith, trial-on (λ j. eqb (p % j) 0) d (c .before .before .loop .inv .2) (ne-eqb (p % d) 0 (c .if2 .left)))
+loop-again c =
+    let p = c .before .before .before .before .args .p in let d = c .before .before .loop .d in
+    (omega arith, omega arith, trial-on (λ j. eqb (p % j) 0) d (c .before .before .loop .inv .2) (ne-eqb (p % d) 0 (c .if2 .left)))
 
 returns-3 : tie.Need-returns-3 Inv-loop μ-loop
 returns-3 c = prime-yes (c .before .before .before .args .p) (c .before .loop .d) (c .before .before .if1 .left) (c .before .loop .inv .1) (c .loop-test .left) (c .before .loop .inv .2)

@@ -29,7 +29,9 @@ returns : tie.Need-returns Inv-loop μ-loop
 returns c = square-no (c .before .before .before .args .m) (c .before .before .loop .d) (omega arith) (c .before .loop-test .taken) (c .if1 .taken)
 
 loop-again : tie.Need-loop-again Inv-loop μ-loop
-loop-again c = let m = c .before .before .before .args .m in let d = c .before .before .loop .d in (omega arith, omega arith, trial-on (λ j. eqb (m % (j * j)) 0) d (c .before .before .loop .inv .2) (ne-eqb (m % (d * d)) 0 (c .if1 .left)))
+loop-again c =
+    let m = c .before .before .before .args .m in let d = c .before .before .loop .d in
+    (omega arith, omega arith, trial-on (λ j. eqb (m % (j * j)) 0) d (c .before .before .loop .inv .2) (ne-eqb (m % (d * d)) 0 (c .if1 .left)))
 
 returns-2 : tie.Need-returns-2 Inv-loop μ-loop
 returns-2 c = square-yes (c .before .before .args .m) (c .before .loop .d) (c .loop-test .left) (c .before .loop .inv .1) (c .before .loop .inv .2)

@@ -12,11 +12,17 @@ use Rattle.how_many_mu_inner.proofs.prime_divisor.Statement.{statement}
 use Rattle.how_many_mu_inner.proofs.prime_divisor.Tie as tie
 
 returns : tie.Need-returns
-returns c = let a = c .before .before .args in bit-zero (prime (a .p) && divides (a .p) (a .m)) (not-left (prime (a .p)) (divides (a .p) (a .m)) (sym (c .before .is-prime .ensures) ∙ not-true _ (c .if1 .taken)))
+returns c =
+    let a = c .before .before .args in
+    bit-zero (prime (a .p) && divides (a .p) (a .m)) (not-left (prime (a .p)) (divides (a .p) (a .m))
+    (sym (c .before .is-prime .ensures) ∙ not-true _ (c .if1 .taken)))
 
 returns-2 : tie.Need-returns-2
 unfolding divides
-returns-2 c = let a = c .before .before .before .args in bit-one (prime (a .p) && divides (a .p) (a .m)) (both (prime (a .p)) (divides (a .p) (a .m)) (sym (c .before .before .is-prime .ensures) ∙ not-false _ (c .before .if1 .left)) (eq-eqb (a .m % a .p) 0 (c .if2 .taken)))
+returns-2 c =
+    let a = c .before .before .before .args in
+    bit-one (prime (a .p) && divides (a .p) (a .m)) (both (prime (a .p)) (divides (a .p) (a .m))
+    (sym (c .before .before .is-prime .ensures) ∙ not-false _ (c .before .if1 .left)) (eq-eqb (a .m % a .p) 0 (c .if2 .taken)))
 
 returns-3 : tie.Need-returns-3
 unfolding divides

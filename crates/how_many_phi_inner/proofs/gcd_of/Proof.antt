@@ -18,10 +18,16 @@ loop-holds : tie.Need-loop-holds Inv-loop μ-loop
 loop-holds c = gcd-start (c .args .a) (c .args .b)
 
 returns : tie.Need-returns Inv-loop μ-loop
-returns c = let a = c .before .before .before .before .args in gcd-found (a .a) (a .b) (c .before .before .before .loop .g) (c .before .before .before .loop .inv) (c .before .before .loop-test .taken) (sym (c .if1 .taken) ∙ c .before .divides-both .ensures)
+returns c =
+    let a = c .before .before .before .before .args in
+    gcd-found (a .a) (a .b) (c .before .before .before .loop .g) (c .before .before .before .loop .inv) (c .before .before .loop-test .taken)
+    (sym (c .if1 .taken) ∙ c .before .divides-both .ensures)
 
 loop-again : tie.Need-loop-again Inv-loop μ-loop
-loop-again c = let a = c .before .before .before .before .args in gcd-on (a .a) (a .b) (c .before .before .before .loop .g) (c .before .before .before .loop .inv) (c .before .before .loop-test .taken) (sym (c .if1 .left) ∙ c .before .divides-both .ensures)
+loop-again c =
+    let a = c .before .before .before .before .args in
+    gcd-on (a .a) (a .b) (c .before .before .before .loop .g) (c .before .before .before .loop .inv) (c .before .before .loop-test .taken)
+    (sym (c .if1 .left) ∙ c .before .divides-both .ensures)
 
 returns-2 : tie.Need-returns-2 Inv-loop μ-loop
 returns-2 c = gcd-end (c .before .before .args .a) (c .before .before .args .b) (c .before .loop .g) (c .before .loop .inv) (c .loop-test .left)

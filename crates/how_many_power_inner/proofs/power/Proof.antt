@@ -18,10 +18,16 @@ loop-holds : tie.Need-loop-holds Inv-loop μ-loop
 loop-holds c = (omega arith, sym (pow-zero (c .args .k)))
 
 mul-p : tie.Need-mul-p Inv-loop μ-loop
-mul-p c = let a = c .before .before .args in let s = power-step (a .k) (a .e) 4294967296 (c .before .loop .i) (c .before .loop .p) (c .before .before .pre .0) (c .before .before .pre .1) (c .loop-test .taken) (c .before .loop .inv .1) in omega (arith, s .1)
+mul-p c =
+    let a = c .before .before .args in
+    let s = power-step (a .k) (a .e) 4294967296 (c .before .loop .i) (c .before .loop .p) (c .before .before .pre .0) (c .before .before .pre .1)
+    (c .loop-test .taken) (c .before .loop .inv .1) in omega (arith, s .1)
 
 loop-again : tie.Need-loop-again Inv-loop μ-loop
-loop-again c = let a = c .before .before .args in let s = power-step (a .k) (a .e) 4294967296 (c .before .loop .i) (c .before .loop .p) (c .before .before .pre .0) (c .before .before .pre .1) (c .loop-test .taken) (c .before .loop .inv .1) in (omega arith, s .0)
+loop-again c =
+    let a = c .before .before .args in
+    let s = power-step (a .k) (a .e) 4294967296 (c .before .loop .i) (c .before .loop .p) (c .before .before .pre .0) (c .before .before .pre .1)
+    (c .loop-test .taken) (c .before .loop .inv .1) in (omega arith, s .0)
 
 returns : tie.Need-returns Inv-loop μ-loop
 returns c = let e : c .before .loop .i ≡ c .before .before .args .e = omega arith in c .before .loop .inv .1 ∙ ap (λ x. c .before .before .args .k ^ x) e

@@ -14,7 +14,8 @@ returns : tie.Need-returns
 returns c =
     let a = c .before .before .before .args in
     c .part .ensures
-    ∙ lyndon-are (a .k) (a .n) (c .before .before .before .pre) (c .before .before .over-divisors .result) (c .before .over-divisors2 .result) (c .before .before .over-divisors .ensures) (c .before .over-divisors2 .ensures)
+    ∙ lyndon-are (a .k) (a .n) (c .before .before .before .pre) (c .before .before .over-divisors .result) (c .before .over-divisors2 .result)
+    (c .before .before .over-divisors .ensures) (c .before .over-divisors2 .ensures)
 
 pub lyndon-of-spec : {M : Type 1} → statement M
 lyndon-of-spec = tie.close (tie.spec (λ c κs. search needs) (λ c κs. search needs) sub-part (λ c κs. search needs)

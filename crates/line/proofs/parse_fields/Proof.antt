@@ -19,19 +19,36 @@ enum-told : tie.Need-enum-told
 enum-told c = search needs
 
 returns-2 : tie.Need-returns-2
-returns-2 c = λ k n hk hn e. let f = fields-at k n (c .before .before .before .before .before .before .before .args .s .now) (c .before .before .before .before .before .first-space .result) e (c .before .before .before .before .before .first-space .ensures) in (rw (c .enum-told .given .1) at (c .before .before .parse-number .ensures)) k hk (f .1)
+returns-2 c =
+    λ k n hk hn e. let f = fields-at k n (c .before .before .before .before .before .before .before .args .s .now)
+    (c .before .before .before .before .before .first-space .result) e (c .before .before .before .before .before .first-space .ensures) in
+    (rw (c .enum-told .given .1) at (c .before .before .parse-number .ensures)) k hk (f .1)
 
 returns-3 : tie.Need-returns-3
 returns-3 c =
     λ k n hk hn e.
-    let f = fields-at k n (c .before .before .before .before .before .before .before .before .before .before .before .before .args .s .now) (c .before .before .before .before .before .before .before .before .before .before .first-space .result) e (c .before .before .before .before .before .before .before .before .before .before .first-space .ensures) in
-    (rw (c .enum-told2 .given .1) at (c .before .before .parse-number2 .ensures)) n hn (take-all (length (c .before .before .before .before .before .before .before .before .before .before .before .before .args .s .now) - ((c .before .before .before .before .before .before .before .before .before .before .first-space .result) + 1)) (drop ((c .before .before .before .before .before .before .before .before .before .before .first-space .result) + 1) (c .before .before .before .before .before .before .before .before .before .before .before .before .args .s .now)) (simp length-drop (omega arith)) ∙ f .2)
+    let f = fields-at k n (c .before .before .before .before .before .before .before .before .before .before .before .before .args .s .now)
+    (c .before .before .before .before .before .before .before .before .before .before .first-space .result) e
+    (c .before .before .before .before .before .before .before .before .before .before .first-space .ensures) in
+    (rw (c .enum-told2 .given .1) at (c .before .before .parse-number2 .ensures)) n hn
+    (take-all (length (c .before .before .before .before .before .before .before .before .before .before .before .before .args .s .now) -
+    ((c .before .before .before .before .before .before .before .before .before .before .first-space .result) + 1))
+    (drop ((c .before .before .before .before .before .before .before .before .before .before .first-space .result) + 1)
+    (c .before .before .before .before .before .before .before .before .before .before .before .before .args .s .now))
+    (simp length-drop (omega arith)) ∙ f .2)
 
 returns-4 : tie.Need-returns-4
 returns-4 c =
     let p = rw (c .before .before .before .before .before .before .k .given .1) at (c .before .before .before .before .before .before .before .before .parse-number .ensures) in
-    let q = rw (c .before .n .given .1) at (c .before .before .before .parse-number2 .ensures) in
-    (p .0, q .0, fields-join (c .before .before .before .before .before .before .before .before .before .before .before .before .before .args .s .now) (c .before .before .before .before .before .before .before .before .before .before .before .first-space .result) _ _ (c .before .before .before .before .before .before .before .before .before .before .before .first-space .ensures) (c .before .before .before .before .before .before .before .before .before .before .if1 .left) (p .1) (sym (take-all (length (c .before .before .before .before .before .before .before .before .before .before .before .before .before .args .s .now) - ((c .before .before .before .before .before .before .before .before .before .before .before .first-space .result) + 1)) (drop ((c .before .before .before .before .before .before .before .before .before .before .before .first-space .result) + 1) (c .before .before .before .before .before .before .before .before .before .before .before .before .before .args .s .now)) (simp length-drop (omega arith))) ∙ q .1))
+    let q = rw (c .before .n .given .1) at (c .before .before .before .parse-number2 .ensures) in (
+      p .0,
+      q .0,
+      fields-join (c .before .before .before .before .before .before .before .before .before .before .before .before .before .args .s .now)
+          (c .before .before .before .before .before .before .before .before .before .before .before .first-space .result) _ _
+          (c .before .before .before .before .before .before .before .before .before .before .before .first-space .ensures)
+          (c .before .before .before .before .before .before .before .before .before .before .if1 .left) (p .1)
+          (sym (take-all (length (c .before .before .before .before .before .before .before .before .before .before .before .before .before .args .s .now) - ((c .before .before .before .before .before .before .before .before .before .before .before .first-space .result) + 1)) (drop ((c .before .before .before .before .before .before .before .before .before .before .before .first-space .result) + 1) (c .before .before .before .before .before .before .before .before .before .before .before .before .before .args .s .now)) (simp length-drop (omega arith))) ∙ q .1),
+    )
 
 pub parse-fields-spec : {M : Type 1} → statement M
 parse-fields-spec =

@@ -13,7 +13,9 @@ slice-aggregate-parse-fields : tie.Need-slice-aggregate-parse-fields
 slice-aggregate-parse-fields c = simp length-take (omega arith)
 
 returns-2 : tie.Need-returns-2
-returns-2 c = ended-says (c .before .before .before .before .before .before .args .s .now) (c .parse-fields .result) (c .before .before .before .before .if1 .left) (c .before .before .if2 .taken) (c .parse-fields .ensures)
+returns-2 c =
+    ended-says (c .before .before .before .before .before .before .args .s .now) (c .parse-fields .result)
+    (c .before .before .before .before .if1 .left) (c .before .before .if2 .taken) (c .parse-fields .ensures)
 
 returns-3 : tie.Need-returns-3
 returns-3 c = bare-says (c .before .before .before .before .before .args .s .now) (c .parse-fields2 .result) (c .before .before .before .if1 .left) (c .before .if2 .left) (c .parse-fields2 .ensures)

@@ -29,24 +29,46 @@ loop-holds : tie.Need-loop-holds Inv-loop μ-loop
 loop-holds c = spelling-start (c .before .before .before .before .args .s .now)
 
 returns-5 : tie.Need-returns-5 Inv-loop μ-loop
-returns-5 c = λ x h e. no-digit (c .before .before .before .before .before .before .before .before .args .s .now) x e (c .before .before .before .loop .i) (omega arith) (λ lo hi. omega (arith, c .if5 .taken))
+returns-5 c =
+    λ x h e. no-digit (c .before .before .before .before .before .before .before .before .args .s .now) x e (c .before .before .before .loop .i)
+    (omega arith) (λ lo hi. omega (arith, c .if5 .taken))
 
 returns-6 : tie.Need-returns-6 Inv-loop μ-loop
-returns-6 c = λ x h e. no-digit (c .before .before .before .before .before .before .before .before .before .args .s .now) x e (c .before .before .before .before .loop .i) (omega arith) (λ lo hi. omega (arith, c .if6 .taken))
+returns-6 c =
+    λ x h e. no-digit (c .before .before .before .before .before .before .before .before .before .args .s .now) x e
+    (c .before .before .before .before .loop .i) (omega arith) (λ lo hi. omega (arith, c .if6 .taken))
 
 mul-x : tie.Need-mul-x Inv-loop μ-loop
-mul-x c = omega (arith, spelling-small (c .before .before .before .before .before .before .before .before .before .args .s .now) (c .before .before .before .before .loop .x) (c .before .before .before .before .loop .i) (c .before .before .before .before .loop .inv) (let b = c .before .before .before .before .loop .inv .inside in omega arith))
+mul-x c =
+    omega (
+      arith,
+      spelling-small (c .before .before .before .before .before .before .before .before .before .args .s .now)
+          (c .before .before .before .before .loop .x) (c .before .before .before .before .loop .i) (c .before .before .before .before .loop .inv)
+          (let b = c .before .before .before .before .loop .inv .inside in omega arith),
+    )
 
 add-x : tie.Need-add-x Inv-loop μ-loop
-add-x c = omega (arith, spelling-small (c .before .before .before .before .before .before .before .before .before .args .s .now) (c .before .before .before .before .loop .x) (c .before .before .before .before .loop .i) (c .before .before .before .before .loop .inv) (let b = c .before .before .before .before .loop .inv .inside in omega arith))
+add-x c =
+    omega (
+      arith,
+      spelling-small (c .before .before .before .before .before .before .before .before .before .args .s .now)
+          (c .before .before .before .before .loop .x) (c .before .before .before .before .loop .i) (c .before .before .before .before .loop .inv)
+          (let b = c .before .before .before .before .loop .inv .inside in omega arith),
+    )
 
 loop-again : tie.Need-loop-again Inv-loop μ-loop
-loop-again c = spelling-on (c .before .before .before .before .before .before .before .before .before .args .s .now) (c .before .before .before .before .loop .x) (c .before .before .before .before .loop .i) (c .before .before .before .before .loop .inv) (omega arith) (c .before .if5 .left) (c .if6 .left)
+loop-again c =
+    spelling-on (c .before .before .before .before .before .before .before .before .before .args .s .now) (c .before .before .before .before .loop .x)
+    (c .before .before .before .before .loop .i) (c .before .before .before .before .loop .inv) (omega arith) (c .before .if5 .left) (c .if6 .left)
 
 returns-7 : tie.Need-returns-7 Inv-loop μ-loop
 returns-7 c =
-    let l = c .before .loop in
-    (spelling-small (c .before .before .before .before .before .before .args .s .now) (c .before .loop .x) (c .before .loop .i) (c .before .loop .inv) (let b = c .before .loop .inv .inside in omega arith), spelling-end (c .before .before .before .before .before .before .args .s .now) (l .x) (l .i) (l .inv) (omega arith) (omega arith) (c .before .before .if3 .left))
+    let l = c .before .loop in (
+      spelling-small (c .before .before .before .before .before .before .args .s .now) (c .before .loop .x) (c .before .loop .i) (c .before .loop .inv)
+          (let b = c .before .loop .inv .inside in omega arith),
+      spelling-end (c .before .before .before .before .before .before .args .s .now) (l .x)
+          (l .i) (l .inv) (omega arith) (omega arith) (c .before .before .if3 .left),
+    )
 
 pub parse-number-spec : {M : Type 1} → statement M
 parse-number-spec =

@@ -9,7 +9,11 @@ place-refused-requires : tie.Need-place-refused-requires
 place-refused-requires c κs = refused-room _ _ _ (omega arith) (search needs) (c .before .before .before .pre)
 
 returns : tie.Need-returns
-returns c = let d = c .before .before .before .before .before .number in refused-says (c .before .before .before .before .before .before .before .args .r) (d .result) (d .ensures) (c .before .before .before .before .before .before .before .args .buf .now) _ _ (c .before .before .before .place-refused .ensures) (c .empty-state .ensures)
+returns c =
+    let d = c .before .before .before .before .before .number in
+    refused-says (c .before .before .before .before .before .before .before .args .r) (d .result) (d .ensures)
+    (c .before .before .before .before .before .before .before .args .buf .now) _ _ (c .before .before .before .place-refused .ensures)
+    (c .empty-state .ensures)
 
 pub refused-page-spec : {M : Type 1} → statement M
 refused-page-spec =

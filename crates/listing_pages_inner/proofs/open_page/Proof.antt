@@ -13,13 +13,25 @@ slice-aggregate-place-zero-ring : tie.Need-slice-aggregate-place-zero-ring
 slice-aggregate-place-zero-ring c = simp length-take (omega arith)
 
 place-zero-ring-requires : tie.Need-place-zero-ring-requires
-place-zero-ring-requires c κs = let g = c .before .before .before .before .before .before .before in let a = g .args in open-ring (a .k) (a .n) (g .pre .0) (a .buf .now) (g .pre .1) _ _ (c .before .before .before .before .place-first .ensures)
+place-zero-ring-requires c κs =
+    let g = c .before .before .before .before .before .before .before in let a = g .args in
+    open-ring (a .k) (a .n) (g .pre .0) (a .buf .now) (g .pre .1) _ _ (c .before .before .before .before .place-first .ensures)
 
 fill-page-requires : tie.Need-fill-page-requires
-fill-page-requires c κs = let g = c .before .before .before .before .before .before .before .before .before .before .before in let a = g .args in (start-good (a .k) (a .n) (g .pre .0) _ _ (omega arith) (omega arith), open-inside (a .k) (a .n) (g .pre .0) (a .buf .now) (g .pre .1) _ _ (c .before .before .before .before .before .before .before .before .place-first .ensures) _ _ (c .before .before .before .place-zero-ring .ensures))
+fill-page-requires c κs =
+    let g = c .before .before .before .before .before .before .before .before .before .before .before in let a = g .args in (
+      start-good (a .k) (a .n) (g .pre .0) _ _ (omega arith) (omega arith),
+      open-inside (a .k) (a .n) (g .pre .0) (a .buf .now) (g .pre .1) _ _
+          (c .before .before .before .before .before .before .before .before .place-first .ensures) _ _
+          (c .before .before .before .place-zero-ring .ensures),
+    )
 
 returns : tie.Need-returns
-returns c = let g = c .before .before .before .before .before .before .before .before .before .before .before .before .before .before in let a = g .args in opened (a .k) (a .n) (g .pre .0) (a .buf .now) (g .pre .1) _ _ (c .before .before .before .before .before .before .before .before .before .before .before .place-first .ensures) _ _ (c .before .before .before .before .before .before .place-zero-ring .ensures) _ _ (c .before .before .fill-page .ensures)
+returns c =
+    let g = c .before .before .before .before .before .before .before .before .before .before .before .before .before .before in let a = g .args in
+    opened (a .k) (a .n) (g .pre .0) (a .buf .now) (g .pre .1) _ _
+    (c .before .before .before .before .before .before .before .before .before .before .before .place-first .ensures) _ _
+    (c .before .before .before .before .before .before .place-zero-ring .ensures) _ _ (c .before .before .fill-page .ensures)
 
 pub open-page-spec : {M : Type 1} → statement M
 open-page-spec =

@@ -11,7 +11,10 @@ returns : tie.Need-returns
 returns c = let a = c .before .before .before .before .args in let g = c .enum-told .given in ring-refused (a .ring .now) (a .k) (g .0 .0) (rw (g .1) at (c .before .before .classify .ensures))
 
 returns-2 : tie.Need-returns-2
-returns-2 c = let a = c .before .before .before .before .before .before .args in let g = c .before .before .c .given in let p = rw (g .1) at (c .before .before .before .before .classify .ensures) in ring-decided (a .ring .now) (a .k) (g .0 .0) (c .is-necklace .result) (p .0) (p .1) (c .is-necklace .ensures)
+returns-2 c =
+    let a = c .before .before .before .before .before .before .args in let g = c .before .before .c .given in
+    let p = rw (g .1) at (c .before .before .before .before .classify .ensures) in
+    ring-decided (a .ring .now) (a .k) (g .0 .0) (c .is-necklace .result) (p .0) (p .1) (c .is-necklace .ensures)
 
 pub is-ring-spec : {M : Type 1} → statement M
 is-ring-spec =

@@ -13,7 +13,10 @@ returns : tie.Need-returns
 returns c = malformed refl (rw (c .enum-told .given .1) at (c .before .before .parse-line .ensures))
 
 returns-2 : tie.Need-returns-2
-returns-2 c = let g = c .before .before .k .given in let a = c .before .before .before .before .before .before .args in plan-spelt (a .limit) (a .line .now) (g .0 .0) (g .0 .1 .0) (c .plan-numbers .result) (rw (g .1) at (c .before .before .before .before .parse-line .ensures)) (c .plan-numbers .ensures)
+returns-2 c =
+    let g = c .before .before .k .given in let a = c .before .before .before .before .before .before .args in
+    plan-spelt (a .limit) (a .line .now) (g .0 .0) (g .0 .1 .0) (c .plan-numbers .result)
+    (rw (g .1) at (c .before .before .before .before .parse-line .ensures)) (c .plan-numbers .ensures)
 
 pub plan-line-spec : {M : Type 1} → statement M
 plan-line-spec =

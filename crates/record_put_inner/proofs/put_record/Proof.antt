@@ -7,7 +7,13 @@ use Rattle.record_put_inner.proofs.put_record.Statement.{statement}
 use Rattle.record_put_inner.proofs.put_record.Tie as tie
 
 returns : tie.Need-returns
-returns c = let e = c .before .before .before .before .before .before .before .before .before .before .before .before in let a = e .args in let m = c .before .before .before .before .before .before .before .before .before .body-length in placed (a .reading .now) (a .k) (a .kind) (a .rest .now) _ _ _ (c .before .before .before .before .before .before .before .second-byte .result) (m .result) (e .pre .0) (m .ensures) (omega (arith, e .pre .1, m .ensures)) (c .before .before .before .before .before .before .before .second-byte .ensures) (c .before .before .before .before .before .before .put-head .ensures) (c .before .before .put-body .ensures) refl
+returns c =
+    let e = c .before .before .before .before .before .before .before .before .before .before .before .before in let a = e .args in
+    let m = c .before .before .before .before .before .before .before .before .before .body-length in
+    placed (a .reading .now) (a .k) (a .kind) (a .rest .now) _ _ _ (c .before .before .before .before .before .before .before .second-byte .result)
+    (m .result) (e .pre .0) (m .ensures) (omega (arith, e .pre .1, m .ensures))
+    (c .before .before .before .before .before .before .before .second-byte .ensures)
+    (c .before .before .before .before .before .before .put-head .ensures) (c .before .before .put-body .ensures) refl
 
 pub put-record-spec : {M : Type 1} → statement M
 put-record-spec =

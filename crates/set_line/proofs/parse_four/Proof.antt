@@ -9,7 +9,9 @@ use Rattle.set_line.proofs.parse_four.Statement.{statement}
 use Rattle.set_line.proofs.parse_four.Tie as tie
 
 returns : tie.Need-returns
-returns c = λ n k d want short e. let f = four-at (c .before .before .before .args .s .now) (c .before .second-space .result) n k d want (c .before .second-space .ensures) e in omega (arith, f .0, c .if1 .taken)
+returns c =
+    λ n k d want short e. let f = four-at (c .before .before .before .args .s .now) (c .before .second-space .result) n k d want
+    (c .before .second-space .ensures) e in omega (arith, f .0, c .if1 .taken)
 
 slice-aggregate-parse-fields : tie.Need-slice-aggregate-parse-fields
 slice-aggregate-parse-fields c = simp length-take (omega arith)
@@ -18,13 +20,41 @@ enum-told : tie.Need-enum-told
 enum-told c = search needs
 
 returns-2 : tie.Need-returns-2
-returns-2 c = λ n k d want short e. let f = four-at (c .before .before .before .before .before .before .before .args .s .now) (c .before .before .before .before .before .second-space .result) n k d want (c .before .before .before .before .before .second-space .ensures) e in (rw (c .enum-told .given .1) at (c .before .before .parse-fields .ensures)) n k (short .n-short) (short .k-short) (f .1)
+returns-2 c =
+    λ n k d want short e. let f = four-at (c .before .before .before .before .before .before .before .args .s .now)
+    (c .before .before .before .before .before .second-space .result) n k d want (c .before .before .before .before .before .second-space .ensures) e
+    in (rw (c .enum-told .given .1) at (c .before .before .parse-fields .ensures)) n k (short .n-short) (short .k-short) (f .1)
 
 returns-3 : tie.Need-returns-3
-returns-3 c = λ n k d want short e. let f = four-at (c .before .before .before .before .before .before .before .before .before .before .before .before .args .s .now) (c .before .before .before .before .before .before .before .before .before .before .second-space .result) n k d want (c .before .before .before .before .before .before .before .before .before .before .second-space .ensures) e in (rw (c .enum-told2 .given .1) at (c .before .before .parse-fields2 .ensures)) d want (short .d-short) (short .want-short) (rest-all (c .before .before .before .before .before .before .before .before .before .before .before .before .args .s .now) (c .before .before .before .before .before .before .before .before .before .before .second-space .result + 1) ∙ f .2)
+returns-3 c =
+    λ n k d want short e. let f = four-at
+    (c .before .before .before .before .before .before .before .before .before .before .before .before .args .s .now)
+    (c .before .before .before .before .before .before .before .before .before .before .second-space .result) n k d want
+    (c .before .before .before .before .before .before .before .before .before .before .second-space .ensures) e in
+    (rw (c .enum-told2 .given .1) at (c .before .before .parse-fields2 .ensures)) d want (short .d-short) (short .want-short)
+    (rest-all (c .before .before .before .before .before .before .before .before .before .before .before .before .args .s .now)
+    (c .before .before .before .before .before .before .before .before .before .before .second-space .result + 1) ∙ f .2)
 
 returns-4 : tie.Need-returns-4
-returns-4 c = let p = rw (c .before .before .before .before .before .before .n .given .1) at (c .before .before .before .before .before .before .before .before .parse-fields .ensures) in let q = rw (c .before .d .given .1) at (c .before .before .before .parse-fields2 .ensures) in (record { n-short = omega (arith, p .0, p .1); k-short = omega (arith, p .0, p .1); d-short = omega (arith, q .0, q .1); want-short = omega (arith, q .0, q .1) }, four-join (c .before .before .before .before .before .before .before .before .before .before .before .before .before .args .s .now) (c .before .before .before .before .before .before .before .before .before .before .before .second-space .result) _ _ _ _ (c .before .before .before .before .before .before .before .before .before .before .before .second-space .ensures) (c .before .before .before .before .before .before .before .before .before .before .if1 .left) (p .2) (sym (rest-all (c .before .before .before .before .before .before .before .before .before .before .before .before .before .args .s .now) (c .before .before .before .before .before .before .before .before .before .before .before .second-space .result + 1)) ∙ q .2))
+returns-4 c =
+    let p = rw (c .before .before .before .before .before .before .n .given .1) at
+    (c .before .before .before .before .before .before .before .before .parse-fields .ensures) in
+    let q = rw (c .before .d .given .1) at (c .before .before .before .parse-fields2 .ensures) in (
+      record {
+        n-short = omega (arith, p .0, p .1);
+        k-short = omega (arith, p .0, p .1);
+        d-short = omega (arith, q .0, q .1);
+        want-short = omega
+            (arith, q .0, q .1);
+      },
+      four-join
+          (c .before .before .before .before .before .before .before .before .before .before .before .before .before .args .s .now)
+          (c .before .before .before .before .before .before .before .before .before .before .before .second-space .result) _ _ _ _
+          (c .before .before .before .before .before .before .before .before .before .before .before .second-space .ensures)
+          (c .before .before .before .before .before .before .before .before .before .before .if1 .left) (p .2)
+          (sym (rest-all (c .before .before .before .before .before .before .before .before .before .before .before .before .before .args .s .now)
+          (c .before .before .before .before .before .before .before .before .before .before .before .second-space .result + 1)) ∙ q .2),
+    )
 
 pub parse-four-spec : {M : Type 1} → statement M
 parse-four-spec =

@@ -13,7 +13,9 @@ slice-aggregate-parse-four : tie.Need-slice-aggregate-parse-four
 slice-aggregate-parse-four c = simp length-take (omega arith)
 
 returns-2 : tie.Need-returns-2
-returns-2 c = ended-four (c .before .before .before .before .before .before .args .s .now) (c .parse-four .result) (c .before .before .before .before .if1 .left) (c .before .before .if2 .taken) (c .parse-four .ensures)
+returns-2 c =
+    ended-four (c .before .before .before .before .before .before .args .s .now) (c .parse-four .result)
+    (c .before .before .before .before .if1 .left) (c .before .before .if2 .taken) (c .parse-four .ensures)
 
 returns-3 : tie.Need-returns-3
 returns-3 c = bare-four (c .before .before .before .before .before .args .s .now) (c .parse-four2 .result) (c .before .if2 .left) (c .parse-four2 .ensures)

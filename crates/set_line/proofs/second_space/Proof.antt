@@ -8,7 +8,9 @@ returns : tie.Need-returns
 returns c = second-none (c .before .before .before .args .s .now) (c .before .first-space .result) (c .before .first-space .ensures) (c .if1 .taken)
 
 returns-2 : tie.Need-returns-2
-returns-2 c = second-some (c .before .before .before .before .before .args .s .now) (c .before .before .before .first-space .result) (c .first-space2 .result) (c .before .before .before .first-space .ensures) (c .before .before .if1 .left) (c .first-space2 .ensures)
+returns-2 c =
+    second-some (c .before .before .before .before .before .args .s .now) (c .before .before .before .first-space .result) (c .first-space2 .result)
+    (c .before .before .before .first-space .ensures) (c .before .before .if1 .left) (c .first-space2 .ensures)
 
 pub second-space-spec : {M : Type 1} → statement M
 second-space-spec =

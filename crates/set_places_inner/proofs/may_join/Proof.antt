@@ -13,7 +13,10 @@ use Rattle.set_places_inner.proofs.may_join.Tie as tie
 
 returns : tie.Need-returns
 returns c =
-    not-clear-in (length (c .before .before .before .before .before .before .args .ring .now)) (c .before .before .before .before .before .before .args .d) (c .before .before .before .before .before .before .args .places .now) (c .before .before .before .before .before .before .args .taken) (c .before .before .before .before .before .before .args .ring .now) (c .before .before .before .before .before .before .args .rule) (sym (c .before .is-clear .ensures) ∙ not-true _ (c .if1 .taken))
+    not-clear-in (length (c .before .before .before .before .before .before .args .ring .now))
+    (c .before .before .before .before .before .before .args .d) (c .before .before .before .before .before .before .args .places .now)
+    (c .before .before .before .before .before .before .args .taken) (c .before .before .before .before .before .before .args .ring .now)
+    (c .before .before .before .before .before .before .args .rule) (sym (c .before .is-clear .ensures) ∙ not-true _ (c .if1 .taken))
 
 enum-told : tie.Need-enum-told
 enum-told c = search needs
@@ -46,7 +49,8 @@ returns-2 c = rw (c .enum-told .given .1) (sym (sym (c .before .before .before .
 
 returns-3 : tie.Need-returns-3
 returns-3 c =
-    rw (c .before .before .before .before .before .enum-told2 .given .1) (may-guarded (length (c .before .before .before .before .before .before .before .before .before .before .before .before .before .args .ring .now)) (c .before .before .before .before .before .before .before .before .before .before .before .before .before .args .d) (c .before .before .before .before .before .before .before .before .before .before .before .before .before .args .places .now) (c .before .before .before .before .before .before .before .before .before .before .before .before .before .args .taken) (c .before .before .before .before .before .before .before .before .before .before .before .before .before .args .ring .now) (c .is-guarded .result) (sym (c .before .before .before .before .before .before .before .before .is-clear .ensures) ∙ not-false _ (c .before .before .before .before .before .before .before .if1 .left)) (c .is-guarded .ensures))
+    rw (c .before .before .before .before .before .enum-told2 .given .1)
+    (may-guarded (length (c .before .before .before .before .before .before .before .before .before .before .before .before .before .args .ring .now)) (c .before .before .before .before .before .before .before .before .before .before .before .before .before .args .d) (c .before .before .before .before .before .before .before .before .before .before .before .before .before .args .places .now) (c .before .before .before .before .before .before .before .before .before .before .before .before .before .args .taken) (c .before .before .before .before .before .before .before .before .before .before .before .before .before .args .ring .now) (c .is-guarded .result) (sym (c .before .before .before .before .before .before .before .before .is-clear .ensures) ∙ not-false _ (c .before .before .before .before .before .before .before .if1 .left)) (c .is-guarded .ensures))
 
 pub may-join-spec : {M : Type 1} → statement M
 may-join-spec =

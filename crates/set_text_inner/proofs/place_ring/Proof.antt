@@ -10,10 +10,15 @@ place-sectors-requires : tie.Need-place-sectors-requires
 place-sectors-requires c κs = let g = c .before .before .before in omega (arith, g .pre, length-ring-text (g .args .ring .now))
 
 place-text-requires : tie.Need-place-text-requires
-place-text-requires c κs = let g = c .before .before .before .before .before .before .before .before in let a = g .args in ring-room (a .buf .now) (a .at) (a .ring .now) (g .pre) _ _ (c .before .before .before .before .place-sectors .ensures)
+place-text-requires c κs =
+    let g = c .before .before .before .before .before .before .before .before in let a = g .args in
+    ring-room (a .buf .now) (a .at) (a .ring .now) (g .pre) _ _ (c .before .before .before .before .place-sectors .ensures)
 
 returns : tie.Need-returns
-returns c = let g = c .before .before .before .before .before .before .before .before .before .before .before in let a = g .args in placed-ring-text (a .buf .now) (a .at) (a .ring .now) (g .pre) _ _ (c .before .before .before .before .before .before .before .place-sectors .ensures) _ _ (c .before .before .place-text .ensures)
+returns c =
+    let g = c .before .before .before .before .before .before .before .before .before .before .before in let a = g .args in
+    placed-ring-text (a .buf .now) (a .at) (a .ring .now) (g .pre) _ _
+    (c .before .before .before .before .before .before .before .place-sectors .ensures) _ _ (c .before .before .place-text .ensures)
 
 pub place-ring-spec : {M : Type 1} → statement M
 place-ring-spec =

@@ -6,7 +6,10 @@ use Rattle.set_text_inner.proofs.place_set.Statement.{statement}
 use Rattle.set_text_inner.proofs.place_set.Tie as tie
 
 place-taken-requires : tie.Need-place-taken-requires
-place-taken-requires c κs = let a = c .before .before .before .before .before .before .before .args in let q = c .before .before .before .before .before .before .before .pre in taken-room (a .buf .now) (a .places .now) (a .n) (a .taken) (q .0) (q .1) _ _ (a .full) (c .before .before .before .place-rings .ensures)
+place-taken-requires c κs =
+    let a = c .before .before .before .before .before .before .before .args in
+    let q = c .before .before .before .before .before .before .before .pre in
+    taken-room (a .buf .now) (a .places .now) (a .n) (a .taken) (q .0) (q .1) _ _ (a .full) (c .before .before .before .place-rings .ensures)
 
 same-length : tie.Need-same-length
 same-length c = placed-length _ _ _ _ _ (placed-append _ _ _ _ _ _ _ _ (c .before .before .before .before .before .before .place-rings .ensures) (c .before .before .place-taken .ensures))

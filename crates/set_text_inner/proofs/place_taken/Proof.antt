@@ -8,19 +8,44 @@ place-text-requires : tie.Need-place-text-requires
 place-text-requires c κs = let a = c .before .before .before .args in let q = c .before .before .before .pre in word-room (a .buf .now) (a .at) (a .taken) (a .full) q
 
 place-decimal-requires : tie.Need-place-decimal-requires
-place-decimal-requires c κs = let a = c .before .before .before .before .before .before .before .args in let q = c .before .before .before .before .before .before .before .pre in number-room (a .buf .now) (a .at) (a .taken) (a .full) q _ _ (c .before .before .before .place-text .ensures)
+place-decimal-requires c κs =
+    let a = c .before .before .before .before .before .before .before .args in
+    let q = c .before .before .before .before .before .before .before .pre in
+    number-room (a .buf .now) (a .at) (a .taken) (a .full) q _ _ (c .before .before .before .place-text .ensures)
 
 place-text-requires-2 : tie.Need-place-text-requires-2
-place-text-requires-2 c κs = let a = c .before .before .before .before .before .before .before .before .before .before .before .before .before .args in let q = c .before .before .before .before .before .before .before .before .before .before .before .before .before .pre in full-room (a .buf .now) (a .at) (a .taken) (a .full) q _ _ (c .before .before .before .before .before .before .before .before .before .place-text .ensures) _ _ (c .before .before .before .before .before .place-decimal .ensures) (c .before .before .if1 .taken)
+place-text-requires-2 c κs =
+    let a = c .before .before .before .before .before .before .before .before .before .before .before .before .before .args in
+    let q = c .before .before .before .before .before .before .before .before .before .before .before .before .before .pre in
+    full-room (a .buf .now) (a .at) (a .taken) (a .full) q _ _
+    (c .before .before .before .before .before .before .before .before .before .place-text .ensures) _ _
+    (c .before .before .before .before .before .place-decimal .ensures) (c .before .before .if1 .taken)
 
 returns : tie.Need-returns
-returns c = let a = c .before .before .before .before .before .before .before .before .before .before .before .before .before .before .before .before .args in let q = c .before .before .before .before .before .before .before .before .before .before .before .before .before .before .before .before .pre in placed-full (a .buf .now) (a .at) (a .taken) (a .full) q _ _ (c .before .before .before .before .before .before .before .before .before .before .before .before .place-text .ensures) _ _ (c .before .before .before .before .before .before .before .before .place-decimal .ensures) (c .before .before .before .before .before .if1 .taken) _ _ (c .before .before .place-text2 .ensures)
+returns c =
+    let a = c .before .before .before .before .before .before .before .before .before .before .before .before .before .before .before .before .args in
+    let q = c .before .before .before .before .before .before .before .before .before .before .before .before .before .before .before .before .pre in
+    placed-full (a .buf .now) (a .at) (a .taken) (a .full) q _ _
+    (c .before .before .before .before .before .before .before .before .before .before .before .before .place-text .ensures) _ _
+    (c .before .before .before .before .before .before .before .before .place-decimal .ensures)
+    (c .before .before .before .before .before .if1 .taken) _ _ (c .before .before .place-text2 .ensures)
 
 place-text-requires-3 : tie.Need-place-text-requires-3
-place-text-requires-3 c κs = let a = c .before .before .before .before .before .before .before .before .before .before .before .before .before .args in let q = c .before .before .before .before .before .before .before .before .before .before .before .before .before .pre in short-room (a .buf .now) (a .at) (a .taken) (a .full) q _ _ (c .before .before .before .before .before .before .before .before .before .place-text .ensures) _ _ (c .before .before .before .before .before .place-decimal .ensures) (c .before .before .if1 .left)
+place-text-requires-3 c κs =
+    let a = c .before .before .before .before .before .before .before .before .before .before .before .before .before .args in
+    let q = c .before .before .before .before .before .before .before .before .before .before .before .before .before .pre in
+    short-room (a .buf .now) (a .at) (a .taken) (a .full) q _ _
+    (c .before .before .before .before .before .before .before .before .before .place-text .ensures) _ _
+    (c .before .before .before .before .before .place-decimal .ensures) (c .before .before .if1 .left)
 
 returns-2 : tie.Need-returns-2
-returns-2 c = let a = c .before .before .before .before .before .before .before .before .before .before .before .before .before .before .before .before .args in let q = c .before .before .before .before .before .before .before .before .before .before .before .before .before .before .before .before .pre in placed-short-of (a .buf .now) (a .at) (a .taken) (a .full) q _ _ (c .before .before .before .before .before .before .before .before .before .before .before .before .place-text .ensures) _ _ (c .before .before .before .before .before .before .before .before .place-decimal .ensures) (c .before .before .before .before .before .if1 .left) _ _ (c .before .before .place-text3 .ensures)
+returns-2 c =
+    let a = c .before .before .before .before .before .before .before .before .before .before .before .before .before .before .before .before .args in
+    let q = c .before .before .before .before .before .before .before .before .before .before .before .before .before .before .before .before .pre in
+    placed-short-of (a .buf .now) (a .at) (a .taken) (a .full) q _ _
+    (c .before .before .before .before .before .before .before .before .before .before .before .before .place-text .ensures) _ _
+    (c .before .before .before .before .before .before .before .before .place-decimal .ensures) (c .before .before .before .before .before .if1 .left)
+    _ _ (c .before .before .place-text3 .ensures)
 
 pub place-taken-spec : {M : Type 1} → statement M
 place-taken-spec =

@@ -30,8 +30,21 @@ write-rings-requires c κs =
     (l, omega (arith, c .before .before .before .before .before .if2 .left), omega (arith, c .before .before .before .before .if3 .left), c .before .before .before .if4 .left)
 
 returns-5 : tie.Need-returns-5
-returns-5 c =
-    ((((omega (arith, c .before .before .before .before .before .before .before .before .before .if1 .left), omega (arith, c .before .before .before .before .before .before .before .before .if2 .left)), omega (arith, c .before .before .before .before .before .before .before .if3 .left)), c .before .before .before .before .before .before .if4 .left), c .before .before .write-rings .ensures)
+returns-5 c = (
+  (
+    (
+      (
+        omega (arith, c .before .before .before .before .before .before .before .before .before .if1 .left),
+        omega
+            (arith, c .before .before .before .before .before .before .before .before .if2 .left),
+      ),
+      omega
+          (arith, c .before .before .before .before .before .before .before .if3 .left),
+    ),
+    c .before .before .before .before .before .before .if4 .left,
+  ),
+  c .before .before .write-rings .ensures,
+)
 
 pub lay-out-spec : {M : Type 1} → statement M
 lay-out-spec = tie.close (tie.spec returns returns-2 returns-3 mul-if4 returns-4 (λ c. search needs)

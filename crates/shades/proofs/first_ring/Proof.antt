@@ -10,13 +10,23 @@ enum-told : tie.Need-enum-told
 enum-told c = search needs
 
 fill-requires : tie.Need-fill-requires
-fill-requires c κs = let a = c .before .before .before .before .before .before .args in first-asks (length (a .out .now)) (a .k) (a .counts .now) (rw (c .before .enum-told .given .1) at (c .before .before .before .check-first .ensures)) (a .out .now) refl
+fill-requires c κs =
+    let a = c .before .before .before .before .before .before .args in
+    first-asks (length (a .out .now)) (a .k) (a .counts .now) (rw (c .before .enum-told .given .1) at
+    (c .before .before .before .check-first .ensures)) (a .out .now) refl
 
 returns : tie.Need-returns
 returns c = (rw (c .before .r .given .1) at (c .before .before .before .check-first .ensures), refl)
 
 returns-2 : tie.Need-returns-2
-returns-2 c = let a = c .before .before .before .before .before .before .before .before .before .args in let p = (rw (c .before .before .before .before .enum-told .given .1) at (c .before .before .before .before .before .before .check-first .ensures)) in (p, first-found (length (a .out .now)) (a .k) (a .counts .now) p _ _ (search needs) (c .before .before .fill .ensures .0) (c .before .before .fill .ensures .1))
+returns-2 c =
+    let a = c .before .before .before .before .before .before .before .before .before .args in
+    let p = (rw (c .before .before .before .before .enum-told .given .1) at (c .before .before .before .before .before .before .check-first .ensures))
+    in (
+      p,
+      first-found (length (a .out .now)) (a .k) (a .counts .now) p _ _ (search needs) (c .before .before .fill .ensures .0)
+          (c .before .before .fill .ensures .1),
+    )
 
 pub first-ring-spec : {M : Type 1} → statement M
 first-ring-spec =

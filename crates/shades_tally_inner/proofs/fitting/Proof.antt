@@ -51,7 +51,8 @@ returns c =
       exceeds =
           λ h. exceeds-one (a .counts .now) (a .s .now) (l .rem) (l .i)
           (c .before .before .loop-test .taken)
-          (c .before .before .before .before .before .before .before .pre .known (l .i) (c .before .before .loop-test .taken)) (c .before .before .before .before .before .before .before .pre .few) (l .inv .1) (c .if1 .taken);
+          (c .before .before .before .before .before .before .before .pre .known (l .i) (c .before .before .loop-test .taken))
+          (c .before .before .before .before .before .before .before .pre .few) (l .inv .1) (c .if1 .taken);
     }
 
 mul-rem : tie.Need-mul-rem Inv-loop μ-loop

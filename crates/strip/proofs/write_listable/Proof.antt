@@ -17,8 +17,12 @@ write-whole-requires : tie.Need-write-whole-requires
 write-whole-requires c κs = (c .before .before .before .before .pre, c .before .if1 .left ∙ c .before .before .power .ensures)
 
 returns-2 : tie.Need-returns-2
-returns-2 c =
-    (c .before .before .before .before .before .before .before .pre, c .before .before .before .before .if1 .left ∙ c .before .before .before .before .before .power .ensures, c .before .before .write-whole .ensures)
+returns-2 c = (
+  c .before .before .before .before .before .before .before .pre,
+  c .before .before .before .before .if1 .left ∙
+      c .before .before .before .before .before .power .ensures,
+  c .before .before .write-whole .ensures,
+)
 
 pub write-listable-spec : {M : Type 1} → statement M
 write-listable-spec = tie.close (tie.spec power-requires returns write-whole-requires (λ c. search needs) returns-2)

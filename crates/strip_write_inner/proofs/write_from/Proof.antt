@@ -30,7 +30,8 @@ advance-requires c κs = c .before .before .before .before .before .before .loop
 returns : tie.Need-returns Inv-loop μ-loop
 returns c =
     let l = c .before .before .before .before .before .before .before .before .before .before .before .loop in
-    writing-end _ _ _ _ _ _ (l .inv .0) _ (c .before .before .before .before .before .before .before .before .lay .ensures) (c .before .before .before .before .advance .ensures .done (c .if1 .taken) .0)
+    writing-end _ _ _ _ _ _ (l .inv .0) _ (c .before .before .before .before .before .before .before .before .lay .ensures)
+    (c .before .before .before .before .advance .ensures .done (c .if1 .taken) .0)
 
 loop-less : tie.Need-loop-less Inv-loop μ-loop
 loop-less c =
@@ -41,8 +42,11 @@ loop-again : tie.Need-loop-again Inv-loop μ-loop
 loop-again c =
     let l = c .before .before .before .before .before .before .before .before .before .before .before .loop in
     let a = c .before .before .before .before .advance in
-    let z : 0 < a .result .lyn = omega (arith, c .if1 .left) in
-    (writing-on _ _ _ _ _ _ (l .inv .0) _ (c .before .before .before .before .before .before .before .before .lay .ensures) _ _ (a .ensures .next z) (a .ensures .lyn-of z), c .before .before .before .before .before .before .before .before .lay .ensures .long ∙ l .inv .1)
+    let z : 0 < a .result .lyn = omega (arith, c .if1 .left) in (
+      writing-on _ _ _ _ _ _ (l .inv .0) _ (c .before .before .before .before .before .before .before .before .lay .ensures) _ _ (a .ensures .next z)
+          (a .ensures .lyn-of z),
+      c .before .before .before .before .before .before .before .before .lay .ensures .long ∙ l .inv .1,
+    )
 
 pub write-from-spec : {M : Type 1} → statement M
 write-from-spec =

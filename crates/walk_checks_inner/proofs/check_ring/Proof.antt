@@ -52,7 +52,8 @@ part-first-bad-start : tie.Need-part-first-bad-start
 part-first-bad-start c =
     let a = c .before .before .before .before .before .before .before .args in
     let l : length (a .t3) ≡ 64 = search needs in
-    let g = numbers-passed (a .n) (a .n) (a .k) Unit (λ q. tt) (rw (c .before .before .before .before .enum-told .given .1) at (c .before .before .before .before .before .before .check-numbers .ensures)) in
+    let g = numbers-passed (a .n) (a .n) (a .k) Unit (λ q. tt) (rw (c .before .before .before .before .enum-told .given .1) at
+    (c .before .before .before .before .before .before .check-numbers .ensures)) in
     let h = g .0 .0 .1 in
     omega arith
 
@@ -60,7 +61,8 @@ part-first-bad-end : tie.Need-part-first-bad-end
 part-first-bad-end c =
     let a = c .before .before .before .before .before .before .before .args in
     let l : length (a .t3) ≡ 64 = search needs in
-    let g = numbers-passed (a .n) (a .n) (a .k) Unit (λ q. tt) (rw (c .before .before .before .before .enum-told .given .1) at (c .before .before .before .before .before .before .check-numbers .ensures)) in
+    let g = numbers-passed (a .n) (a .n) (a .k) Unit (λ q. tt) (rw (c .before .before .before .before .enum-told .given .1) at
+    (c .before .before .before .before .before .before .check-numbers .ensures)) in
     let h = g .0 .0 .1 in
     omega arith
 
@@ -68,7 +70,8 @@ sub-if2 : tie.Need-sub-if2
 sub-if2 c =
     let a = c .before .before .before .before .before .before .before .before .before .args in
     let l : length (a .t3) ≡ 64 = search needs in
-    let g = numbers-passed (a .n) (a .n) (a .k) Unit (λ q. tt) (rw (c .before .before .before .before .before .before .enum-told .given .1) at (c .before .before .before .before .before .before .before .before .check-numbers .ensures)) in
+    let g = numbers-passed (a .n) (a .n) (a .k) Unit (λ q. tt) (rw (c .before .before .before .before .before .before .enum-told .given .1) at
+    (c .before .before .before .before .before .before .before .before .check-numbers .ensures)) in
     let h = g .0 .0 .1 in
     omega arith
 
@@ -76,7 +79,8 @@ returns-2 : tie.Need-returns-2
 returns-2 c =
     let a = c .before .before .before .before .before .before .before .before .before .before .args in
     let l : length (a .t3) ≡ 64 = search needs in
-    let g = numbers-passed (a .n) (a .n) (a .k) Unit (λ q. tt) (rw (c .before .before .before .before .before .before .before .enum-told .given .1) at (c .before .before .before .before .before .before .before .before .before .check-numbers .ensures)) in
+    let g = numbers-passed (a .n) (a .n) (a .k) Unit (λ q. tt) (rw (c .before .before .before .before .before .before .before .enum-told .given .1) at
+    (c .before .before .before .before .before .before .before .before .before .check-numbers .ensures)) in
     let h = g .0 .0 .1 in
     let low = head-good (a .n) (a .k) (a .t3) true (omega arith) _ (c .before .before .before .before .before .first-bad .ensures) (c .before .before .before .before .if1 .left) in
     let q = take-all (64 - a .n) (drop (a .n) (a .t3)) (simp length-drop (omega arith)) in
@@ -85,13 +89,15 @@ returns-2 c =
 returns-3 : tie.Need-returns-3
 returns-3 c =
     let a = c .before .before .before .before .args in
-    inl (inl (inl (inl (numbers-refused (a .n) (a .n) (a .k) Unit (λ q. refl) (λ q. tt) (c .before .r .given .0 .0) (rw (c .before .r .given .1) at (c .before .before .before .check-numbers .ensures))))))
+    inl (inl (inl (inl (numbers-refused (a .n) (a .n) (a .k) Unit (λ q. refl) (λ q. tt) (c .before .r .given .0 .0)
+    (rw (c .before .r .given .1) at (c .before .before .before .check-numbers .ensures))))))
 
 returns-4 : tie.Need-returns-4
 returns-4 c =
     let a = c .before .before .before .before .before .before .before .before .before .before .args in
     let l : length (a .t3) ≡ 64 = search needs in
-    let g = numbers-passed (a .n) (a .n) (a .k) Unit (λ q. tt) (rw (c .before .before .before .before .before .before .before .enum-told .given .1) at (c .before .before .before .before .before .before .before .before .before .check-numbers .ensures)) in
+    let g = numbers-passed (a .n) (a .n) (a .k) Unit (λ q. tt) (rw (c .before .before .before .before .before .before .before .enum-told .given .1) at
+    (c .before .before .before .before .before .before .before .before .before .check-numbers .ensures)) in
     let h = g .0 .0 .1 in
     let low = head-good (a .n) (a .k) (a .t3) true (omega arith) _ (c .before .before .before .before .before .first-bad .ensures) (c .before .before .before .before .if1 .left) in
     let q = take-all (64 - a .n) (drop (a .n) (a .t3)) (simp length-drop (omega arith)) in

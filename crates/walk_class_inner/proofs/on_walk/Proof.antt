@@ -23,15 +23,21 @@ returns-2 : tie.Need-returns-2
 unfolding lookAt
 returns-2 c =
     let a = c .before .before .before .before .before .before .before .before .args in
-    let f = c .before .before .before .before .before .before .class-of in
-    (off-tag (take (a .n) (a .t1)) (a .class) (f .result) (f .ensures) (λ e. c .if2 .taken (c .before .before .tag .ensures ∙ e ∙ sym (c .before .tag2 .ensures))), c .before .before .before .before .before .loose-place .ensures ∙ ap loosePlace (f .ensures))
+    let f = c .before .before .before .before .before .before .class-of in (
+      off-tag (take (a .n) (a .t1)) (a .class) (f .result) (f .ensures)
+          (λ e. c .if2 .taken (c .before .before .tag .ensures ∙ e ∙ sym (c .before .tag2 .ensures))),
+      c .before .before .before .before .before .loose-place .ensures ∙ ap loosePlace (f .ensures),
+    )
 
 returns-3 : tie.Need-returns-3
 unfolding lookAt
 returns-3 c =
     let a = c .before .before .before .before .before .before .before .before .before .before .before .args in
-    let f = c .before .before .before .before .before .before .before .before .before .class-of in
-    (off-value (take (a .n) (a .t1)) (a .class) (f .result) (f .ensures) (λ e. c .if3 .taken (c .before .before .value .ensures ∙ e ∙ sym (c .before .value2 .ensures))), c .before .before .before .before .before .before .before .before .loose-place .ensures ∙ ap loosePlace (f .ensures))
+    let f = c .before .before .before .before .before .before .before .before .before .class-of in (
+      off-value (take (a .n) (a .t1)) (a .class) (f .result) (f .ensures)
+          (λ e. c .if3 .taken (c .before .before .value .ensures ∙ e ∙ sym (c .before .value2 .ensures))),
+      c .before .before .before .before .before .before .before .before .loose-place .ensures ∙ ap loosePlace (f .ensures),
+    )
 
 returns-4 : tie.Need-returns-4
 unfolding lookAt

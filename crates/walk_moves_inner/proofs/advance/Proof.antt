@@ -39,7 +39,13 @@ raise-requires c κs =
     (z, q .0, q .1)
 
 add-moves : tie.Need-add-moves Inv-loop μ-loop
-add-moves c = omega (arith, c .before .before .before .before .before .before .before .loop .inv .few, c .before .before .before .before .before .before .before .loop .inv .short, c .before .before .before .before .before .before .before .before .before .pre .fits)
+add-moves c =
+    omega (
+      arith,
+      c .before .before .before .before .before .before .before .loop .inv .few,
+      c .before .before .before .before .before .before .before .loop .inv .short,
+      c .before .before .before .before .before .before .before .before .before .pre .fits,
+    )
 
 of-kind-requires : tie.Need-of-kind-requires Inv-loop μ-loop
 of-kind-requires c κs =
@@ -48,7 +54,13 @@ of-kind-requires c κs =
     let a = g .args in
     let i = c .before .before .before .before .before .last-low in
     let z : 0 < i .result = omega (arith, c .before .before .before .before .if1 .left) in
-    omega (arith, stands-low (a .kind) (a .k) (a .ring .now) (g .pre) (l .ring) (l .lyn) (l .moves) (i .result) (l .inv) (i .ensures) z .0, moved-long (a .kind) (a .k) (a .ring .now) (g .pre) (l .ring) (l .lyn) (l .moves) (i .result) (l .inv) (i .ensures) z _ (c .before .before .raise .ensures))
+    omega (
+      arith,
+      stands-low (a .kind) (a .k) (a .ring .now) (g .pre) (l .ring) (l .lyn) (l .moves) (i .result) (l .inv) (i .ensures) z .0,
+      moved-long
+          (a .kind) (a .k) (a .ring .now) (g .pre) (l .ring) (l .lyn) (l .moves) (i .result) (l .inv) (i .ensures) z _
+          (c .before .before .raise .ensures),
+    )
 
 same-length-2 : tie.Need-same-length-2 Inv-loop μ-loop
 same-length-2 c =
@@ -66,7 +78,8 @@ returns-2 c =
     let a = g .args in
     let i = c .before .before .before .before .before .before .before .last-low in
     let z : 0 < i .result = omega (arith, c .before .before .before .before .before .before .if1 .left) in
-    stands-found (a .kind) (a .k) (a .ring .now) (g .pre) (l .ring) (l .lyn) (l .moves) (i .result) (l .inv) (i .ensures) z _ (c .before .before .before .before .raise .ensures) (sym (c .before .of-kind .ensures) ∙ c .if2 .taken)
+    stands-found (a .kind) (a .k) (a .ring .now) (g .pre) (l .ring) (l .lyn) (l .moves) (i .result) (l .inv) (i .ensures) z _
+    (c .before .before .before .before .raise .ensures) (sym (c .before .of-kind .ensures) ∙ c .if2 .taken)
 
 loop-less : tie.Need-loop-less Inv-loop μ-loop
 loop-less c =
@@ -84,7 +97,8 @@ loop-again c =
     let a = g .args in
     let i = c .before .before .before .before .before .before .before .last-low in
     let z : 0 < i .result = omega (arith, c .before .before .before .before .before .before .if1 .left) in
-    stands-on (a .kind) (a .k) (a .ring .now) (g .pre) (l .ring) (l .lyn) (l .moves) (i .result) (l .inv) (i .ensures) z _ (c .before .before .before .before .raise .ensures) (sym (c .before .of-kind .ensures) ∙ c .if2 .left)
+    stands-on (a .kind) (a .k) (a .ring .now) (g .pre) (l .ring) (l .lyn) (l .moves) (i .result) (l .inv) (i .ensures) z _
+    (c .before .before .before .before .raise .ensures) (sym (c .before .of-kind .ensures) ∙ c .if2 .left)
 
 pub advance-spec : {M : Type 1} → statement M
 advance-spec =

@@ -20,13 +20,27 @@ loop-holds : tie.Need-loop-holds Inv-loop μ-loop
 loop-holds c = (copied-start _ _ (simp length-set (omega arith)), sym (mod-self (c .before .args .i)))
 
 slice-read-copy : tie.Need-slice-read-copy Inv-loop μ-loop
-slice-read-copy c = omega (arith, round-in (c .before .before .before .before .args .i) (c .before .before .loop .m) (c .before .before .loop .from) (c .before .before .before .before .pre .0) (c .before .before .loop .inv .1), c .before .before .loop .inv .0 .from)
+slice-read-copy c =
+    omega (
+      arith,
+      round-in (c .before .before .before .before .args .i) (c .before .before .loop .m) (c .before .before .loop .from)
+          (c .before .before .before .before .pre .0) (c .before .before .loop .inv .1),
+      c .before .before .loop .inv .0 .from,
+    )
 
 add-m : tie.Need-add-m Inv-loop μ-loop
 add-m c = omega (arith, simp length-set at (c .before .before .loop .inv .0 .long))
 
 add-from : tie.Need-add-from Inv-loop μ-loop
-add-from c = omega (arith, round-in (c .before .before .before .before .args .i) (c .before .before .loop .m) (c .before .before .loop .from) (c .before .before .before .before .pre .0) (c .before .before .loop .inv .1), c .before .before .loop .inv .0 .from, simp length-set at (c .before .before .loop .inv .0 .long))
+add-from c =
+    omega (
+      arith,
+      round-in (c .before .before .before .before .args .i) (c .before .before .loop .m) (c .before .before .loop .from)
+          (c .before .before .before .before .pre .0) (c .before .before .loop .inv .1),
+      c .before .before .loop .inv .0 .from,
+      simp length-set at
+          (c .before .before .loop .inv .0 .long),
+    )
 
 loop-less : tie.Need-loop-less Inv-loop μ-loop
 loop-less c = omega (arith, c .before .before .before .loop .inv .0 .long, c .before .before .loop-test .taken)
