@@ -34,7 +34,8 @@ module _ (n k : ℕ) (u : List ℕ) (fits : length u ≤ n) where
   pub filled-high : (m : ℕ) → length u ≤ m → m < n → getD (filled n k u) m 0 ≡ k - 1
   unfolding filled
   filled-high m h l =
-      place (sec (u ++ replicate (n - length u) (k - 1))) m (length u + (m - length u)) (omega arith) ∙ getD-append-add u (replicate (n - length u) (k - 1)) (m - length u) 0 ∙ getD-replicate (n - length u) (m - length u) (k - 1) 0 (omega arith)
+      place (sec (u ++ replicate (n - length u) (k - 1))) m (length u + (m - length u)) (omega arith) ∙ getD-append-add u
+      (replicate (n - length u) (k - 1)) (m - length u) 0 ∙ getD-replicate (n - length u) (m - length u) (k - 1) 0 (omega arith)
 
   -- a reading filled up is a reading
   pub filled-reading : 0 < k → Reading (length u) k u → Reading n k (filled n k u)

@@ -44,7 +44,8 @@ module _ (k : ℕ) (w : List ℕ) (l b : ℕ) (h : l < length w) where
   pub tried-low : (j : ℕ) → j < l → getD (tried k w l b) j 0 ≡ getD w j 0
   unfolding tried
   tried-low j e =
-      filled-low (length w) k (take l w ++ (b ∷ [])) (omega (arith, start-length)) j (omega (arith, start-length)) ∙ List·getD-append (take l w) (b ∷ []) 0 j (omega (arith, first-length)) ∙ getD-take l w j 0 e
+      filled-low (length w) k (take l w ++ (b ∷ [])) (omega (arith, start-length)) j (omega (arith, start-length)) ∙ List·getD-append (take l w)
+      (b ∷ []) 0 j (omega (arith, first-length)) ∙ getD-take l w j 0 e
 
   pub tried-at : getD (tried k w l b) l 0 ≡ b
   unfolding tried
@@ -183,7 +184,8 @@ lead-start k w l b r h up shade pass first s =
         go (eq e) (lt f) = omega (arith, o .less, d .agree (o .at) (omega arith), tried-low k w l b h (o .at) f)
         go (eq e) (eq f) =
             clash (bracelet (tried k w l (getD v l 0))) (begun-tried k l w v (getD v l 0) q p h (λ j a. sym (d .agree j (omega arith))) (omega arith) (q .shades l h))
-            (first (getD v l 0) (omega (arith, d .less, place (sec w) (d .at) l e, place (sec v) (d .at) l e)) (omega (arith, o .less, place (sec v) (o .at) l f, place (sec (tried k w l b)) (o .at) l f, tried-at k w l b h)))
+            (first (getD v l 0) (omega (arith, d .less, place (sec w) (d .at) l e, place (sec v) (d .at) l e))
+            (omega (arith, o .less, place (sec v) (o .at) l f, place (sec (tried k w l b)) (o .at) l f, tried-at k w l b h)))
         go (eq e) (gt f) = omega (arith, o .bound)
         go (gt e) f = omega (arith, stuck-past k w v (suc l) s q p d)
 
@@ -213,7 +215,13 @@ module _ (k : ℕ) (w c : List ℕ) (m : ℕ) (lead : Leads k w c m) where
         whole = pass;
         inside = omega arith;
         full = λ j a g. tried-high k c m b i j (omega arith) (omega (arith, lead .reading .long));
-        above = record { at = up .at; bound = omega (arith, up .bound); agree = λ j a. up .agree j a ∙ sym (tried-low k c m b i j (omega (arith, up .bound))); less = omega (arith, up .less, tried-low k c m b i (up .at) (up .bound)) };
+        above = record {
+          at = up .at;
+          bound = omega (arith, up .bound);
+          agree = λ j a. up .agree j a ∙ sym
+              (tried-low k c m b i j (omega (arith, up .bound)));
+          less = omega (arith, up .less, tried-low k c m b i (up .at) (up .bound));
+        };
         least = lowest;
       }
     where
@@ -226,9 +234,16 @@ module _ (k : ℕ) (w c : List ℕ) (m : ℕ) (lead : Leads k w c m) where
       lowest : (v : List ℕ) → Reading (length w) k v → bracelet v ≡ true → before w v ≡ true → Less (sec v) (sec (tried k c m b)) (suc m) → ⊥
       lowest v q p a o =
           elim (tri (o .at) m) [
-            | lt e ↦ lead .least v q p a (record { at = o .at; bound = e; agree = λ j g. o .agree j g ∙ tried-low k c m b i j (omega arith); less = omega (arith, o .less, tried-low k c m b i (o .at) e) })
+            | lt e ↦ lead .least v q p a (record {
+              at = o .at;
+              bound = e;
+              agree = λ j g. o .agree j g ∙ tried-low k c m b i j (omega arith);
+              less =
+                  omega (arith, o .less, tried-low k c m b i (o .at) e);
+            })
             | eq e ↦
-                clash (bracelet (tried k c m (getD v m 0))) (begun-tried k m c v (getD v m 0) (rw (lead .reading .long) q) p i (λ j g. o .agree j (omega arith) ∙ tried-low k c m b i j g) (omega arith) (q .shades m h))
+                clash (bracelet (tried k c m (getD v m 0))) (begun-tried k m c v (getD v m 0) (rw (lead .reading .long) q) p i
+                (λ j g. o .agree j (omega arith) ∙ tried-low k c m b i j g) (omega arith) (q .shades m h))
                 (first (getD v m 0) (omega (arith, o .less, place (sec v) (o .at) m e, place (sec (tried k c m b)) (o .at) m e, tried-at k c m b i)))
             | gt e ↦ absurd (omega (arith, o .bound))
           ]

@@ -100,7 +100,8 @@ module _ (n k : ℕ) (z : 0 < n) (y : 0 < k) (rings : List (List ℕ)) (m : ℕ)
     long = omega (arith, r .long)
 
     itself : bracelet v ≡ true → count (either-of v) (zeros n ∷ rings) ≡ 1
-    itself p = count-cong (either-of v) (same v) (zeros n ∷ rings) (λ u a. agree (either-of v u) (same v u) (only u (a .1)) (λ s. either-left (same v u) (same (mirrored v) u) s)) walk-bracelets ∙ bracelet-once v r p
+    itself p = count-cong (either-of v) (same v) (zeros n ∷ rings) (λ u a. agree (either-of v u) (same v u) (only u (a .1))
+        (λ s. either-left (same v u) (same (mirrored v) u) s)) walk-bracelets ∙ bracelet-once v r p
       where
         only : (u : List ℕ) → bracelet u ≡ true → either-of v u ≡ true → same v u ≡ true
         only u q s =
@@ -111,7 +112,8 @@ module _ (n k : ℕ) (z : 0 < n) (y : 0 < k) (rings : List (List ℕ)) (m : ℕ)
 
     other : bracelet (mirrored v) ≡ true → count (either-of v) (zeros n ∷ rings) ≡ 1
     other p =
-        count-cong (either-of v) (same (mirrored v)) (zeros n ∷ rings) (λ u a. agree (either-of v u) (same (mirrored v) u) (only u (a .1)) (λ s. either-right (same v u) (same (mirrored v) u) s)) walk-bracelets ∙ bracelet-once (mirrored v) (mirrored-reading v long n k r) p
+        count-cong (either-of v) (same (mirrored v)) (zeros n ∷ rings) (λ u a. agree (either-of v u) (same (mirrored v) u) (only u (a .1))
+        (λ s. either-right (same v u) (same (mirrored v) u) s)) walk-bracelets ∙ bracelet-once (mirrored v) (mirrored-reading v long n k r) p
       where
         only : (u : List ℕ) → bracelet u ≡ true → either-of v u ≡ true → same (mirrored v) u ≡ true
         only u q s =

@@ -88,7 +88,8 @@ turn-at i w m h l =
 -- the sectors of a turned reverse
 pub mirror-at : (i : ℕ) (w : List ℕ) (m : ℕ) → i < length w → m < length w → getD (turn i (reverse w)) m 0 ≡ getD w (mir (length w) i m) 0
 mirror-at i w m h l =
-    turn-at i (reverse w) m (rw length-reverse h) (rw length-reverse l) ∙ rw length-reverse (getD-reverse w (rot (length w) i m) (mir (length w) i m) (omega (arith, rot-lt (length w) i m (omega arith))))
+    turn-at i (reverse w) m (rw length-reverse h) (rw length-reverse l) ∙ rw length-reverse
+    (getD-reverse w (rot (length w) i m) (mir (length w) i m) (omega (arith, rot-lt (length w) i m (omega arith))))
 
 -- the first n of a are not above any of their turns and mirrored turns
 pub record Brace (a : ℕ → ℕ) (n : ℕ) : Type 0 where

@@ -76,7 +76,12 @@ module _ (k : ℕ) (w : List ℕ) (ready : ByteReading k w) where
           long = length-set s l t ∙ f .long;
           inside = omega (arith, in-w);
           low = λ j g. getD-set-other s l j t 0 (λ x. omega arith) ∙ f .low j (omega arith);
-          high = λ j g o. elim (tri j l) [ lt x ↦ absurd (omega arith) | eq x ↦ place (sec (set s l t)) j l x ∙ getD-set-same s l t 0 (omega (arith, f .long, in-w)) ∙ q | gt x ↦ getD-set-other s l j t 0 (λ y. omega arith) ∙ f .high j (omega arith) o ];
+          high = λ j g o. elim (tri j l) [
+            | lt x ↦ absurd (omega arith)
+            | eq x ↦ place (sec (set s l t)) j l x ∙ getD-set-same s l t 0
+                (omega (arith, f .long, in-w)) ∙ q
+            | gt x ↦ getD-set-other s l j t 0 (λ y. omega arith) ∙ f .high j (omega arith) o
+          ];
           stuck = stuck-at k w l (ready .reading) in-w (rw (lifting-tried t, q) at h) past;
         }
 

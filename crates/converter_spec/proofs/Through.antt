@@ -99,8 +99,19 @@ module _ (c d : List ℕ) (s : ℕ) (h : Turned c d) (i : Start c s) where
     where
       step : Turned (drop s c) (drop s d) → ReadSays d s b (Record n k Front next) o
       step (done e f) = absurd (some-left (drop s c) (g .2 .good) e)
-      step (replaced y m a f r) =
-          (g .0, omega (arith, turned-length c d h, g .1), record { good = front-good (drop s c) a y (drop s d) f; marked = f .marked; sectors = g .2 .sectors ∙ f .sectors; shades = g .2 .shades ∙ f .shades; follows = g .2 .follows; ring = ring })
+      step (replaced y m a f r) = (
+        g .0,
+        omega (arith, turned-length c d h, g .1),
+        record {
+          good = front-good (drop s c) a y (drop s d) f;
+          marked = f .marked;
+          sectors =
+              g .2 .sectors ∙ f .sectors;
+          shades = g .2 .shades ∙ f .shades;
+          follows = g .2 .follows;
+          ring = ring;
+        },
+      )
         where
           ring : o ≡ sectorsOf (drop s d) ++ drop n b
           ring =
@@ -113,7 +124,8 @@ module _ (c d : List ℕ) (s : ℕ) (h : Turned c d) (i : Start c s) where
   ends-alike b o g = (g .0, g .1 ∙ sym (turned-length c d h), g .2)
 
   -- whatever the reader answers there
-  pub read-through : (b : List ℕ) (n k : ℕ) (x : Side) (next : ℕ) (o : List ℕ) (r : Entry) (u : List ℕ) → OldReadSays c s b (entry n k x next) o → ReadSays d s b r u → (r ≡ Record n k Front next) × (u ≡ o)
+  pub read-through : (b : List ℕ) (n k : ℕ) (x : Side) (next : ℕ) (o : List ℕ) (r : Entry) (u : List ℕ) → OldReadSays c s b (entry n k x next) o →
+      ReadSays d s b r u → (r ≡ Record n k Front next) × (u ≡ o)
   read-through b n k x next o r u g f = one-read d s b r (Record n k Front next) u o f (reads-alike b n k x next o g)
 
   -- from start to end
@@ -131,7 +143,8 @@ module _ (c d : List ℕ) (s : ℕ) (h : Turned c d) (i : Start c s) where
 
       step : Turned (drop s c) (drop s d) → Alike c d s b
       step (done e f) = over (at-end e) (ends-alike b b (at-end e))
-      step (replaced x m a f r) = both (nOf (drop s c)) (kOf (drop s c)) x (ring x) (given x m a) (reads-alike b (nOf (drop s c)) (kOf (drop s c)) x (s + 4 + nOf (drop s c)) (ring x) (given x m a)) (after x i m a)
+      step (replaced x m a f r) = both (nOf (drop s c)) (kOf (drop s c)) x (ring x) (given x m a)
+          (reads-alike b (nOf (drop s c)) (kOf (drop s c)) x (s + 4 + nOf (drop s c)) (ring x) (given x m a)) (after x i m a)
 
 -- ---- damage
 

@@ -37,13 +37,25 @@ changed (a ∷ (b ∷ [])) v l e g = absurd (omega arith)
 changed (a ∷ (b ∷ (c ∷ []))) v l e g = absurd (omega arith)
 changed (a ∷ (b ∷ (c ∷ (d ∷ t)))) v l e g =
     ap (λ (i : ℕ). i ∷ (0x46 ∷ (c ∷ (d ∷ (v ++ drop (length (a ∷ (0x46 ∷ (c ∷ (d ∷ t)))) - 4) t))))) e
-    ∙ ap (λ (x : List ℕ). 0x52 ∷ (0x46 ∷ (c ∷ (d ∷ x)))) (ap (λ (r : List ℕ). v ++ r) (drop-of-length-le t {i = length (a ∷ (0x46 ∷ (c ∷ (d ∷ t)))) - 4} (omega arith)) ∙ append-nil v ∙ g ∙ ap mirrored (take-all (length (a ∷ (b ∷ (c ∷ (d ∷ t)))) - 4) t (omega arith)))
+    ∙ ap (λ (x : List ℕ). 0x52 ∷ (0x46 ∷ (c ∷ (d ∷ x)))) (ap (λ (r : List ℕ). v ++ r)
+    (drop-of-length-le t {i = length (a ∷ (0x46 ∷ (c ∷ (d ∷ t)))) - 4} (omega arith)) ∙ append-nil v ∙ g ∙ ap mirrored
+    (take-all (length (a ∷ (b ∷ (c ∷ (d ∷ t)))) - 4) t (omega arith)))
 
 -- which leaves as many bytes, whatever the second byte becomes
 pub kept : (p o u v : List ℕ) (y : ℕ) → 4 < length p → length o ≡ length p → u ≡ take (length p) p ++ drop (length p) o → v ≡ mirrored (take (length p - 4) (drop 4 p)) →
     length (take 4 (set u 1 y) ++ (v ++ drop (length (set u 1 y) - 4) (drop 4 (set u 1 y)))) ≡ length o
 kept p o u v y l e q g =
-    omega (arith, length-append (take 4 s) (v ++ drop (length s - 4) (drop 4 s)), length-append v (drop (length s - 4) (drop 4 s)), length-take-le 4 s (omega (arith, long)), length-drop (length s - 4) (drop 4 s), length-drop 4 s, long, wide)
+    omega (
+      arith,
+      length-append (take 4 s) (v ++ drop (length s - 4) (drop 4 s)),
+      length-append v (drop (length s - 4) (drop 4 s)),
+      length-take-le 4 s
+          (omega (arith, long)),
+      length-drop (length s - 4) (drop 4 s),
+      length-drop 4 s,
+      long,
+      wide,
+    )
   where
     s : List ℕ
     s = set u 1 y

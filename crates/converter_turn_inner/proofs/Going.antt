@@ -68,7 +68,18 @@ module _ (c o : List ℕ) (p : ℕ) (g : Going c o p) (l : p < length c) where
   going-on e u q k f s =
       record {
         inside = omega (arith, going-room);
-        long = rw s (omega (arith, length-append (take p o) (u ++ drop (e - p) (drop p o)), length-append u (drop (e - p) (drop p o)), head, wide, length-drop (e - p) (drop p o), length-drop p o, g .long, going-room, size));
+        long = rw s (omega (
+          arith,
+          length-append (take p o) (u ++ drop (e - p) (drop p o)),
+          length-append u (drop (e - p) (drop p o)),
+          head,
+          wide,
+          length-drop (e - p) (drop p o),
+          length-drop p o,
+          g .long,
+          going-room,
+          size,
+        ));
         left = rw ahead at (h .rest);
         turned = λ v w. rw (whole v) (g .turned (u ++ v) (here v w));
       }
@@ -97,7 +108,8 @@ module _ (c o : List ℕ) (p : ℕ) (g : Going c o p) (l : p < length c) where
       -- what stands before e
       whole : (v : List ℕ) → take e q ++ v ≡ take p o ++ (u ++ v)
       whole v =
-          ap (λ (i : List ℕ). i ++ v) (ap (take e) (s ∙ sym (append-assoc (take p o) u (drop (e - p) (drop p o)))) ∙ take-at (take p o ++ u) (drop (e - p) (drop p o)) e (omega (arith, length-append (take p o) u, head, wide, size)))
+          ap (λ (i : List ℕ). i ++ v) (ap (take e) (s ∙ sym (append-assoc (take p o) u (drop (e - p) (drop p o)))) ∙ take-at (take p o ++ u)
+          (drop (e - p) (drop p o)) e (omega (arith, length-append (take p o) u, head, wide, size)))
           ∙ append-assoc (take p o) u v
 
 -- where the catalogue ends, all of it is written

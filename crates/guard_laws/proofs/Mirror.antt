@@ -41,7 +41,8 @@ apart-reverse-le v w e =
     at : (i : ℕ) × (i < length v) × (differing (turn i v) w ≡ apart v w) → apart (reverse v) (reverse w) ≤ apart v w
     at (i, l, d) =
         let f = rw (reverse-turn i (length v - i) v (omega arith)) at (differing-reverse (turn i v) w (length-turn i v (omega arith) ∙ e)) in
-        let g = rw (turn-zero (reverse w)) at (apart-turns-le (reverse v) (reverse w) (length-reverse v ∙ e ∙ sym (length-reverse w)) (length v - i) 0 (rw length-reverse (omega arith)) (omega arith)) in
+        let g = rw (turn-zero (reverse w)) at (apart-turns-le (reverse v) (reverse w) (length-reverse v ∙ e ∙ sym (length-reverse w)) (length v - i) 0
+        (rw length-reverse (omega arith)) (omega arith)) in
         omega arith
 
 -- reversed readings are as far apart

@@ -149,5 +149,8 @@ module _ (n d e : ℕ) (ts : List (List ℕ)) (z : 0 < n) (long : Long n ts) (g 
       ((j : ℕ) → j < length ts → e < apart r (getD ts j [])) × ((j : ℕ) → j < length ts → (t ≡ j → ⊥) → e < apart r (mirrored (getD ts j [])))
   back-seen t h near =
       let m = length-sides ts in
-      let at : apart r (getD (sides ts) (length ts + t) []) ≤ e = rw (back-at ts t h) near in
-      (λ j l. rw (front-at ts j l) at (others (length ts + t) j (omega arith) (omega arith) (λ q. omega arith) at), λ j l f. rw (back-at ts j l) at (others (length ts + t) (length ts + j) (omega arith) (omega arith) (λ q. f (omega arith)) at))
+      let at : apart r (getD (sides ts) (length ts + t) []) ≤ e = rw (back-at ts t h) near in (
+        λ j l. rw (front-at ts j l) at (others (length ts + t) j (omega arith) (omega arith) (λ q. omega arith) at),
+        λ j l f. rw (back-at ts j l) at
+            (others (length ts + t) (length ts + j) (omega arith) (omega arith) (λ q. f (omega arith)) at),
+      )

@@ -89,7 +89,12 @@ module _ (w : List ℕ) (i j m x y : ℕ) (s : Seeks w i j m) (l : j < length w)
 
   -- the turns agree at every place: the shift is less than j
   pub seeks-alike : x ≡ y → m + 1 ≡ length w → i ≡ shift w
-  seeks-alike h k = elim (tri (shift w) j) [ lt o ↦ sym (s .only o) | eq o ↦ absurd (alike-shift w i j z (s .order) one (omega arith)) | gt o ↦ absurd (alike-shift w i j z (s .order) one (omega arith)) ]
+  seeks-alike h k = elim (tri (shift w) j) [
+    | lt o ↦ sym (s .only o)
+    | eq o ↦ absurd (alike-shift w i j z (s .order) one (omega arith))
+    | gt o ↦ absurd
+        (alike-shift w i j z (s .order) one (omega arith))
+  ]
     where
       left : length (turn i w) ≡ length w
       left = length-turn i w (omega (arith, s .inside))

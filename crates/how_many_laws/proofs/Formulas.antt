@@ -44,7 +44,8 @@ module _ (n k : ℕ) (z : 0 < n) where
   necklace-sum : n * howMany necklace n k ≡ overDivisors n (λ d. phi (n / d) * k ^ d)
   unfolding sized
   necklace-sum =
-      sym (weighted phi ∙ over-cong n (λ e. overDivisors (n / e) phi * sized e) (λ e. n * howMany lyndon e k) leaves ∙ over-scale n n (λ e. howMany lyndon e k) ∙ ap (λ (x : ℕ). n * x) (sym (necklaces-grouped n k z)))
+      sym (weighted phi ∙ over-cong n (λ e. overDivisors (n / e) phi * sized e) (λ e. n * howMany lyndon e k) leaves ∙ over-scale n n
+      (λ e. howMany lyndon e k) ∙ ap (λ (x : ℕ). n * x) (sym (necklaces-grouped n k z)))
     where
       leaves : (e : ℕ) → 0 < e → e ≤ n → e ∣ n → overDivisors (n / e) phi * sized e ≡ n * howMany lyndon e k
       leaves e p l q =

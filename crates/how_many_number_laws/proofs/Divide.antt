@@ -63,7 +63,8 @@ quotient-pos d n p h = ⊎-elim (λ e. absurd (omega (arith, sym (quotient d n h
 -- a multiple of a factor in common
 pub divides-scale : (e j m : ℕ) → 0 < e → divides (e * j) (e * m) ≡ divides j m
 divides-scale e j m z =
-    agree (divides (e * j) (e * m)) (divides j m) (λ h. divides-of j m (dvd-of-mul-dvd-mul-left j z (of-divides (e * j) (e * m) h))) (λ h. divides-of (e * j) (e * m) (mul-dvd-mul-left j e (of-divides j m h)))
+    agree (divides (e * j) (e * m)) (divides j m) (λ h. divides-of j m (dvd-of-mul-dvd-mul-left j z (of-divides (e * j) (e * m) h)))
+    (λ h. divides-of (e * j) (e * m) (mul-dvd-mul-left j e (of-divides j m h)))
 
 -- ---- sums over multiples
 
@@ -123,7 +124,8 @@ factor j m x z p = elim (test (divides j m)) [ passes e ↦ rw e (one (of-divide
 
     one : j ∣ m → sumTo m (λ c. when (eqb (j * c) m) (x c)) ≡ x (m / j)
     one h =
-        sum-one m (λ c. when (eqb (j * c) m) (x c)) (m / j) (quotient-pos j m p h) (div-le-self m j) (λ i a b q. rw (ne-eqb (j * i) m (λ y. q (eq-of-mul-eq-mul-left j z (m / j) i (quotient j m h ∙ sym y)))))
+        sum-one m (λ c. when (eqb (j * c) m) (x c)) (m / j) (quotient-pos j m p h) (div-le-self m j)
+        (λ i a b q. rw (ne-eqb (j * i) m (λ y. q (eq-of-mul-eq-mul-left j z (m / j) i (quotient j m h ∙ sym y)))))
         ∙ rw (eq-eqb (j * (m / j)) m (quotient j m h))
 
 -- the sum of g (m / d) over the divisors d of m is that of g d
@@ -174,7 +176,8 @@ module _ (n : ℕ) (g h : ℕ → ℕ) (pos : 0 < n) where
       none : divides e n ≡ false → sumTo n (λ d. pair d e) ≡ 0
       none q =
           sum-zero n (λ d. pair d e)
-          (λ d a b. rw (refuted (divides d n && divides e d) (λ y. not-divides e n q (dvd-trans e (of-divides e d (both-right (divides d n) (divides e d) y)) (of-divides d n (both-left (divides d n) (divides e d) y))))))
+          (λ d a b. rw (refuted (divides d n && divides e d) (λ y. not-divides e n q
+          (dvd-trans e (of-divides e d (both-right (divides d n) (divides e d) y)) (of-divides d n (both-left (divides d n) (divides e d) y))))))
 
       at : (m j : ℕ) → e * m ≡ n → pair (e * j) e ≡ h e * when (divides j m) (g (m / j))
       at m j q =

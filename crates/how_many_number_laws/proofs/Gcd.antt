@@ -60,7 +60,11 @@ pub gcd-is : (a b g : ℕ) → 0 < b → Common a b g → gcd a b ≡ g
 unfolding gcd dividesBoth
 gcd-is a b g q c =
     greatest-is b (dividesBoth a b) g (pos-of-dvd-of-pos (c .right) q) (le-of-dvd q (c .right)) (both (divides g a) (divides g b) (divides-of g a (c .left)) (divides-of g b (c .right)))
-    (λ j l m. refuted (dividesBoth a b j) (λ h. omega (arith, le-of-dvd (pos-of-dvd-of-pos (c .right) q) (c .most j (of-divides j a (both-left (divides j a) (divides j b) h)) (of-divides j b (both-right (divides j a) (divides j b) h))))))
+    (λ j l m. refuted (dividesBoth a b j) (λ h. omega (
+      arith,
+      le-of-dvd (pos-of-dvd-of-pos (c .right) q)
+          (c .most j (of-divides j a (both-left (divides j a) (divides j b) h)) (of-divides j b (both-right (divides j a) (divides j b) h))),
+    )))
 
 module _ (a b : ℕ) (p : 0 < a) (q : 0 < b) where
   pub gcd-common : Common a b (gcd a b)

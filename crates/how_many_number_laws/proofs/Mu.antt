@@ -70,12 +70,15 @@ module _ (p b : ℕ) (h : prime p ≡ true) (pos : 0 < b) where
     unfolding free
     apart =
         sum-cong (p * b) (λ c. bit (divides c (p * b) && (not (divides p c) && s c))) (λ c. bit (divides c b && (not (divides p c) && s c))) (λ c a l. ap bit (at c a (test (divides p c))))
-        ∙ sum-wider b (p * b) (λ c. bit (divides c b && (not (divides p c) && s c))) (omega (arith, mul-comm p b, le-mul-of-pos-right {m = p} b above)) (λ c a l. rw (divides-not c b (λ q. omega (arith, le-of-dvd pos q))))
+        ∙ sum-wider b (p * b) (λ c. bit (divides c b && (not (divides p c) && s c)))
+        (omega (arith, mul-comm p b, le-mul-of-pos-right {m = p} b above)) (λ c a l. rw (divides-not c b (λ q. omega (arith, le-of-dvd pos q))))
       where
         at : (c : ℕ) → 0 < c → Test (divides p c) → (divides c (p * b) && (not (divides p c) && s c)) ≡ (divides c b && (not (divides p c) && s c))
         at c a (passes y) = rw (y, not-right (divides c (p * b)) false refl, not-right (divides c b) false refl)
         at c a (fails y) =
-            let e : divides c (p * b) ≡ divides c b = agree (divides c (p * b)) (divides c b) (λ q. divides-of c b (gauss c p b a above pos (prime-gcd p c h a (not-divides p c y)) (of-divides c (p * b) q))) (λ q. divides-of c (p * b) (dvd-mul-left-of-dvd c (of-divides c b q) p)) in
+            let e : divides c (p * b) ≡ divides c b = agree (divides c (p * b)) (divides c b)
+            (λ q. divides-of c b (gauss c p b a above pos (prime-gcd p c h a (not-divides p c y)) (of-divides c (p * b) q)))
+            (λ q. divides-of c (p * b) (dvd-mul-left-of-dvd c (of-divides c b q) p)) in
             rw e
 
     times : sumTo (p * b) (λ c. bit (divides c (p * b) && (divides p c && s c))) ≡ free t

@@ -30,7 +30,9 @@ gcd-class d m n z p pos e =
     at : (j : ℕ) → 0 < j → eqb (gcd (d * j) n) d ≡ eqb (gcd j m) 1
     at j a =
         let s : gcd (d * j) n ≡ d * gcd j m = ap (gcd (d * j)) (sym e) ∙ gcd-scale j m a p d z in
-        rw s (agree (eqb (d * gcd j m) d) (eqb (gcd j m) 1) (λ h. eq-eqb (gcd j m) 1 (eq-of-mul-eq-mul-left d z (gcd j m) 1 (eqb-true (d * gcd j m) d h ∙ sym (mul-one d)))) (λ h. eq-eqb (d * gcd j m) d (ap (λ (x : ℕ). d * x) (eqb-true (gcd j m) 1 h) ∙ mul-one d)))
+        rw s (agree (eqb (d * gcd j m) d) (eqb (gcd j m) 1) (λ h. eq-eqb (gcd j m) 1
+        (eq-of-mul-eq-mul-left d z (gcd j m) 1 (eqb-true (d * gcd j m) d h ∙ sym (mul-one d))))
+        (λ h. eq-eqb (d * gcd j m) d (ap (λ (x : ℕ). d * x) (eqb-true (gcd j m) 1 h) ∙ mul-one d)))
 
 -- a sum over the numbers 1 to n, by their greatest common divisors with n
 pub gcd-sum : (n : ℕ) (f : ℕ → ℕ) → 0 < n → sumTo n (λ i. f (gcd i n)) ≡ overDivisors n (λ d. phi (n / d) * f d)
@@ -52,7 +54,9 @@ gcd-sum n f pos =
     class : (d : ℕ) → 0 < d → sumTo n (at d) ≡ when (divides d n) (phi (n / d) * f d)
     class d a =
         elim (test (divides d n)) [
-          | passes e ↦ rw e (sum-scale n (f d) (λ i. bit (eqb (gcd i n) d)) ∙ ap (λ (x : ℕ). f d * x) (gcd-class d (n / d) n a (quotient-pos d n pos (of-divides d n e)) pos (quotient d n (of-divides d n e))) ∙ mul-comm (f d) (phi (n / d)))
+          | passes e ↦ rw e (sum-scale n (f d) (λ i. bit (eqb (gcd i n) d)) ∙ ap (λ (x : ℕ). f d * x)
+              (gcd-class d (n / d) n a (quotient-pos d n pos (of-divides d n e)) pos (quotient d n (of-divides d n e))) ∙ mul-comm (f d)
+              (phi (n / d)))
           | fails e ↦ rw e (sum-zero n (at d) (λ i p b. rw (ne-eqb (gcd i n) d (λ y. not-divides d n e (subst (λ (x : ℕ). x ∣ n) y (gcd-common i n p pos .right)))) (mul-zero (f d))))
         ]
 

@@ -33,7 +33,9 @@ prime-above p h = ltb-true 1 p (both-left (ltb 1 p) (allBelow p (λ d. not (divi
 prime-none : (p d : ℕ) → prime p ≡ true → 1 < d → d < p → d ∣ p → ⊥
 unfolding prime divisorFromTwo
 prime-none p d h a b q =
-    clash (divisorFromTwo p d) (both (ltb 1 d) (divides d p) (lt-ltb 1 d a) (divides-of d p q)) (not-true (divisorFromTwo p d) (all-at p (λ d. not (divisorFromTwo p d)) (both-right (ltb 1 p) (allBelow p (λ d. not (divisorFromTwo p d))) h) d b))
+    clash (divisorFromTwo p d) (both (ltb 1 d) (divides d p) (lt-ltb 1 d a) (divides-of d p q))
+    (not-true (divisorFromTwo p d) (all-at p (λ d. not (divisorFromTwo p d)) (both-right (ltb 1 p) (allBelow p (λ d. not (divisorFromTwo p d))) h)
+    d b))
 
 -- only 1 and itself divide it
 pub prime-only : (p d : ℕ) → prime p ≡ true → d ∣ p → (d ≡ p → ⊥) → d ≡ 1
@@ -54,7 +56,9 @@ prime-gcd p a h i n =
 -- a number from 2 on that is no prime has a divisor from 2 on and below it
 smaller : (m : ℕ) → 1 < m → prime m ≡ false → (d : ℕ) × (d < m) × (not (divisorFromTwo m d) ≡ false)
 unfolding prime
-smaller m l e = not-all m (λ d. not (divisorFromTwo m d)) (refuted (allBelow m (λ d. not (divisorFromTwo m d))) (λ h. clash (prime m) (both (ltb 1 m) (allBelow m (λ d. not (divisorFromTwo m d))) (lt-ltb 1 m l) h) e))
+smaller m l e =
+    not-all m (λ d. not (divisorFromTwo m d)) (refuted (allBelow m (λ d. not (divisorFromTwo m d)))
+    (λ h. clash (prime m) (both (ltb 1 m) (allBelow m (λ d. not (divisorFromTwo m d))) (lt-ltb 1 m l) h) e))
 
 found : (m d : ℕ) → not (divisorFromTwo m d) ≡ false → (1 < d) × (d ∣ m)
 unfolding divisorFromTwo
@@ -104,7 +108,8 @@ module _ (p j : ℕ) (h : prime p ≡ true) (i : 0 < j) where
   -- a prime more
   pub free-more : (p ∣ j → ⊥) → squareFree (p * j) ≡ squareFree j
   free-more n =
-      agree (squareFree (p * j)) (squareFree j) (λ e. free-of j (λ d l q. free-at (p * j) d (mul-pos above i) e l (dvd-mul-left-of-dvd (d * d) q p))) (λ e. free-of (p * j) (λ d l q. split e d l q (test (divides p d))))
+      agree (squareFree (p * j)) (squareFree j) (λ e. free-of j (λ d l q. free-at (p * j) d (mul-pos above i) e l (dvd-mul-left-of-dvd (d * d) q p)))
+      (λ e. free-of (p * j) (λ d l q. split e d l q (test (divides p d))))
     where
       split : squareFree j ≡ true → (d : ℕ) → 1 < d → d * d ∣ p * j → Test (divides p d) → ⊥
       split e d l q (passes y) =
@@ -130,7 +135,9 @@ module _ (p j : ℕ) (h : prime p ≡ true) (i : 0 < j) where
     where
       other : eqb p q ≡ false → Test (prime q) → (prime q && divides q (p * j)) ≡ (prime q && divides q j)
       other e (fails y) = rw y
-      other e (passes y) = rw y (agree (divides q (p * j)) (divides q j) (λ s. divides-of q j (gauss q p j a above i (prime-gcd p q h a apart) (of-divides q (p * j) s))) (λ s. divides-of q (p * j) (dvd-mul-left-of-dvd q (of-divides q j s) p)))
+      other e (passes y) = rw y (agree (divides q (p * j)) (divides q j)
+          (λ s. divides-of q j (gauss q p j a above i (prime-gcd p q h a apart) (of-divides q (p * j) s)))
+          (λ s. divides-of q (p * j) (dvd-mul-left-of-dvd q (of-divides q j s) p)))
         where
           apart : p ∣ q → ⊥
           apart s = omega (arith, prime-above p h, prime-only q p y s (λ t. clash (eqb p q) (eq-eqb p q t) e))

@@ -64,7 +64,8 @@ module _ (n k : ℕ) (z : 0 < n) where
     where
       one : sumTo n (λ d. g d * bit (eqb (period w) d)) ≡ g (period w)
       one =
-          sum-one n (λ d. g d * bit (eqb (period w) d)) (period w) (period-pos w) (omega (arith, period-le w (omega (arith, r .long)), r .long)) (λ d a b q. rw (ne-eqb (period w) d q) (mul-zero (g d)))
+          sum-one n (λ d. g d * bit (eqb (period w) d)) (period w) (period-pos w) (omega (arith, period-le w (omega (arith, r .long)), r .long))
+          (λ d a b q. rw (ne-eqb (period w) d q) (mul-zero (g d)))
           ∙ rw (eq-eqb (period w) (period w) refl) (mul-one (g (period w)))
 
   -- a total over the necklaces, by their periods
@@ -106,5 +107,6 @@ module _ (n k : ℕ) (z : 0 < n) where
           rw e
           (
           zero-pow n z
-          ∙ sym (over-cong n (λ d. d * howMany lyndon d 0) (λ d. 0 * 0) (λ d a b q. ap (λ (x : ℕ). d * x) (no-shades lyndon d a) ∙ mul-zero d) ∙ over-scale n 0 (λ d. 0) ∙ zero-mul (overDivisors n (λ d. 0)))
+          ∙ sym (over-cong n (λ d. d * howMany lyndon d 0) (λ d. 0 * 0) (λ d a b q. ap (λ (x : ℕ). d * x) (no-shades lyndon d a) ∙ mul-zero d) ∙
+          over-scale n 0 (λ d. 0) ∙ zero-mul (overDivisors n (λ d. 0)))
           )

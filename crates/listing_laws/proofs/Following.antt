@@ -47,7 +47,8 @@ follows-walk k z (goes-on {v = v} {x = x} {rings = rings} {sum = sum} e f) r q =
       others = x ∷ w .others;
       more = moves k v (some x) + w .more;
       walk = step e (w .walk);
-      is = ap (λ (t : List ℕ). row k v x ++ t) (rw (a, b) at (w .is)) ∙ sym (append-assoc (row k v x) (rows k x (w .others)) (lastLine (rings + suc (length (w .others))) (sum + (moves k v (some x) + w .more))));
+      is = ap (λ (t : List ℕ). row k v x ++ t) (rw (a, b) at (w .is)) ∙ sym
+          (append-assoc (row k v x) (rows k x (w .others)) (lastLine (rings + suc (length (w .others))) (sum + (moves k v (some x) + w .more))));
     }
 
 -- all that follows what a page leaves
@@ -56,7 +57,8 @@ Behind k over t = t ≡ []
 Behind k (on u rings sum) t = Follows k u rings sum t
 
 -- the lines of a page and all that follows what it leaves
-pub goes-follows : {k room : ℕ} {v : List ℕ} {rings sum at : ℕ} {text : List ℕ} {rest : Rest} → Goes k room v rings sum at text rest → (t : List ℕ) → Behind k rest t → Follows k v rings sum (text ++ t)
+pub goes-follows : {k room : ℕ} {v : List ℕ} {rings sum at : ℕ} {text : List ℕ} {rest : Rest} → Goes k room v rings sum at text rest → (t : List ℕ) →
+    Behind k rest t → Follows k v rings sum (text ++ t)
 goes-follows (full h) t b = b
 goes-follows (total {rings = rings} {sum = sum} h e) t b = rw (b, append-nil (lastLine rings sum)) (ends e)
 goes-follows {k} {v = v} (line {x = x} {text = text} h e p) t b = rw (append-assoc (row k v x) text t) (goes-on e (goes-follows p t b))

@@ -102,14 +102,16 @@ fewer s (on v rings sum) st (inl f) a =
     omega (arith, left-some (s .n) (s .rings) (st .numbers .sized .0), left-some (s .n) rings (st .numbers .sized .0), stands-good (stateBehind s (on v rings sum)) f .rings)
 
 -- a page more leaves fewer
-pub pages-fall : (q : Page) (b : List ℕ) (r : Page) (b′ : List ℕ) → Stands (q .state) ⊎ (q .state ≡ emptyState) → rowRoom ≤ length b → 0 < q .length → Paged (Next (q .state) (length b)) b r b′ → pagesLeft r < pagesLeft q
+pub pages-fall : (q : Page) (b : List ℕ) (r : Page) (b′ : List ℕ) → Stands (q .state) ⊎ (q .state ≡ emptyState) → rowRoom ≤ length b → 0 < q .length →
+    Paged (Next (q .state) (length b)) b r b′ → pagesLeft r < pagesLeft q
 unfolding pagesLeft
 pages-fall q b r b′ st room h p = rw (behind-some (q .length) (left (q .state .n) (q .state .rings)) h) (go st (p .says))
   where
     none : r .length ≡ 0 → behind (r .length) (left (r .state .n) (r .state .rings)) < suc (left (q .state .n) (q .state .rings))
     none e = rw (behind-none (r .length) (left (r .state .n) (r .state .rings)) e) (omega arith)
 
-    go : Stands (q .state) ⊎ (q .state ≡ emptyState) → Next (q .state) (length b) (p .text) (r .state) → behind (r .length) (left (r .state .n) (r .state .rings)) < suc (left (q .state .n) (q .state .rings))
+    go : Stands (q .state) ⊎ (q .state ≡ emptyState) → Next (q .state) (length b) (p .text) (r .state) → behind (r .length)
+        (left (r .state .n) (r .state .rings)) < suc (left (q .state .n) (q .state .rings))
     go x (bad g e f) = none (p .long ∙ ap length e)
     go (inr e) (good g rest n f) = absurd (empty-bad (rw e at g))
     go (inl s) (good g rest n f) =

@@ -152,7 +152,8 @@ module _ {n k : ℕ} {v tail : List ℕ} {rings₀ sum₀ : ℕ} {b : List ℕ} 
   along-moves = omega (arith, a .summed, a .few, moves-bound k (a .last), ap (λ (x : ℕ). k ^ x) (a .reading .long), a .numbers .few)
 
   module _ (v′ : List ℕ) (m p′ : ℕ) (c : Came k (a .last) v′ m p′) where
-    facts : Reading (length (a .last)) k v′ × (before (a .last) v′ ≡ true) × (necklace v′ ≡ true) × ((u : List ℕ) → Reading (length (a .last)) k u → before (a .last) u ≡ true → necklace u ≡ true → upTo v′ u ≡ true)
+    facts : Reading (length (a .last)) k v′ × (before (a .last) v′ ≡ true) × (necklace v′ ≡ true) ×
+        ((u : List ℕ) → Reading (length (a .last)) k u → before (a .last) u ≡ true → necklace u ≡ true → upTo v′ u ≡ true)
     facts = next-facts necklace k (a .last) v′ (c .next)
 
     came-reading : Reading n k v′

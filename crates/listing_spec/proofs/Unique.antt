@@ -107,7 +107,8 @@ next-one s room t u a b (good h x p f) (bad g i j) = absurd (g h)
 next-one s room t u a b (good h x p f) (good g y q j) = let l = goes-one p q in (l .0, f ∙ ap (stateBehind s) (l .1) ∙ sym j)
 
 -- a text and a state determine the answer and the buffer afterwards
-pub one-page : (P : List ℕ → State → Type 0) → ((t u : List ℕ) (a b : State) → P t a → P u b → (t ≡ u) × (a ≡ b)) → (b : List ℕ) (r q : Page) (x y : List ℕ) → Paged P b r x → Paged P b q y → (r ≡ q) × (x ≡ y)
+pub one-page : (P : List ℕ → State → Type 0) → ((t u : List ℕ) (a b : State) → P t a → P u b → (t ≡ u) × (a ≡ b)) → (b : List ℕ) (r q : Page)
+    (x y : List ℕ) → Paged P b r x → Paged P b q y → (r ≡ q) × (x ≡ y)
 one-page P one b r q x y p g =
     let e = one (p .text) (g .text) (r .state) (q .state) (p .says) (g .says) in
     let l : r .length ≡ q .length = p .long ∙ ap length (e .0) ∙ sym (g .long) in

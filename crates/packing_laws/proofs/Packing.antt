@@ -75,7 +75,8 @@ as-one-low b s w m l h =
     let t : w ≡ take m w ++ (getD w m 0 ∷ []) = sym (take-all (suc m) w (omega arith)) ∙ take-suc w m 0 (omega arith) in
     let j : asOne b w ≡ asOne b (take m w) * 2 ^ (b - s) * 2 ^ s + getD w m 0 =
     ap (asOne b) t ∙ as-one-snoc b (take m w) (getD w m 0)
-    ∙ ap (λ (q : ℕ). q + getD w m 0) (ap (λ (q : ℕ). asOne b (take m w) * 2 ^ q) e ∙ ap (λ (q : ℕ). asOne b (take m w) * q) (pow-add 2 (b - s) s) ∙ sym (mul-assoc (asOne b (take m w)) (2 ^ (b - s)) (2 ^ s))) in
+    ∙ ap (λ (q : ℕ). q + getD w m 0) (ap (λ (q : ℕ). asOne b (take m w) * 2 ^ q) e ∙ ap (λ (q : ℕ). asOne b (take m w) * q) (pow-add 2 (b - s) s) ∙
+    sym (mul-assoc (asOne b (take m w)) (2 ^ (b - s)) (2 ^ s))) in
     ap (λ (q : ℕ). q % 2 ^ s) j ∙ mul-add-mod-self-right (asOne b (take m w) * 2 ^ (b - s)) (2 ^ s) (getD w m 0)
 
 -- so the unused bits of the last byte are the unused ones of all

@@ -47,7 +47,8 @@ pub byte-asks : (k n u i : ℕ) → Sized n → Shaded k → u ≡ width k → i
 byte-asks k n u i z h e l = (omega (arith, e, narrow k h), omega arith)
 
 -- n sectors w that the bytes hold may be checked beside them; v is what they were unpacked to
-pub check-asks : (k n : ℕ) (b v w : List ℕ) → n ≡ length w → w ≡ v → v ≡ shown Packed n k b → Sized n → Shaded k → length b ≡ bodyLength Packed n k → Sized (length w) × Shaded k × (length b ≡ bodyLength Packed (length w) k) × (w ≡ shown Packed (length w) k b)
+pub check-asks : (k n : ℕ) (b v w : List ℕ) → n ≡ length w → w ≡ v → v ≡ shown Packed n k b → Sized n → Shaded k → length b ≡ bodyLength Packed n k →
+    Sized (length w) × Shaded k × (length b ≡ bodyLength Packed (length w) k) × (w ≡ shown Packed (length w) k b)
 check-asks k n b v w f e h z q l =
     (omega (arith, z, f), q, l ∙ ap (λ (m : ℕ). bodyLength Packed m k) f, e ∙ h ∙ ap (λ (m : ℕ). shown Packed m k b) f)
 
@@ -83,5 +84,12 @@ module _ (w b : List ℕ) (k s u : ℕ) (long : length b ≡ bodyLength Packed (
     -- no necklace
     pub not-home : (i j : ℕ) → j ≡ byteOf u i → i ≡ lookAt w → necklace w ≡ false → clear ≡ true → Given (bodyOrder Packed (length w) k b s) (NotHome (s + 4 + j))
     not-home i j e f h z =
-        inr
-        ((belowThere, sym clearThere ∙ z), (ap (λ (x : ℕ). NotHome (s + 4 + x)) (e ∙ ap (λ (x : ℕ). byteOf x i) bits ∙ ap (byteOf (width k)) (f ∙ ap lookAt held)), λ o. clash (necklace (shown Packed (length w) k b)) o (ap necklace (sym held) ∙ h)))
+        inr (
+          (belowThere, sym clearThere ∙ z),
+          (
+            ap (λ (x : ℕ). NotHome (s + 4 + x))
+                (e ∙ ap (λ (x : ℕ). byteOf x i) bits ∙ ap (byteOf (width k)) (f ∙ ap lookAt held)),
+            λ o. clash (necklace (shown Packed (length w) k b)) o
+                (ap necklace (sym held) ∙ h),
+          ),
+        )

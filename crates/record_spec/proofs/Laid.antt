@@ -22,7 +22,8 @@ own x (a ∷ []) l m = absurd (omega arith)
 own x (a ∷ (b ∷ [])) l m = absurd (omega arith)
 own x (a ∷ (b ∷ (n ∷ []))) l m = absurd (omega arith)
 own x (a ∷ (b ∷ (n ∷ (k ∷ t)))) l m =
-    ap (λ (i : ℕ). i ∷ (b ∷ (n ∷ (k ∷ t)))) (m .0) ∙ ap (λ (i : ℕ). 0x52 ∷ (i ∷ (n ∷ (k ∷ t)))) (m .1) ∙ ap (λ (v : List ℕ). 0x52 ∷ (secondByte x ∷ (n ∷ (k ∷ v)))) (sym (take-append-drop (bodyLength x n k) t))
+    ap (λ (i : ℕ). i ∷ (b ∷ (n ∷ (k ∷ t)))) (m .0) ∙ ap (λ (i : ℕ). 0x52 ∷ (i ∷ (n ∷ (k ∷ t)))) (m .1) ∙ ap
+    (λ (v : List ℕ). 0x52 ∷ (secondByte x ∷ (n ∷ (k ∷ v)))) (sym (take-append-drop (bodyLength x n k) t))
 
 -- a part that begins with a record is its bytes and what follows
 pub whole : (x : Kind) (t : List ℕ) (n k : ℕ) (v : List ℕ) → 4 ≤ length t → Marked t x → n ≡ nOf t → k ≡ kOf t → v ≡ bodyOf x t → t ≡ bytes x n k v ++ drop (4 + bodyLength x n k) t

@@ -48,7 +48,13 @@ module _ (w : List ℕ) (k : ℕ) (x : Kind) (g : Passed (oneReading w k)) where
   -- the part that begins at the place
   pub placed-bytes : (t u : List ℕ) → RecordPlaced w k x t u → u ≡ recordBytes x k w ++ drop (4 + bodyLength x (length w) k) t
   placed-bytes t u h =
-      whole x u (length w) k (stored x k (home w)) (omega (arith, long, length-take (bodyLength x (nOf u) (kOf u)) (drop 4 u), length-drop 4 u, some-bytes (length w) k x some (g .0 .0 .0 .0 .1))) (h .marked) (h .sectors) (h .shades) (h .ring)
+      whole x u (length w) k (stored x k (home w)) (omega (
+        arith,
+        long,
+        length-take (bodyLength x (nOf u) (kOf u)) (drop 4 u),
+        length-drop 4 u,
+        some-bytes (length w) k x some (g .0 .0 .0 .0 .1),
+      )) (h .marked) (h .sectors) (h .shades) (h .ring)
       ∙ ap (λ (v : List ℕ). recordBytes x k w ++ v) (h .behind)
     where
       long : length (bodyOf x u) ≡ bodyLength x (length w) k

@@ -24,7 +24,8 @@ pub length-told : (n k u l : ℕ) → u ≡ width k → l ≡ packedLength u n �
 length-told n k u l e f = f ∙ ap (λ (x : ℕ). packedLength x n) e
 
 -- the home reading may be packed
-pub pack-asks : (w : List ℕ) (k u m : ℕ) (v : List ℕ) → Passed (oneReading w k) → u ≡ width k → v ≡ home w → m ≡ bodyLength Packed (length w) k → (u ≤ 8) × BitsFit u v × (m ≡ packedLength u (length v))
+pub pack-asks : (w : List ℕ) (k u m : ℕ) (v : List ℕ) → Passed (oneReading w k) → u ≡ width k → v ≡ home w → m ≡ bodyLength Packed (length w) k →
+    (u ≤ 8) × BitsFit u v × (m ≡ packedLength u (length v))
 pack-asks w k u m v g e f l =
     (omega (arith, e, narrow k (g .0 .0 .0 .0 .1)), rw (e, f) (shades-fit k (home w) (home-below w k g)), rw (e, f) (l ∙ ap (packedLength (width k)) (sym (length-home w (g .0 .0 .0 .0 .0 .0 .0)))))
 

@@ -20,7 +20,8 @@ tests a =
     ▹ all (λ i. ltb (getD (a .sectors) i 0) (a .limit i)) (λ i. below-tells (getD (a .sectors) i 0) (a .limit i))
     ▹ one (passing (a .room) (λ m. eqb m (a .n))) (passing-tells (a .room) (λ m. eqb m (a .n)) (λ m. m ≡ a .n) (λ m. equal-tells m (a .n)))
     ▹ one (passing (a .counts) (λ cs. eqb (length cs) (a .k) && eqb (sumOf cs) (a .n)))
-    (passing-tells (a .counts) (λ cs. eqb (length cs) (a .k) && eqb (sumOf cs) (a .n)) (λ cs. CountsFit cs (a .k) (a .n)) (λ cs. both-tell (equal-tells (length cs) (a .k)) (equal-tells (sumOf cs) (a .n))))
+    (passing-tells (a .counts) (λ cs. eqb (length cs) (a .k) && eqb (sumOf cs) (a .n)) (λ cs. CountsFit cs (a .k) (a .n))
+    (λ cs. both-tell (equal-tells (length cs) (a .k)) (equal-tells (sumOf cs) (a .n))))
     ▹ one (a .onWalk) (same-tells (a .onWalk))
 
 -- the refusal that is given, or none

@@ -91,7 +91,8 @@ lyndon-reached (suc (suc (suc m))) k z h two = long (suc (suc (suc m))) (omega a
   where
     long : (n : ℕ) → 3 ≤ n → stepMoves lyndon k (lyndonStart k n) ≡ lyndonCeiling n
     long n h =
-        climb lyndon lyndon-prenecklace k n two (omega arith) (n / 2) ((n - 1) / 2) (omega arith) (omega arith) (omega arith) (λ q l m. no-lyndon k n two q (omega arith) m (omega arith)) (last-lyndon k n two (omega arith))
+        climb lyndon lyndon-prenecklace k n two (omega arith) (n / 2) ((n - 1) / 2) (omega arith) (omega arith) (omega arith)
+        (λ q l m. no-lyndon k n two q (omega arith) m (omega arith)) (last-lyndon k n two (omega arith))
         ∙ omega arith
 
 -- from `necklaceStart` (n + 1) / 2 moves lead to the next necklace
@@ -100,7 +101,8 @@ necklace-reached n k z two = elim (tri 1 n) [ lt l ↦ long l | eq e ↦ rw (←
   where
     long : 1 < n → stepMoves necklace k (necklaceStart k n) ≡ necklaceCeiling n
     long h =
-        climb necklace necklace-prenecklace k n two z ((n + 1) / 2 - 1) (n / 2) (omega arith) (omega arith) (omega arith) (λ q l m. no-necklace k n two q (omega arith) m (omega arith)) (lyndon-necklace (notched k n n) (last-lyndon k n two z))
+        climb necklace necklace-prenecklace k n two z ((n + 1) / 2 - 1) (n / 2) (omega arith) (omega arith) (omega arith)
+        (λ q l m. no-necklace k n two q (omega arith) m (omega arith)) (lyndon-necklace (notched k n n) (last-lyndon k n two z))
         ∙ omega arith
 
 -- ---- the ceilings are the best ones

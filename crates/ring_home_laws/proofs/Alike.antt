@@ -139,7 +139,8 @@ differing-turn i v w e h = turned ∙ omega (arith, whole)
 
     whole : differing v w ≡ differing (take i v) (take i w) + differing (drop i v) (drop i w)
     whole =
-        ap (λ x. differing x w) (sym (take-append-drop i v)) ∙ ap (differing (take i v ++ drop i v)) (sym (take-append-drop i w)) ∙ differing-append (take i v) (drop i v) (take i w) (drop i w) (simp (length-take, e))
+        ap (λ x. differing x w) (sym (take-append-drop i v)) ∙ ap (differing (take i v ++ drop i v)) (sym (take-append-drop i w)) ∙ differing-append
+        (take i v) (drop i v) (take i w) (drop i w) (simp (length-take, e))
 
 -- ---- apart
 
@@ -153,7 +154,8 @@ pub apart-turn-le : (v w : List ℕ) (i : ℕ) → i < length v → apart v w �
 unfolding apart turnDiffers
 apart-turn-le v w i h =
     elim (tri (differing (turn i v) w) (apart v w)) [
-      | lt l ↦ clash (turnDiffers v w (differing (turn i v) w)) (some-of (length v) (λ j. eqb (differing (turn j v) w) (differing (turn i v) w)) i h (eq-eqb (differing (turn i v) w) (differing (turn i v) w) refl)) (least-none (length v) (turnDiffers v w) (differing (turn i v) w) l)
+      | lt l ↦ clash (turnDiffers v w (differing (turn i v) w)) (some-of (length v) (λ j. eqb (differing (turn j v) w) (differing (turn i v) w)) i h
+          (eq-eqb (differing (turn i v) w) (differing (turn i v) w) refl)) (least-none (length v) (turnDiffers v w) (differing (turn i v) w) l)
       | eq l ↦ omega arith
       | gt l ↦ omega arith
     ]

@@ -38,7 +38,12 @@ least-of g (suc (suc n)) z = wider (least-of g (suc n) (omega arith))
     wider (i, l, h) =
         elim (test (upTo (g i) (g (suc n)))) [
           | passes e ↦ (i, omega arith, one-more (λ j. upTo (g i) (g j) ≡ true) (suc n) h e)
-          | fails e ↦ (suc n, omega arith, one-more (λ j. upTo (g (suc n)) (g j) ≡ true) (suc n) (λ j k. upTo-trans (g (suc n)) (g i) (g j) (upTo-total (g i) (g (suc n)) e) (h j k)) (upTo-refl (g (suc n))))
+          | fails e ↦ (
+            suc n,
+            omega arith,
+            one-more (λ j. upTo (g (suc n)) (g j) ≡ true) (suc n)
+                (λ j k. upTo-trans (g (suc n)) (g i) (g j) (upTo-total (g i) (g (suc n)) e) (h j k)) (upTo-refl (g (suc n))),
+          )
         ]
 
 -- the turn by i is the least turn, as a fact

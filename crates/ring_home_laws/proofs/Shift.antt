@@ -62,5 +62,6 @@ never-shift w a b m t h k l d e = on (turn-again a t w z h (omega (arith, long))
 pub alike-shift : (w : List ℕ) (i j : ℕ) → 0 < length w → i < j → turn i w ≡ turn j w → j ≤ shift w → ⊥
 alike-shift w i j z l e h =
     let t = shift w - j in
-    let on : turn (i + t) w ≡ home w = sym (turn-turn i t w (omega (arith, shift-lt w z))) ∙ ap (turn t) e ∙ turn-turn j t w (omega (arith, shift-lt w z)) ∙ ap (λ x. turn x w) (omega arith) ∙ sym (home-turn-of w) in
+    let on : turn (i + t) w ≡ home w = sym (turn-turn i t w (omega (arith, shift-lt w z))) ∙ ap (turn t) e ∙ turn-turn j t w
+    (omega (arith, shift-lt w z)) ∙ ap (λ x. turn x w) (omega arith) ∙ sym (home-turn-of w) in
     omega (arith, shift-first w z (i + t) on)

@@ -55,7 +55,8 @@ module _ (kind : List ℕ → Bool) (only : Kind kind) (k : ℕ) (w : List ℕ) 
           let p = both-right (before w u) (kind u) h in
           both (before (nextPrenecklace k w) u) (kind u) (strictly u p (next-upTo k w z pre u r (only u p) (both-left (before w u) (kind u) h))) p)
           (λ h.
-          both (before w u) (kind u) (before-trans w (nextPrenecklace k w) u (next-before k w z) (both-left (before (nextPrenecklace k w) u) (kind u) h)) (both-right (before (nextPrenecklace k w) u) (kind u) h))
+          both (before w u) (kind u) (before-trans w (nextPrenecklace k w) u (next-before k w z)
+          (both-left (before (nextPrenecklace k w) u) (kind u) h)) (both-right (before (nextPrenecklace k w) u) (kind u) h))
 
   -- the answer from a prenecklace is not below it
   reaches : (c : List ℕ) (answer : Option (List ℕ)) → nextOf kind k c ≡ answer → Reaches c answer
@@ -101,7 +102,13 @@ pub bound-lyn : (f k : ℕ) (w : List ℕ) → Reading (length w) k w → 0 < le
 bound-lyn zero k w reading pos pre h b = absurd (omega arith)
 bound-lyn (suc f) k w reading pos pre h b =
     elim (tri 0 (lastLow k w)) [
-      | lt z ↦ elim (test (necklace (nextPrenecklace k w))) [ passes q ↦ found z q | fails q ↦ on z q (bound-lyn f k (nextPrenecklace k w) (again z) (omega (arith, length-next k w)) (next-prenecklace k w z pre) (not-full k (nextPrenecklace k w) (again z) (omega (arith, length-next k w)) (next-prenecklace k w z pre) q) (omega (arith, length-next k w, next-lyn-low k w z pre, lyn-rises k w reading pos pre z h))) ]
+      | lt z ↦ elim (test (necklace (nextPrenecklace k w))) [
+        | passes q ↦ found z q
+        | fails q ↦ on z q
+            (bound-lyn f k (nextPrenecklace k w) (again z) (omega (arith, length-next k w)) (next-prenecklace k w z pre)
+            (not-full k (nextPrenecklace k w) (again z) (omega (arith, length-next k w)) (next-prenecklace k w z pre) q)
+            (omega (arith, length-next k w, next-lyn-low k w z pre, lyn-rises k w reading pos pre z h)))
+      ]
       | eq z ↦ omega (arith, bound-last necklace k w (sym z))
       | gt z ↦ absurd (omega arith)
     ]

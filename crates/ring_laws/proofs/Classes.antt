@@ -132,7 +132,8 @@ equal-class Single Single e f = refl
 
 pub same-class : (a b : Class) → sameClass a b ≡ true → a ≡ b
 same-class a b h =
-    equal-class a b (eqb-true (tagOf a) (tagOf b) (both-left (eqb (tagOf a) (tagOf b)) (eqb (valueOf a) (valueOf b)) h)) (eqb-true (valueOf a) (valueOf b) (both-right (eqb (tagOf a) (tagOf b)) (eqb (valueOf a) (valueOf b)) h))
+    equal-class a b (eqb-true (tagOf a) (tagOf b) (both-left (eqb (tagOf a) (tagOf b)) (eqb (valueOf a) (valueOf b)) h))
+    (eqb-true (valueOf a) (valueOf b) (both-right (eqb (tagOf a) (tagOf b)) (eqb (valueOf a) (valueOf b)) h))
 
 -- a reading is Loose exactly where it is no prenecklace
 pub loose-class : (v : List ℕ) → isLoose (classOf v) ≡ true → prenecklace v ≡ false

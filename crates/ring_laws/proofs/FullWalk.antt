@@ -45,7 +45,8 @@ fewer-above n k w v r gap =
 
 module _ (kind : List ℕ → Bool) (k : ℕ) where
   -- what the next of a kind is
-  pub next-facts : (w v : List ℕ) → nextOf kind k w ≡ some v → Reading (length w) k v × (before w v ≡ true) × (kind v ≡ true) × ((u : List ℕ) → Reading (length w) k u → before w u ≡ true → kind u ≡ true → upTo v u ≡ true)
+  pub next-facts : (w v : List ℕ) → nextOf kind k w ≡ some v → Reading (length w) k v × (before w v ≡ true) × (kind v ≡ true) ×
+      ((u : List ℕ) → Reading (length w) k u → before w u ≡ true → kind u ≡ true → upTo v u ≡ true)
   unfolding nextOf aboveOf
   next-facts w v e =
       let f = first-some (length w) k (aboveOf kind w) v e in
@@ -64,7 +65,8 @@ module _ (kind : List ℕ → Bool) (k : ℕ) where
       stepped : (w v : List ℕ) → nextOf kind k w ≡ some v → (rings : List (List ℕ)) × (m : ℕ) × FullWalk kind k v rings m → (rings : List (List ℕ)) × (m : ℕ) × FullWalk kind k w rings m
       stepped w v e (rings, m, f) = (v ∷ rings, moves k w (some v) + m, step e f)
 
-      look : (w : List ℕ) → ((v : List ℕ) → nextOf kind k w ≡ some v → (rings : List (List ℕ)) × (m : ℕ) × FullWalk kind k v rings m) → (o : Option (List ℕ)) → nextOf kind k w ≡ o → (rings : List (List ℕ)) × (m : ℕ) × FullWalk kind k w rings m
+      look : (w : List ℕ) → ((v : List ℕ) → nextOf kind k w ≡ some v → (rings : List (List ℕ)) × (m : ℕ) × FullWalk kind k v rings m) →
+          (o : Option (List ℕ)) → nextOf kind k w ≡ o → (rings : List (List ℕ)) × (m : ℕ) × FullWalk kind k w rings m
       look w next none e = ([], moves k w none, done e)
       look w next (some v) e = stepped w v e (next v e)
 

@@ -52,7 +52,9 @@ module _ (w : List ℕ) (p : ℕ) (r : Run (sec w) (length w) p) where
           let j = p + m - length w in
           let e : p + m ≡ length w + j = omega arith in
           let q : length w ≡ length w / p * p = omega (arith, div-add-mod' (length w) p) in
-          turn-high p w (r .fits) m j e b ∙ run-rep (sec w) (length w) p r j (omega arith) ∙ ap (sec w) (sym (mul-add-mod-self-right (length w / p) p j) ∙ ap (λ (x : ℕ). (x + j) % p) (sym q) ∙ ap (λ (x : ℕ). x % p) (sym e ∙ omega arith) ∙ add-mod-right m p) ∙ sym (run-rep (sec w) (length w) p r m b)
+          turn-high p w (r .fits) m j e b ∙ run-rep (sec w) (length w) p r j (omega arith) ∙ ap (sec w)
+          (sym (mul-add-mod-self-right (length w / p) p j) ∙ ap (λ (x : ℕ). (x + j) % p) (sym q) ∙ ap (λ (x : ℕ). x % p) (sym e ∙ omega arith) ∙
+          add-mod-right m p) ∙ sym (run-rep (sec w) (length w) p r m b)
 
       at : (m : ℕ) → m < length w → getD (turn p w) m 0 ≡ getD w m 0
       at m b =

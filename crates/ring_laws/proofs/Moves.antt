@@ -71,14 +71,21 @@ module _ (k : ℕ) (w c : List ℕ) (long : length c ≡ length w) (up : upTo w 
   unfolding moves
   moves-last =
       let v = nextPrenecklace k c in
-      let s = count-split (passed w (some v)) (passed w (some c)) (same v) (readings (length w) k) (split-last (length w) k w c v up (next-before k c z) (next-prenecklace k c z pre) (λ u r p l. next-upTo k c z pre u (rw long r) p l)) (readings-all (length w) k) in
+      let s = count-split (passed w (some v)) (passed w (some c)) (same v) (readings (length w) k)
+      (split-last (length w) k w c v up (next-before k c z) (next-prenecklace k c z pre) (λ u r p l. next-upTo k c z pre u (rw long r) p l))
+      (readings-all (length w) k) in
       omega (arith, s, count-one (length w) k v (next-reading k c z (length w) reading))
 
 -- v is the least prenecklace above w: u is passed from w on where it is v or is passed from v on, for an answer not below v
 module _ (n k : ℕ) (w v : List ℕ) (gap : before w v ≡ true) (prev : prenecklace v ≡ true) (least : (u : List ℕ) → Reading n k u → prenecklace u ≡ true → before w u ≡ true → upTo v u ≡ true) where
   above-first : (u : List ℕ) → Reading n k u → bit (aboveOf prenecklace w u) ≡ bit (same v u) + bit (aboveOf prenecklace v u)
   unfolding aboveOf
-  above-first u r = elim (lex u v) [ ahead l ↦ under l (test (aboveOf prenecklace w u)) | equal e ↦ rw (e, gap, prev, same-refl v, before-irrefl v) (omega arith) | behind l ↦ rw (before-trans w v u gap l, l, before-not-same v u l) (omega arith) ]
+  above-first u r = elim (lex u v) [
+    | ahead l ↦ under l (test (aboveOf prenecklace w u))
+    | equal e ↦ rw (e, gap, prev, same-refl v, before-irrefl v)
+        (omega arith)
+    | behind l ↦ rw (before-trans w v u gap l, l, before-not-same v u l) (omega arith)
+  ]
     where
       under : before u v ≡ true → Test (aboveOf prenecklace w u) → bit (before w u && prenecklace u) ≡ bit (same v u) + bit (before v u && prenecklace u)
       under l (passes a) = clash (upTo v u) (least u r (both-right (before w u) (prenecklace u) a) (both-left (before w u) (prenecklace u) a)) (before-not-upTo v u l)
@@ -105,7 +112,9 @@ module _ (k : ℕ) (w : List ℕ) (reading : Reading (length w) k w) (pre : pren
   unfolding moves
   moves-first answer h =
       let v = nextPrenecklace k w in
-      let s = count-split (passed w answer) (same v) (passed v answer) (readings (length w) k) (split-first (length w) k w v (next-before k w z) (next-prenecklace k w z pre) (next-upTo k w z pre) answer h) (readings-all (length w) k) in
+      let s = count-split (passed w answer) (same v) (passed v answer) (readings (length w) k)
+      (split-first (length w) k w v (next-before k w z) (next-prenecklace k w z pre) (next-upTo k w z pre) answer h) (readings-all (length w) k)
+      in
       rw (length-next k w) (omega (arith, s, count-one (length w) k v (next-reading k w z (length w) reading)))
 
 -- nothing is passed where every sector is k - 1

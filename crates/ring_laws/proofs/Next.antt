@@ -156,7 +156,8 @@ module _ (k : ℕ) (w : List ℕ) (z : 0 < lastLow k w) where
     pub next-some : Reading (length w) k w → nextOf prenecklace k w ≡ some (nextPrenecklace k w)
     unfolding nextOf aboveOf
     next-some reading =
-        first-is (length w) k (aboveOf prenecklace w) (nextPrenecklace k w) (next-reading (length w) reading) (both (before w (nextPrenecklace k w)) (prenecklace (nextPrenecklace k w)) next-before next-prenecklace)
+        first-is (length w) k (aboveOf prenecklace w) (nextPrenecklace k w) (next-reading (length w) reading)
+        (both (before w (nextPrenecklace k w)) (prenecklace (nextPrenecklace k w)) next-before next-prenecklace)
         (λ u r h. next-upTo u r (both-right (before w u) (prenecklace u) h) (both-left (before w u) (prenecklace u) h))
 
 -- where no sector can be raised nothing is above, of whatever kind
@@ -175,7 +176,12 @@ next-none kind k w z =
 pub low-or-full : (n k : ℕ) (w : List ℕ) → Reading n k w → (lastLow k w ≡ 0) ↔ (w ≡ replicate n (k - 1))
 low-or-full n k w reading = (
   λ z. ext-getD 0 w (replicate n (k - 1)) (reading .long ∙ sym (length-replicate n (k - 1))) (λ i b. top i z (rw (reading .long) at b) ∙ sym (getD-replicate n i (k - 1) 0 (rw (reading .long) at b))),
-  λ e. elim (tri 0 (lastLow k w)) [ lt z ↦ absurd (omega (arith, low-at k w z, same-sector e (lastLow k w - 1) (omega (arith, low-le k w, reading .long)))) | eq z ↦ sym z | gt z ↦ absurd (omega arith) ],
+  λ e. elim (tri 0 (lastLow k w)) [
+    | lt z ↦ absurd (omega (arith, low-at k w z, same-sector e (lastLow k w - 1) (omega (arith, low-le k w, reading .long))))
+    | eq z ↦ sym z
+    | gt z
+        ↦ absurd (omega arith)
+  ],
 )
   where
     top : (i : ℕ) → lastLow k w ≡ 0 → i < n → getD w i 0 ≡ k - 1
@@ -187,6 +193,12 @@ low-or-full n k w reading = (
 -- there is a next prenecklace exactly when the reading is not all k - 1
 pub next-none-full : (n k : ℕ) (w : List ℕ) → Reading n k w → prenecklace w ≡ true → (nextOf prenecklace k w ≡ none) ↔ (w ≡ replicate n (k - 1))
 next-none-full n k w reading pre = (
-  λ e. low-or-full n k w reading .0 (elim (tri 0 (lastLow k w)) [ lt z ↦ absurd (let q = next-some k w z pre (rw (reading .long) reading) in let x : _≡_ {A = ℕ} 0 1 = cc in omega arith) | eq z ↦ sym z | gt z ↦ absurd (omega arith) ]),
+  λ e. low-or-full n k w reading .0 (elim (tri 0 (lastLow k w)) [
+    | lt z ↦ absurd
+        (let q = next-some k w z pre (rw (reading .long) reading) in let x : _≡_ {A = ℕ} 0 1 = cc in omega arith)
+    | eq z ↦ sym z
+    | gt z ↦ absurd
+        (omega arith)
+  ]),
   λ e. next-none prenecklace k w (low-or-full n k w reading .1 e),
 )

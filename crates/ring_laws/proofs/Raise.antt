@@ -79,7 +79,29 @@ module _ (k : ℕ) (a : ℕ → ℕ) (n j : ℕ) (b : ℕ → ℕ) (raised : Rai
       within h =
           elim (tri (l .at) (up .at)) [
             | lt e ↦ omega (arith, l .less, up .agree (l .at) e, raised .keep (l .at) (omega (arith, early)), rep-low b (suc j) (l .at) (omega arith))
-            | eq e ↦ elim (tri (l .at) j) [ lt f ↦ omega (arith, l .less, up .less, place a (l .at) (up .at) e, place v (l .at) (up .at) e, raised .keep (l .at) f, rep-low b (suc j) (l .at) (omega arith)) | eq f ↦ omega (arith, l .less, up .less, place a (l .at) (up .at) e, place v (l .at) (up .at) e, place b (l .at) j f, place a (l .at) j f, raised .rise, rep-low b (suc j) (l .at) (omega arith)) | gt f ↦ omega arith ]
+            | eq e ↦ elim (tri (l .at) j) [
+              | lt f ↦ omega (
+                arith,
+                l .less,
+                up .less,
+                place a (l .at) (up .at) e,
+                place v (l .at) (up .at) e,
+                raised .keep (l .at) f,
+                rep-low b (suc j) (l .at) (omega arith),
+              )
+              | eq f ↦ omega (
+                arith,
+                l .less,
+                up .less,
+                place a (l .at) (up .at) e,
+                place v (l .at) (up .at) e,
+                place b (l .at) j f,
+                place a (l .at) j f,
+                raised .rise,
+                rep-low b (suc j) (l .at) (omega arith),
+              )
+              | gt f ↦ omega arith
+            ]
             | gt e ↦ omega (arith, up .less, l .agree (up .at) e, raised .keep (up .at) (omega arith), rep-low b (suc j) (up .at) (omega arith))
           ]
 

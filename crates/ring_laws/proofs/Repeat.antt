@@ -100,7 +100,8 @@ module _ (a : ℕ → ℕ) where
 
       front : (m : ℕ) → m < s → t m ≡ a m
       front m h =
-          turned .low m (n - s + m) refl (omega (arith, inside)) ∙ run-rep n p r (n - s + m) (omega (arith, inside)) ∙ ap a (ap (λ (x : ℕ). (x + m) % p) whole ∙ mul-add-mod-self-right (n / p) p m ∙ mod-eq-of-lt (omega (arith, short)))
+          turned .low m (n - s + m) refl (omega (arith, inside)) ∙ run-rep n p r (n - s + m) (omega (arith, inside)) ∙ ap a
+          (ap (λ (x : ℕ). (x + m) % p) whole ∙ mul-add-mod-self-right (n / p) p m ∙ mod-eq-of-lt (omega (arith, short)))
         where
           whole : n - s ≡ n / p * p
           whole = omega (arith, div-add-mod' n p)

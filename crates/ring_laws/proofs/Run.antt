@@ -54,13 +54,25 @@ module _ (a : ℕ → ℕ) where
       shifted : (i : ℕ) → p < i → i < suc n → Less a (from (i - p) a) (suc n - (i - p)) → Less a (from i a) (suc n - i)
       shifted i q l w =
           elim (tri (i + w .at) n) [
-            | lt e ↦ record { at = w .at; bound = omega arith; agree = λ m b. w .agree m b ∙ sym (r .again (i + m) (i - p + m) (omega arith) (omega arith)); less = omega (arith, w .less, r .again (i + w .at) (i - p + w .at) (omega arith) e) }
+            | lt e ↦ record {
+              at = w .at;
+              bound = omega arith;
+              agree = λ m b. w .agree m b ∙ sym
+                  (r .again (i + m) (i - p + m) (omega arith) (omega arith));
+              less = omega
+                  (arith, w .less, r .again (i + w .at) (i - p + w .at) (omega arith) e);
+            }
             | eq e ↦ past (omega arith)
             | gt e ↦ past (omega arith)
           ]
         where
           top : n ≤ i + w .at → a (n - i) ≤ a (i - p + (n - i))
-          top e = elim (tri (n - i) (w .at)) [ lt b ↦ omega (arith, w .agree (n - i) b) | eq b ↦ omega (arith, w .less, place a (n - i) (w .at) b, place a (i - p + (n - i)) (i - p + w .at) (omega arith)) | gt b ↦ absurd (omega arith) ]
+          top e = elim (tri (n - i) (w .at)) [
+            | lt b ↦ omega (arith, w .agree (n - i) b)
+            | eq b ↦ omega
+                (arith, w .less, place a (n - i) (w .at) b, place a (i - p + (n - i)) (i - p + w .at) (omega arith))
+            | gt b ↦ absurd (omega arith)
+          ]
 
           past : n ≤ i + w .at → Less a (from i a) (suc n - i)
           past e =
@@ -89,7 +101,13 @@ module _ (a : ℕ → ℕ) where
       go zero i b l = omega arith
       go (suc f) i b l =
           elim (tri i p) [
-            | lt e ↦ elim (tri 0 i) [ lt z ↦ less-asym (from i a) a (n - i) l (widen a (from i a) (p - i) (n - i) (omega (arith, r .fits)) (r .lyn i z e)) | eq z ↦ omega (arith, l .less, place a (i + l .at) (l .at) (omega arith)) | gt z ↦ omega arith ]
+            | lt e ↦ elim (tri 0 i) [
+              | lt z ↦ less-asym (from i a) a (n - i) l
+                  (widen a (from i a) (p - i) (n - i) (omega (arith, r .fits)) (r .lyn i z e))
+              | eq z ↦ omega
+                  (arith, l .less, place a (i + l .at) (l .at) (omega arith))
+              | gt z ↦ omega arith
+            ]
             | eq e ↦ omega (arith, l .less, r .again (i + l .at) (l .at) (omega arith) (omega (arith, l .bound)))
             | gt e ↦ go f (i - p) (omega (arith, r .pos)) (back i e l)
           ]

@@ -49,7 +49,13 @@ module _ (n k : ℕ) (w : List ℕ) (reading : Reading n k w) (z : 0 < n) where
   unfolding keeps
   one-extension h b =
       elim (tri b keeps) [
-        | lt l ↦ let e = extend-smaller w pos h b l in rw (e, ne-eqb keeps b (λ q. omega arith), refuted (lyndon (snoc w b)) (λ y. clash (prenecklace (snoc w b)) (lyndon-prenecklace (snoc w b) y) e)) (omega arith)
+        | lt l ↦ let e = extend-smaller w pos h b l in
+            rw (
+              e,
+              ne-eqb keeps b (λ q. omega arith),
+              refuted (lyndon (snoc w b))
+                  (λ y. clash (prenecklace (snoc w b)) (lyndon-prenecklace (snoc w b) y) e),
+            ) (omega arith)
         | eq l ↦ let e = extend-same w pos h b l in rw (e .0, eq-eqb keeps b (sym l), no-lyndon (e .0) (e .1)) (omega arith)
         | gt l ↦ let e = extend-greater w pos h b l in rw (e .1, e .0, ne-eqb keeps b (λ q. omega arith)) (omega arith)
       ]
@@ -63,7 +69,8 @@ module _ (n k : ℕ) (w : List ℕ) (reading : Reading n k w) (z : 0 < n) where
   one-keeps : prenecklace w ≡ true → sumBelow k (λ b. bit (eqb keeps b)) ≡ 1
   unfolding keeps
   one-keeps h =
-      sum-one k (λ b. bit (eqb keeps b)) keeps (reading .shades (length w - lyn w) (omega (arith, reading .long, lyn-run w pos h .pos, lyn-run w pos h .fits))) (λ b l q. rw (ne-eqb keeps b q)) ∙ rw (eq-eqb keeps keeps refl)
+      sum-one k (λ b. bit (eqb keeps b)) keeps (reading .shades (length w - lyn w)
+      (omega (arith, reading .long, lyn-run w pos h .pos, lyn-run w pos h .fits))) (λ b l q. rw (ne-eqb keeps b q)) ∙ rw (eq-eqb keeps keeps refl)
 
   -- the prenecklaces that extend w: one where w is a prenecklace, and the Lyndon words that extend it
   pub snoc-one : sumBelow k (λ b. bit (prenecklace (snoc w b))) ≡ bit (prenecklace w) + sumBelow k (λ b. bit (lyndon (snoc w b)))
@@ -72,7 +79,8 @@ module _ (n k : ℕ) (w : List ℕ) (reading : Reading n k w) (z : 0 < n) where
       go : Test (prenecklace w) → sumBelow k (λ b. bit (prenecklace (snoc w b))) ≡ bit (prenecklace w) + sumBelow k (λ b. bit (lyndon (snoc w b)))
       go (passes h) =
           rw h
-          (sum-cong k (λ b. bit (prenecklace (snoc w b))) (λ b. bit (eqb keeps b) + bit (lyndon (snoc w b))) (λ b l. one-extension h b) ∙ sum-add k (λ b. bit (eqb keeps b)) (λ b. bit (lyndon (snoc w b))) ∙ ap (λ (x : ℕ). x + sumBelow k (λ b. bit (lyndon (snoc w b)))) (one-keeps h))
+          (sum-cong k (λ b. bit (prenecklace (snoc w b))) (λ b. bit (eqb keeps b) + bit (lyndon (snoc w b))) (λ b l. one-extension h b) ∙ sum-add k
+          (λ b. bit (eqb keeps b)) (λ b. bit (lyndon (snoc w b))) ∙ ap (λ (x : ℕ). x + sumBelow k (λ b. bit (lyndon (snoc w b)))) (one-keeps h))
       go (fails h) =
           omega (
             arith,
@@ -87,7 +95,10 @@ module _ (n k : ℕ) (w : List ℕ) (reading : Reading n k w) (z : 0 < n) where
 pub prenecklaces-more : (n k : ℕ) → 0 < n → howMany prenecklace (suc n) k ≡ howMany prenecklace n k + howMany lyndon (suc n) k
 unfolding howMany
 prenecklaces-more n k z =
-    total-snoc n k (λ w. bit (prenecklace w)) ∙ total-cong (λ w. sumBelow k (λ b. bit (prenecklace (snoc w b)))) (λ w. bit (prenecklace w) + sumBelow k (λ b. bit (lyndon (snoc w b)))) (readings n k) (λ w r. snoc-one n k w r z) (readings-all n k) ∙ total-add (λ w. bit (prenecklace w)) (λ w. sumBelow k (λ b. bit (lyndon (snoc w b)))) (readings n k) ∙ ap (λ (x : ℕ). count prenecklace (readings n k) + x) (sym (total-snoc n k (λ w. bit (lyndon w))))
+    total-snoc n k (λ w. bit (prenecklace w)) ∙ total-cong (λ w. sumBelow k (λ b. bit (prenecklace (snoc w b))))
+    (λ w. bit (prenecklace w) + sumBelow k (λ b. bit (lyndon (snoc w b)))) (readings n k) (λ w r. snoc-one n k w r z) (readings-all n k) ∙
+    total-add (λ w. bit (prenecklace w)) (λ w. sumBelow k (λ b. bit (lyndon (snoc w b)))) (readings n k) ∙ ap
+    (λ (x : ℕ). count prenecklace (readings n k) + x) (sym (total-snoc n k (λ w. bit (lyndon w))))
 
 -- each reading of one sector is a Lyndon word
 one-sector : (k : ℕ) (w : List ℕ) → Reading 1 k w → lyndon w ≡ true

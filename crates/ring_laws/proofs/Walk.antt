@@ -83,7 +83,8 @@ module _ (kind : List ℕ → Bool) (k : ℕ) (w : List ℕ) where
     walk-done z = (
       first-nothing (length w) k (aboveOf kind w)
           (λ u r. refuted (aboveOf kind w u) (λ h. clash (before c u) (at .met u r (both-right (before w u) (kind u) h) (both-left (before w u) (kind u) h)) (none-before k c u z (rw (at .long) r)))),
-      at .counted ∙ count-cong (passed w (some c)) (passed w none) (readings (length w) k) (λ u r. top (aboveOf prenecklace w u) (upTo u c) (not-before c u (none-before k c u z (rw (at .long) r)))) (readings-all (length w) k),
+      at .counted ∙ count-cong (passed w (some c)) (passed w none) (readings (length w) k)
+          (λ u r. top (aboveOf prenecklace w u) (upTo u c) (not-before c u (none-before k c u z (rw (at .long) r)))) (readings-all (length w) k),
     )
       where
         top : (a b : Bool) → b ≡ true → (a && b) ≡ a

@@ -63,10 +63,12 @@ beginning-lyndon n d k w z r h = go run
 
         at : (i : ℕ) → i < n → getD (repeated n (take d w)) i 0 ≡ getD w i 0
         at i l =
-            repeated-at n (take d w) i l ∙ ap (λ (x : ℕ). getD (take d w) (i % x) 0) long ∙ getD-take d w (i % d) 0 (mod-lt i (s .pos)) ∙ sym (run-rep (sec w) (length w) d s i (omega (arith, r .long)))
+            repeated-at n (take d w) i l ∙ ap (λ (x : ℕ). getD (take d w) (i % x) 0) long ∙ getD-take d w (i % d) 0 (mod-lt i (s .pos)) ∙ sym
+            (run-rep (sec w) (length w) d s i (omega (arith, r .long)))
 
 -- a Lyndon word of length d, repeated up to a multiple of d, is a necklace of period d that begins with it
-pub repeated-necklace : (n d k : ℕ) (u : List ℕ) → 0 < d → d ≤ n → d ∣ n → Reading d k u → lyndon u ≡ true → Reading n k (repeated n u) × (necklaceBy d (repeated n u) ≡ true) × (take d (repeated n u) ≡ u)
+pub repeated-necklace : (n d k : ℕ) (u : List ℕ) → 0 < d → d ≤ n → d ∣ n → Reading d k u → lyndon u ≡ true → Reading n k (repeated n u) ×
+    (necklaceBy d (repeated n u) ≡ true) × (take d (repeated n u) ≡ u)
 unfolding necklaceBy
 repeated-necklace n d k u z b q r h = (
   record { long = long; shades = λ i l. rw (at i l) (r .shades (i % d) (mod-lt i z)) },

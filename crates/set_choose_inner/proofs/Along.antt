@@ -106,7 +106,8 @@ chosen-from Guarded n k d want = refl
 
 module _ (n k d want : ℕ) (w : Walk) (t : ℕ) (ask : Askable n k d want) (e : w ≡ walkOf k (zeros n)) where
   -- none is taken, and all that may join stand above the all-zero ring
-  none-taken : (rule : Rule) → t ≡ 0 → greedyBy (mayJoin rule d) want [] (lyndons n k) ≡ greedyBy (mayJoin rule d) want [] (rest k (zeros n)) → Along rule n k d want w (zeros 768) (lib.ListN.set (zeros 512) 0 t) t
+  none-taken : (rule : Rule) → t ≡ 0 → greedyBy (mayJoin rule d) want [] (lyndons n k) ≡ greedyBy (mayJoin rule d) want [] (rest k (zeros n)) → Along
+      rule n k d want w (zeros 768) (lib.ListN.set (zeros 512) 0 t) t
   none-taken rule g f =
       record {
         last = zeros n;
@@ -146,7 +147,8 @@ module _ (n k d want : ℕ) (w : Walk) (t : ℕ) (ask : Askable n k d want) (e :
         };
         within = omega (arith, ask .settable);
         rests =
-            sym (chosen-from Plain n k d want ∙ rw q (ap (greedyBy (clear d) want []) (lyndons-one k (omega (arith, ask .numbers .shaded))) ∙ ap (λ (x : ℕ). greedyBy (clear d) x [] (zeros 1 ∷ rest k (zeros 1))) more-one ∙ first-clear));
+            sym (chosen-from Plain n k d want ∙ rw q (ap (greedyBy (clear d) want []) (lyndons-one k (omega (arith, ask .numbers .shaded))) ∙ ap
+            (λ (x : ℕ). greedyBy (clear d) x [] (zeros 1 ∷ rest k (zeros 1))) more-one ∙ first-clear));
       }
     where
       blank : (j y : ℕ) → getD (getD (zeros 1 ∷ []) j []) y 0 ≡ 0
@@ -209,7 +211,8 @@ module _ (rule : Rule) (n k d want : ℕ) (ask : Askable n k d want) (w : Walk) 
   -- none is left
   pub along-ended : nextOf lyndon k (a .last) ≡ none → t < want → SetChosen n k d want (chosenBy rule n k d want) p t false
   along-ended e h =
-      let f : a .set ≡ chosenBy rule n k d want = sym (greedy-none (mayJoin rule d) (want - length (a .set)) (a .set)) ∙ ap (greedyBy (mayJoin rule d) (want - length (a .set)) (a .set)) (sym (rest-end k (a .last) e)) ∙ a .rests in
+      let f : a .set ≡ chosenBy rule n k d want = sym (greedy-none (mayJoin rule d) (want - length (a .set)) (a .set)) ∙ ap
+      (greedyBy (mayJoin rule d) (want - length (a .set)) (a .set)) (sym (rest-end k (a .last) e)) ∙ a .rests in
       record {
         asked = ask;
         places = a .holds .places ∙ ap laid f;
@@ -259,7 +262,9 @@ module _ (rule : Rule) (n k d want : ℕ) (ask : Askable n k d want) (w : Walk) 
     pub along-on : (r : ℕ) (p′ q′ : List ℕ) → t < want → OfferSays rule k d p q t (take n (w′ .ring)) r p′ q′ → Along rule n k d want w′ p′ q′ r
     along-on r p′ q′ h o =
         let o′ : OfferSays rule k d p q t (c .ring) r p′ q′ = rw came-ring at o in
-        let now : HoldsSet n k (offeredBy (mayJoin rule d) (a .set) (c .ring)) p′ q′ r = subst (λ x. HoldsSet x k (a .set) p q t → HoldsSet x k (offeredBy (mayJoin rule d) (a .set) (c .ring)) p′ q′ r) (came-reading .long) (o′ (a .set)) (a .holds) in
+        let now : HoldsSet n k (offeredBy (mayJoin rule d) (a .set) (c .ring)) p′ q′ r = subst
+        (λ x. HoldsSet x k (a .set) p q t → HoldsSet x k (offeredBy (mayJoin rule d) (a .set) (c .ring)) p′ q′ r) (came-reading .long)
+        (o′ (a .set)) (a .holds) in
         record {
           last = c .ring;
           set = offeredBy (mayJoin rule d) (a .set) (c .ring);
@@ -269,5 +274,6 @@ module _ (rule : Rule) (n k d want : ℕ) (ask : Askable n k d want) (w : Walk) 
           holds = now;
           within = omega (arith, now .number, offered-most (mayJoin rule d) (a .set) (c .ring), a .holds .number);
           rests =
-              sym (greedy-offer (mayJoin rule d) want (a .set) (rest k (c .ring)) (c .ring) (omega (arith, a .holds .number))) ∙ ap (greedyBy (mayJoin rule d) (want - length (a .set)) (a .set)) (sym (rest-step k (a .last) (c .ring) (c .next))) ∙ a .rests;
+              sym (greedy-offer (mayJoin rule d) want (a .set) (rest k (c .ring)) (c .ring) (omega (arith, a .holds .number))) ∙ ap
+              (greedyBy (mayJoin rule d) (want - length (a .set)) (a .set)) (sym (rest-step k (a .last) (c .ring) (c .next))) ∙ a .rests;
         }

@@ -60,7 +60,8 @@ offered-most may ts w =
     ]
 
 -- the choice goes on from it
-pub greedy-offer : (may : May) (want : ℕ) (ts ws : List (List ℕ)) (w : List ℕ) → length ts < want → greedyBy may (want - length ts) ts (w ∷ ws) ≡ greedyBy may (want - length (offeredBy may ts w)) (offeredBy may ts w) ws
+pub greedy-offer : (may : May) (want : ℕ) (ts ws : List (List ℕ)) (w : List ℕ) → length ts < want → greedyBy may (want - length ts) ts (w ∷ ws) ≡
+    greedyBy may (want - length (offeredBy may ts w)) (offeredBy may ts w) ws
 greedy-offer may want ts ws w h = go (want - suc (length ts)) (omega arith) (test (may ts w))
   where
     go : (left : ℕ) → want - length ts ≡ suc left → Test (may ts w) → greedyBy may (want - length ts) ts (w ∷ ws) ≡ greedyBy may (want - length (offeredBy may ts w)) (offeredBy may ts w) ws
@@ -159,7 +160,8 @@ looked-some may left ts [] h = absurd (omega arith)
 looked-some may left ts (w ∷ ws) h = omega arith
 
 -- where all that are wanted are taken, and one at least is, the last one taken is the last one looked at
-pub greedy-last : (may : May) (left : ℕ) (ts ws : List (List ℕ)) → length (greedyBy may (suc left) ts ws) ≡ length ts + suc left → lastTaken (greedyBy may (suc left) ts ws) ≡ lastTaken (lookedBy may (suc left) ts ws)
+pub greedy-last : (may : May) (left : ℕ) (ts ws : List (List ℕ)) → length (greedyBy may (suc left) ts ws) ≡ length ts + suc left → lastTaken
+    (greedyBy may (suc left) ts ws) ≡ lastTaken (lookedBy may (suc left) ts ws)
 unfolding greedyBy lookedBy
 greedy-last may left ts [] h = absurd (omega arith)
 greedy-last may zero ts (w ∷ ws) h =
@@ -259,5 +261,6 @@ module _ (may : May) (S : List (List ℕ) → List ℕ → Type 0) (s : Settling
   greedy-settles (suc left) ts (w ∷ ws) o =
       elim (test (may ts w)) [
         | passes e ↦ rw (e, greedyBy, lookedBy) (also (s .member (greedyBy may left (ts ++ (w ∷ [])) ws) w (took-one left ts ws w)) (greedy-settles left (ts ++ (w ∷ [])) ws (ordered-take o)))
-        | fails e ↦ rw (e, greedyBy, lookedBy) (also (s .stays ts (greedyBy may (suc left) ts ws) w (greedy-begins may (suc left) ts ws) (s .kept-out ts w (ordered-head o) e)) (greedy-settles (suc left) ts ws (ordered-skip o)))
+        | fails e ↦ rw (e, greedyBy, lookedBy) (also (s .stays ts (greedyBy may (suc left) ts ws) w (greedy-begins may (suc left) ts ws)
+            (s .kept-out ts w (ordered-head o) e)) (greedy-settles (suc left) ts ws (ordered-skip o)))
       ]

@@ -36,7 +36,8 @@ rest-step k u v e =
     let f = next-facts lyndon k u v e in
     rw (f .0 .long)
     (kept-first (aboveOf lyndon u) (readings (length u) k) v (readings-increasing (length u) k) e
-    ∙ ap (λ (x : List (List ℕ)). v ∷ x) (kept-cong (λ w. before v w && aboveOf lyndon u w) (aboveOf lyndon v) (readings (length u) k) (all-weaken (λ w r. on w (f .1) (test (before v w))) (readings-all (length u) k))))
+    ∙ ap (λ (x : List (List ℕ)). v ∷ x) (kept-cong (λ w. before v w && aboveOf lyndon u w) (aboveOf lyndon v) (readings (length u) k)
+    (all-weaken (λ w r. on w (f .1) (test (before v w))) (readings-all (length u) k))))
   where
     on : (w : List ℕ) → before u v ≡ true → Test (before v w) → (before v w && (before u w && lyndon w)) ≡ (before v w && lyndon w)
     on w g (passes q) = rw (q, before-trans u v w g q) refl

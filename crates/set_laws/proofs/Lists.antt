@@ -52,7 +52,8 @@ pub data Begins : List (List ℕ) → List (List ℕ) → Type 0 where
   one-more : {w : List ℕ} {vs ws : List (List ℕ)} → Begins vs ws → Begins (w ∷ vs) (w ∷ ws)
 
 -- a word of an increasing list that is not above one of its beginning is in the beginning
-pub begins-down : {vs ws : List (List ℕ)} → Begins vs ws → Increasing ws → (i j : ℕ) → i < length vs → j < length ws → upTo (getD ws j []) (getD vs i []) ≡ true → (j < length vs) × (getD vs j [] ≡ getD ws j [])
+pub begins-down : {vs ws : List (List ℕ)} → Begins vs ws → Increasing ws → (i j : ℕ) → i < length vs → j < length ws → upTo (getD ws j [])
+    (getD vs i []) ≡ true → (j < length vs) × (getD vs j [] ≡ getD ws j [])
 begins-down none-yet s i j h l u = absurd (omega arith)
 begins-down (one-more b) s i zero h l u = (omega arith, refl)
 begins-down (one-more b) (more a s) zero (suc j) h l u = clash _ (all-place a j (omega arith)) (upTo-not-before _ _ u)

@@ -93,7 +93,8 @@ module _ (b : List ℕ) (at : ℕ) (s : List ℕ) (room : at + length s ≤ leng
 
   pub over-behind : (x : ℕ) → at + length s ≤ x → getD (over b at s) x 0 ≡ getD b x 0
   over-behind x h =
-      over-from x (length s + (x - (at + length s))) (omega arith) ∙ getD-append-add s (drop (at + length s) b) (x - (at + length s)) 0 ∙ getD-drop (at + length s) b (x - (at + length s)) 0 ∙ ap (λ (m : ℕ). getD b m 0) (omega arith)
+      over-from x (length s + (x - (at + length s))) (omega arith) ∙ getD-append-add s (drop (at + length s) b) (x - (at + length s)) 0 ∙ getD-drop
+      (at + length s) b (x - (at + length s)) 0 ∙ ap (λ (m : ℕ). getD b m 0) (omega arith)
 
 -- the ring w put at the first free place
 module _ (ts : List (List ℕ)) (w : List ℕ) (b : length ts < 32) (s : length w ≤ 24) where
@@ -103,7 +104,8 @@ module _ (ts : List (List ℕ)) (w : List ℕ) (b : length ts < 32) (s : length 
   -- behind it everything is 0, before and after
   past : (x j y : ℕ) → x ≡ 24 * j + y → y < 24 → length ts ≤ j → 24 * length ts + length w ≤ x → x < 768 → getD (over (laid ts) (24 * length ts) w) x 0 ≡ sectorOf (ts ++ (w ∷ [])) x
   past x j y e l m f g =
-      over-behind (laid ts) (24 * length ts) w room x f ∙ laid-at ts x g ∙ sector-at ts x j y e l ∙ ap (λ (t : List ℕ). getD t y 0) (List·getD-eq-default ts [] m) ∙ sym (zero-there (tri j (length ts))) ∙ sym (sector-at (ts ++ (w ∷ [])) x j y e l)
+      over-behind (laid ts) (24 * length ts) w room x f ∙ laid-at ts x g ∙ sector-at ts x j y e l ∙ ap (λ (t : List ℕ). getD t y 0)
+      (List·getD-eq-default ts [] m) ∙ sym (zero-there (tri j (length ts))) ∙ sym (sector-at (ts ++ (w ∷ [])) x j y e l)
     where
       zero-there : Tri j (length ts) → getD (getD (ts ++ (w ∷ [])) j []) y 0 ≡ 0
       zero-there (lt q) = absurd (omega arith)
@@ -115,7 +117,8 @@ module _ (ts : List (List ℕ)) (w : List ℕ) (b : length ts < 32) (s : length 
       elim (tri x (24 * length ts + length w)) [
         | lt r ↦
             let e : x ≡ 24 * length ts + (x - 24 * length ts) = omega arith in
-            over-inside (laid ts) (24 * length ts) w room x (x - 24 * length ts) e (omega arith) ∙ ap (λ (t : List ℕ). getD t (x - 24 * length ts) 0) (sym (at-new ts w)) ∙ sym (sector-at (ts ++ (w ∷ [])) x (length ts) (x - 24 * length ts) e (omega arith))
+            over-inside (laid ts) (24 * length ts) w room x (x - 24 * length ts) e (omega arith) ∙ ap (λ (t : List ℕ). getD t (x - 24 * length ts) 0)
+            (sym (at-new ts w)) ∙ sym (sector-at (ts ++ (w ∷ [])) x (length ts) (x - 24 * length ts) e (omega arith))
         | eq r ↦ past x (x / 24) (x % 24) (omega arith) (omega arith) (omega arith) (omega arith) g
         | gt r ↦ past x (x / 24) (x % 24) (omega arith) (omega arith) (omega arith) (omega arith) g
       ]
@@ -125,7 +128,8 @@ module _ (ts : List (List ℕ)) (w : List ℕ) (b : length ts < 32) (s : length 
       let e : x ≡ 24 * (x / 24) + x % 24 = omega arith in
       let l : x % 24 < 24 = omega arith in
       elim (tri x (24 * length ts)) [
-        | lt q ↦ over-before (laid ts) (24 * length ts) w room x q ∙ laid-at ts x g ∙ sector-at ts x (x / 24) (x % 24) e l ∙ ap (λ (t : List ℕ). getD t (x % 24) 0) (sym (at-old ts w (x / 24) (omega arith))) ∙ sym (sector-at (ts ++ (w ∷ [])) x (x / 24) (x % 24) e l)
+        | lt q ↦ over-before (laid ts) (24 * length ts) w room x q ∙ laid-at ts x g ∙ sector-at ts x (x / 24) (x % 24) e l ∙ ap
+            (λ (t : List ℕ). getD t (x % 24) 0) (sym (at-old ts w (x / 24) (omega arith))) ∙ sym (sector-at (ts ++ (w ∷ [])) x (x / 24) (x % 24) e l)
         | eq q ↦ from x g (omega arith)
         | gt q ↦ from x g (omega arith)
       ]
@@ -133,4 +137,5 @@ module _ (ts : List (List ℕ)) (w : List ℕ) (b : length ts < 32) (s : length 
   pub put-laid : over (laid ts) (24 * length ts) w ≡ laid (ts ++ (w ∷ []))
   put-laid =
       let l : length (over (laid ts) (24 * length ts) w) ≡ 768 = over-length (laid ts) (24 * length ts) w room ∙ laid-length ts in
-      ext-getD 0 (over (laid ts) (24 * length ts) w) (laid (ts ++ (w ∷ []))) (l ∙ sym (laid-length (ts ++ (w ∷ [])))) (λ x h. let g : x < 768 = omega (arith, l) in sector x g ∙ sym (laid-at (ts ++ (w ∷ [])) x g))
+      ext-getD 0 (over (laid ts) (24 * length ts) w) (laid (ts ++ (w ∷ []))) (l ∙ sym (laid-length (ts ++ (w ∷ []))))
+      (λ x h. let g : x < 768 = omega (arith, l) in sector x g ∙ sym (laid-at (ts ++ (w ∷ [])) x g))

@@ -79,7 +79,8 @@ second-at t r n k d want p e =
     let i : p .first ≡ length (decimal n) = space-one t (p .first) (length (decimal n)) (p .one) (rw f (front-space n (decimal k ++ (32 ∷ fields d want)))) b in
     let l : p .first < length t = omega arith in
     let g : drop (p .first + 1) t ≡ decimal k ++ (32 ∷ fields d want) = rw (i, f) (behind n (decimal k ++ (32 ∷ fields d want))) in
-    let j : p .next ≡ length (decimal k) = space-one (decimal k ++ (32 ∷ fields d want)) (p .next) (length (decimal k)) (rw g at (p .two l)) (front-space k (fields d want)) (inside k (fields d want)) in
+    let j : p .next ≡ length (decimal k) = space-one (decimal k ++ (32 ∷ fields d want)) (p .next) (length (decimal k)) (rw g at (p .two l))
+    (front-space k (fields d want)) (inside k (fields d want)) in
     omega (arith, p .is l, i, j, length-fields n k)
 
 -- two numbers before it and two behind it
@@ -146,7 +147,17 @@ set-line-short s n k d want p = ⊎-elim (λ e. omega (arith, ap length e, most)
   where
     most : length (fourFields n k d want) ≤ 15
     most =
-        omega (arith, length-four n k d want, length-fields n k, length-fields d want, length-decimal 2 n (p .short .n-short), length-decimal 2 k (p .short .k-short), length-decimal 2 d (p .short .d-short), length-decimal 2 want (p .short .want-short))
+        omega (
+          arith,
+          length-four n k d want,
+          length-fields n k,
+          length-fields d want,
+          length-decimal 2 n (p .short .n-short),
+          length-decimal 2 k
+              (p .short .k-short),
+          length-decimal 2 d (p .short .d-short),
+          length-decimal 2 want (p .short .want-short),
+        )
 
 -- four numbers are those that they spell
 pub record Same (n k d want n′ k′ d′ want′ : ℕ) : Type 0 where

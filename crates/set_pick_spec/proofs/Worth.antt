@@ -32,7 +32,8 @@ module _ (n k d want : ℕ) (ts : List (List ℕ)) (p : List ℕ) (t : ℕ) (f :
   pub places-set : setIn n p t ≡ ts
   places-set =
       ext-getD [] (setIn n p t) ts (length-set-in n p t ∙ c .number) (λ j h. let l : j < t = omega (arith, length-set-in n p t) in
-      set-in-at n p t j l ∙ rw (c .places) (place-laid n ts j (c .asked .short) (omega (arith, most, c .asked .settable .most-wanted)) (omega (arith, c .number)) (members j (omega (arith, c .number)) .reading .long)))
+      set-in-at n p t j l ∙ rw (c .places) (place-laid n ts j (c .asked .short) (omega (arith, most, c .asked .settable .most-wanted))
+      (omega (arith, c .number)) (members j (omega (arith, c .number)) .reading .long)))
 
 module _ (n k d want : ℕ) (p : List ℕ) (t : ℕ) (f : Bool) (c : Chosen n k d want p t f) where
   pub answer-most : t ≤ want

@@ -78,7 +78,8 @@ module _ (rule : Rule) (k d : ℕ) (p q w : List ℕ) (t : ℕ) (s : length w �
       })
 
 -- what is copied over its part of the places or of the tallies, which has its length
-pub copied-over : (p w l : List ℕ) (at end : ℕ) → end ≡ at + length w → end ≤ length p → l ≡ take (length w) w ++ drop (length w) (take (end - at) (drop at p)) → take at p ++ (l ++ drop (end - at) (drop at p)) ≡ over p at w
+pub copied-over : (p w l : List ℕ) (at end : ℕ) → end ≡ at + length w → end ≤ length p → l ≡ take (length w) w ++ drop (length w)
+    (take (end - at) (drop at p)) → take at p ++ (l ++ drop (end - at) (drop at p)) ≡ over p at w
 copied-over p w l at end e b q =
     let r : l ≡ w = copied w (take (end - at) (drop at p)) l q (length-take-le (end - at) (drop at p) (omega (arith, length-drop at p)) ∙ omega arith) in
     let f : at + (end - at) ≡ at + length w = omega arith in

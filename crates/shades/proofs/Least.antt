@@ -102,5 +102,6 @@ module _ (n k : ℕ) (cs : List ℕ) (many : length cs ≡ k) (whole : sumOf cs 
   pub first-letters : firstOf (countedNecklace cs) n k ≡ some (letters cs)
   unfolding firstOf countedNecklace
   first-letters =
-      first-is n k (countedNecklace cs) (letters cs) letters-reading (both (necklace (letters cs)) (hasCounts cs (letters cs)) (sorted-necklace (letters cs) (sorted-letters 0 cs)) (sym letters-counts))
+      first-is n k (countedNecklace cs) (letters cs) letters-reading (both (necklace (letters cs)) (hasCounts cs (letters cs))
+      (sorted-necklace (letters cs) (sorted-letters 0 cs)) (sym letters-counts))
       (λ v r h. sorted-least (letters cs) v (sorted-letters 0 cs) (same-letters v (record { reading = r; counted = h })))

@@ -74,7 +74,13 @@ module _ (n t : ℕ) (z : 0 < n) where
   only-top x r l h b =
       elim (decLt (sec x h) t) [
         | no c ↦ omega (arith, r .0 .shades h b)
-        | yes c ↦ absurd (pre-of x (necklace-prenecklace x (r .1)) h (record { at = 0; bound = omega (arith, r .0 .long); agree = λ m s. absurd (omega arith); less = omega (arith, place (sec x) (h + 0) h (omega arith)) }))
+        | yes c ↦ absurd (pre-of x (necklace-prenecklace x (r .1)) h (record {
+          at = 0;
+          bound = omega (arith, r .0 .long);
+          agree = λ m s. absurd (omega arith);
+          less = omega
+              (arith, place (sec x) (h + 0) h (omega arith));
+        }))
       ]
 
   -- nothing is above a ring of only t
@@ -116,7 +122,8 @@ module _ (n t : ℕ) (z : 0 < n) where
             let long = length-tab n g in
             clash (before (tab n g) u)
             (less-before (tab n g) u (long ∙ sym (after .0 .long)) (rw (after .0 .long) (recast g (sec u) (sec (tab n g)) (sec u) n (λ m s. sym (getD-tab n g m 0 s)) (λ m s. refl) q)))
-            (upTo-not-before (tab n g) u (no-lower (tab n g) v (less-before x (tab n g) (r .0 .long ∙ sym long) (rw long (recast (sec x) g (sec x) (sec (tab n g)) n (λ m s. refl) (λ m s. sym (getD-tab n g m 0 s)) p)))))
+            (upTo-not-before (tab n g) u (no-lower (tab n g) v (less-before x (tab n g) (r .0 .long ∙ sym long)
+            (rw long (recast (sec x) g (sec x) (sec (tab n g)) n (λ m s. refl) (λ m s. sym (getD-tab n g m 0 s)) p)))))
 
         only : (q : ℕ) → d .at < q → q < n → sec x q ≡ t
         only = tops n t (sec x) (sec u) (rw (r .0 .long) at (pre-of x (necklace-prenecklace x (r .1)))) (λ h b. omega (arith, r .0 .shades h b)) d no-one

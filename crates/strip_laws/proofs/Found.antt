@@ -37,7 +37,8 @@ module _ (n t : ℕ) (z : 0 < n) (y : 0 < t) where
   pub whole : Built n t z (zeros n) (strip n (suc t))
   whole =
       let f = walk-exists necklace (suc t) (zeros n) in
-      subst (Built n t z (zeros n)) (sym (strip-walk n (suc t) z (omega arith) (f .0) (f .1) (f .2))) (build n t z (f .2) (zeros-reading n (suc t) (omega arith), zeros-necklace n) (omega (arith, zeros-at n 0)))
+      subst (Built n t z (zeros n)) (sym (strip-walk n (suc t) z (omega arith) (f .0) (f .1) (f .2)))
+      (build n t z (f .2) (zeros-reading n (suc t) (omega arith), zeros-necklace n) (omega (arith, zeros-at n 0)))
 
   -- nothing is below the all-zero ring
   first : (v : List ℕ) → Reading n (suc t) v → upTo (zeros n) v ≡ true

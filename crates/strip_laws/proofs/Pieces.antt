@@ -107,7 +107,8 @@ module _ (n k : ℕ) (z : 0 < n) (y : 0 < k) where
     word-root : (u : List ℕ) → StripWord n k u → In u (map root (zeros n ∷ rings))
     unfolding necklaceBy
     word-root u (r, ly, q) =
-        rw (sym same-root) (in-map root v (zeros n ∷ rings) (in-count v (zeros n ∷ rings) (omega (arith, walk-all n k z y rings m walk v (b .0) (both-left (necklace v) (eqb (period v) (length u)) (b .1))))))
+        rw (sym same-root) (in-map root v (zeros n ∷ rings) (in-count v (zeros n ∷ rings)
+        (omega (arith, walk-all n k z y rings m walk v (b .0) (both-left (necklace v) (eqb (period v) (length u)) (b .1))))))
       where
         v : List ℕ
         v = repeated n u

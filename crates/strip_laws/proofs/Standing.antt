@@ -74,7 +74,8 @@ module _ (n k : ℕ) (z : 0 < n) where
               walk = f;
               ring = let g = next-facts necklace k w v e in (rw (s .ring .0 .long) at (g .0), g .2);
               whole = q ∙ ap joined (sym (ap (λ (x : List (List ℕ)). x ++ (root v ∷ map root rest)) one-more ∙ append-assoc (map root (s .behind)) (root w ∷ []) (root v ∷ map root rest)));
-              at = sym (ap (λ (x : List (List ℕ)). length (joined x)) one-more ∙ ap length (joined-append (map root (s .behind)) (root w ∷ [])) ∙ length-append (joined (map root (s .behind))) (root w ++ []) ∙ omega (arith, length-append (root w) [], s .at, long));
+              at = sym (ap (λ (x : List (List ℕ)). length (joined x)) one-more ∙ ap length (joined-append (map root (s .behind)) (root w ∷ [])) ∙
+                  length-append (joined (map root (s .behind))) (root w ++ []) ∙ omega (arith, length-append (root w) [], s .at, long));
             }
 
         go : {rest : List (List ℕ)} {l : ℕ} → FullWalk necklace k w rest l → strip n k ≡ joined (map root (s .behind) ++ (root w ∷ map root rest)) → Standing n k v (place + period w)

@@ -39,7 +39,8 @@ table =
     made-of 4 2 (ring 1 0 ∷ ring 4 0001 ∷ ring 4 0011 ∷ ring 2 01 ∷ ring 4 0111 ∷ ring 1 1 ∷ []) ∷
     -- 2 and 3 divide 6, 4 and 5 do not
     made-of 6 2
-    (ring 1 0 ∷ ring 6 000001 ∷ ring 6 000011 ∷ ring 6 000101 ∷ ring 6 000111 ∷ ring 3 001 ∷ ring 6 001011 ∷ ring 6 001101 ∷ ring 6 001111 ∷ ring 2 01 ∷ ring 6 010111 ∷ ring 3 011 ∷ ring 6 011111 ∷ ring 1 1 ∷ []) ∷
+    (ring 1 0 ∷ ring 6 000001 ∷ ring 6 000011 ∷ ring 6 000101 ∷ ring 6 000111 ∷ ring 3 001 ∷ ring 6 001011 ∷ ring 6 001101 ∷ ring 6 001111 ∷ ring 2 01
+    ∷ ring 6 010111 ∷ ring 3 011 ∷ ring 6 011111 ∷ ring 1 1 ∷ []) ∷
     listed 1 3 (ring 0 0 ∷ ring 1 0 ∷ ring 1 1 ∷ ring 1 2 ∷ []) ∷
     listed 2 2 (ring 0 0 ∷ ring 1 0 ∷ ring 2 00 ∷ ring 2 01 ∷ ring 1 1 ∷ ring 2 10 ∷ ring 2 11 ∷ []) ∷
     seen 8 00010111 2 3 010 ∷

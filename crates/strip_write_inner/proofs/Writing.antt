@@ -89,7 +89,14 @@ module _ (n k : ℕ) (ring : List ℕ) (at p : ℕ) (out : List ℕ) (w : Writin
         let size : length next ≡ length ring = g .0 .long in
         record {
           ready =
-              record { pos = omega (arith, w .ready .pos); fits = omega (arith, w .ready .fits); shades = w .ready .shades; few = w .ready .few; reading = rw size (g .0); pre = necklace-prenecklace next (g .2) };
+              record {
+                pos = omega (arith, w .ready .pos);
+                fits = omega (arith, w .ready .fits);
+                shades = w .ready .shades;
+                few = w .ready .few;
+                reading = rw size (g .0);
+                pre = necklace-prenecklace next (g .2);
+              };
           stands = rw (w .by) (standing-next n k pos ring at (w .stands) next e);
           by = sym (period-lyn next (omega (arith, w .ready .pos)) (g .2) ∙ f);
           long = l .long ∙ w .long;

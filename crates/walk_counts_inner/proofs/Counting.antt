@@ -47,7 +47,8 @@ count-sector m s cs i within c h = record {
     x = getD cs (sec s i) 0 + 1
 
     here : (b : ℕ) → sec s i ≡ b → getD (set cs (sec s i) x) b 0 ≡ occurs b (take (i + 1) s)
-    here b q = ap (λ (j : ℕ). getD (set cs (sec s i) x) j 0) (sym q) ∙ getD-set-same cs (sec s i) x 0 (omega (arith, c .size)) ∙ tally-hit (sec s i) s i (getD cs (sec s i) 0) within (c .each (sec s i) h) refl ∙ ap (λ (j : ℕ). occurs j (take (i + 1) s)) q
+    here b q = ap (λ (j : ℕ). getD (set cs (sec s i) x) j 0) (sym q) ∙ getD-set-same cs (sec s i) x 0 (omega (arith, c .size)) ∙ tally-hit (sec s i) s
+        i (getD cs (sec s i) 0) within (c .each (sec s i) h) refl ∙ ap (λ (j : ℕ). occurs j (take (i + 1) s)) q
 
     other : (b : ℕ) → b < m → (sec s i ≡ b → ⊥) → getD (set cs (sec s i) x) b 0 ≡ occurs b (take (i + 1) s)
     other b l q = getD-set-other cs (sec s i) b x 0 (λ e. q (sym e)) ∙ tally-miss b s i (getD cs b 0) within (c .each b l) q
@@ -67,7 +68,12 @@ count-end m s cs i c =
 pub occurs-le : (b : ℕ) (w : List ℕ) → occurs b w ≤ length w
 occurs-le b [] = omega (arith, occurs-none b)
 occurs-le b (a ∷ w) =
-    elim (tri a b) [ lt q ↦ omega (arith, occurs-le b w, occurs-other a b w (λ e. omega arith)) | eq q ↦ omega (arith, occurs-le b w, occurs-here a b w q) | gt q ↦ omega (arith, occurs-le b w, occurs-other a b w (λ e. omega arith)) ]
+    elim (tri a b) [
+      | lt q ↦ omega (arith, occurs-le b w, occurs-other a b w (λ e. omega arith))
+      | eq q ↦ omega
+          (arith, occurs-le b w, occurs-here a b w q)
+      | gt q ↦ omega (arith, occurs-le b w, occurs-other a b w (λ e. omega arith))
+    ]
 
 -- ---- the shades among the bytes
 

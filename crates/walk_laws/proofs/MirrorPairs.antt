@@ -50,7 +50,8 @@ module _ (n k : ℕ) (out : PairsHandedOut n k) where
 
   -- all rings handed out are bracelets of n and k
   pub pairs-bracelets : All (λ u. Reading n k u × (bracelet u ≡ true)) (ringOf (out .first) ∷ out .rings)
-  pairs-bracelets = rw (start-zeros n k (out .first) (out .started)) (walk-bracelets n k (long n k (out .first) (out .started)) (many n k (out .first) (out .started)) (out .rings) (walked .0) (walked .1))
+  pairs-bracelets = rw (start-zeros n k (out .first) (out .started)) (walk-bracelets n k (long n k (out .first) (out .started))
+      (many n k (out .first) (out .started)) (out .rings) (walked .0) (walked .1))
 
   -- in increasing order
   pub pairs-order : Increasing (ringOf (out .first) ∷ out .rings)
@@ -58,11 +59,13 @@ module _ (n k : ℕ) (out : PairsHandedOut n k) where
 
   -- of each ring and its mirror image exactly one is handed out, exactly once
   pub pairs-once : OneOfEachPair n k (ringOf (out .first)) (out .rings)
-  pairs-once = subst (λ (u : List ℕ). OneOfEachPair n k u (out .rings)) (sym (start-zeros n k (out .first) (out .started))) (walk-pairs n k (long n k (out .first) (out .started)) (many n k (out .first) (out .started)) (out .rings) (walked .0) (walked .1))
+  pairs-once = subst (λ (u : List ℕ). OneOfEachPair n k u (out .rings)) (sym (start-zeros n k (out .first) (out .started)))
+      (walk-pairs n k (long n k (out .first) (out .started)) (many n k (out .first) (out .started)) (out .rings) (walked .0) (walked .1))
 
   -- an even-handed ring stands for itself
   pub pairs-even : EvenForItself n k (ringOf (out .first)) (out .rings)
-  pairs-even = subst (λ (u : List ℕ). EvenForItself n k u (out .rings)) (sym (start-zeros n k (out .first) (out .started))) (walk-even n k (long n k (out .first) (out .started)) (many n k (out .first) (out .started)) (out .rings) (walked .0) (walked .1))
+  pairs-even = subst (λ (u : List ℕ). EvenForItself n k u (out .rings)) (sym (start-zeros n k (out .first) (out .started)))
+      (walk-even n k (long n k (out .first) (out .started)) (many n k (out .first) (out .started)) (out .rings) (walked .0) (walked .1))
 
 -- ---- steps come to Done
 

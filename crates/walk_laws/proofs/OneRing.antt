@@ -31,11 +31,13 @@ module _ (n k : ℕ) (out : HandedOut n k) where
 
   -- each reading of n and k is a turn of exactly one ring handed out
   pub steps-one-ring : OneRingHandedOut n k out
-  steps-one-ring = subst (λ (u : List ℕ). OneRingEach n k u (out .rings)) (sym (start-zeros n k (out .first) (out .started))) (one-ring n k (long n k (out .first) (out .started)) (many n k (out .first) (out .started)) (out .rings) (out .sum) walked)
+  steps-one-ring = subst (λ (u : List ℕ). OneRingEach n k u (out .rings)) (sym (start-zeros n k (out .first) (out .started)))
+      (one-ring n k (long n k (out .first) (out .started)) (many n k (out .first) (out .started)) (out .rings) (out .sum) walked)
 
   -- the periods of the rings handed out add up to k to the power n
   pub steps-period-sum : PeriodsHandedOut n k out
-  steps-period-sum = subst (λ (u : List ℕ). PeriodsAddUp n k u (out .rings)) (sym (start-zeros n k (out .first) (out .started))) (period-sum n k (long n k (out .first) (out .started)) (many n k (out .first) (out .started)) (out .rings) (out .sum) walked)
+  steps-period-sum = subst (λ (u : List ℕ). PeriodsAddUp n k u (out .rings)) (sym (start-zeros n k (out .first) (out .started)))
+      (period-sum n k (long n k (out .first) (out .started)) (many n k (out .first) (out .started)) (out .rings) (out .sum) walked)
 
   -- the moves add up to one less than the prenecklaces of n and k
   pub handed-out-sum : MovesHandedOut n k out

@@ -103,7 +103,8 @@ pub copied-end : (w v : List ℕ) (i m : ℕ) → 0 < i → i ≤ length w → C
 copied-end w v i m z b c h =
     ext-getD 0 v (repeated (length w) (raised i w)) (long ∙ sym (length-repeated (length w) (raised i w)))
     (λ x q.
-    c .done x (omega arith) ∙ start (x % i) (mod-lt x z) ∙ ap (λ (y : ℕ). getD (raised i w) (x % y) 0) (sym (length-raised i w z b)) ∙ sym (repeated-at (length w) (raised i w) x (omega (arith, long))))
+    c .done x (omega arith) ∙ start (x % i) (mod-lt x z) ∙ ap (λ (y : ℕ). getD (raised i w) (x % y) 0) (sym (length-raised i w z b)) ∙ sym
+    (repeated-at (length w) (raised i w) x (omega (arith, long))))
   where
     long : length v ≡ length w
     long = c .long ∙ length-set w (i - 1) (getD w (i - 1) 0 + 1)

@@ -48,12 +48,14 @@ module _ (v : List ℕ) (c found : Class) (is : found ≡ classOf v) where
   pub off-tag : (tagOf c ≡ tagOf found → ⊥) → false ≡ onWalk v c
   unfolding onWalk
   off-tag h =
-      sym (not-right (prenecklace v) (sameClass c (classOf v)) (not-left (eqb (tagOf c) (tagOf (classOf v))) (eqb (valueOf c) (valueOf (classOf v))) (ne-eqb (tagOf c) (tagOf (classOf v)) (rw is at h))))
+      sym (not-right (prenecklace v) (sameClass c (classOf v)) (not-left (eqb (tagOf c) (tagOf (classOf v))) (eqb (valueOf c) (valueOf (classOf v)))
+      (ne-eqb (tagOf c) (tagOf (classOf v)) (rw is at h))))
 
   pub off-value : (valueOf c ≡ valueOf found → ⊥) → false ≡ onWalk v c
   unfolding onWalk
   off-value h =
-      sym (not-right (prenecklace v) (sameClass c (classOf v)) (not-right (eqb (tagOf c) (tagOf (classOf v))) (eqb (valueOf c) (valueOf (classOf v))) (ne-eqb (valueOf c) (valueOf (classOf v)) (rw is at h))))
+      sym (not-right (prenecklace v) (sameClass c (classOf v)) (not-right (eqb (tagOf c) (tagOf (classOf v))) (eqb (valueOf c) (valueOf (classOf v)))
+      (ne-eqb (valueOf c) (valueOf (classOf v)) (rw is at h))))
 
   pub on-class : isLoose found ≡ false → tagOf c ≡ tagOf found → valueOf c ≡ valueOf found → true ≡ onWalk v c
   unfolding onWalk
@@ -145,7 +147,8 @@ module _ (kind : K.Kind) (w : Walk) (v : List ℕ) (p : ℕ) (good : Passed (wal
   moved-long = next-facts (kindOf kind) (w .k) (ringOf w) v next .0 .long ∙ good-long w good size
 
   -- its counts are those of its first n sectors
-  pub moved-is : (cs : List ℕ) → cs ≡ shadeCounts (take (w .n) (v ++ drop (w .n) (w .ring))) → record { n = w .n; k = w .k; ring = v ++ drop (w .n) (w .ring); class = classAt (w .n) p; counts = cs } ≡ walkOf (w .k) v
+  pub moved-is : (cs : List ℕ) → cs ≡ shadeCounts (take (w .n) (v ++ drop (w .n) (w .ring))) → record
+      { n = w .n; k = w .k; ring = v ++ drop (w .n) (w .ring); class = classAt (w .n) p; counts = cs } ≡ walkOf (w .k) v
   moved-is cs e =
       λ i.
       record {
@@ -203,7 +206,8 @@ unfolding onWalk
 walk-good n k v sized shaded reading pre =
     let e = reading .long in (
       ((((((omega arith, omega arith), tt), shaded), below), tt), tt),
-      rw (ring-of k v) (both (onWalk v (classOf v)) (same (shadeCounts v) (shadeCounts v)) (both (prenecklace v) (sameClass (classOf v) (classOf v)) pre (same-class-refl (classOf v))) (same-refl (shadeCounts v))),
+      rw (ring-of k v) (both (onWalk v (classOf v)) (same (shadeCounts v) (shadeCounts v))
+          (both (prenecklace v) (sameClass (classOf v) (classOf v)) pre (same-class-refl (classOf v))) (same-refl (shadeCounts v))),
     )
   where
     below : (i : ℕ) → i < length (laidOut v) → getD (laidOut v) i 0 < ringLimit (length v) k i

@@ -43,7 +43,8 @@ module _ (kind : List ℕ → Bool) (w v v′ : Walk) where
   not-both m m′ p q = let z : _≡_ {A = ℕ} 0 1 = cc (p .next, q .next) in omega arith
 
 -- a step has one answer
-pub one-step : (kind : List ℕ → Bool) (w v v′ : Walk) (o o′ : Outcome) → StepSays kind w v o → StepSays kind w v′ o′ → _≡_ {A = Stepped} (record { walk = v; outcome = o }) (record { walk = v′; outcome = o′ })
+pub one-step : (kind : List ℕ → Bool) (w v v′ : Walk) (o o′ : Outcome) → StepSays kind w v o → StepSays kind w v′ o′ → _≡_ {A = Stepped}
+    (record { walk = v; outcome = o }) (record { walk = v′; outcome = o′ })
 one-step kind w v v′ (Moved m) (Moved m′) p q =
     let e = one-ring kind w v v′ m m′ p q in
     same-step v v′ (Moved m) (Moved m′) (p .handed ∙ ap (walkOf (w .k)) e ∙ sym (q .handed)) (ap Moved (p .counted ∙ ap (λ (u : List ℕ). moves (w .k) (ringOf w) (some u)) e ∙ sym (q .counted)))

@@ -152,7 +152,8 @@ unfolding readings total
 total-snoc zero k f =
     total-cons 0 k f ∙ omega (arith, sum-cong k (λ b. f (b ∷ []) + 0) (λ b. f (b ∷ [])) (λ b l. omega arith))
 total-snoc (suc n) k f =
-    total-cons (suc n) k f ∙ sum-cong k (λ a. total (λ w. f (a ∷ w)) (readings (suc n) k)) (λ a. total (λ w. ends (a ∷ w)) (readings n k)) (λ a l. total-snoc n k (λ w. f (a ∷ w))) ∙ sym (total-cons n k ends)
+    total-cons (suc n) k f ∙ sum-cong k (λ a. total (λ w. f (a ∷ w)) (readings (suc n) k)) (λ a. total (λ w. ends (a ∷ w)) (readings n k))
+    (λ a l. total-snoc n k (λ w. f (a ∷ w))) ∙ sym (total-cons n k ends)
   where
     ends : List ℕ → ℕ
     ends w = sumBelow k (λ b. f (w ++ (b ∷ [])))

@@ -119,7 +119,8 @@ pub increasing-fan : (d : ℕ) (ws : List (List ℕ)) → Increasing ws → Incr
 unfolding fan
 increasing-fan zero ws p = empty
 increasing-fan (suc d) ws p =
-    increasing-append (fan d ws) (map (λ w. d ∷ w) ws) (increasing-fan d ws p) (increasing-map d ws p) (fan-all d ws (λ b l. all-of-each (λ v. all-map (λ w. d ∷ w) ws (all-of-each (λ w. before-lt b d v w l) ws)) ws))
+    increasing-append (fan d ws) (map (λ w. d ∷ w) ws) (increasing-fan d ws p) (increasing-map d ws p)
+    (fan-all d ws (λ b l. all-of-each (λ v. all-map (λ w. d ∷ w) ws (all-of-each (λ w. before-lt b d v w l) ws)) ws))
 
 -- the list of all readings is in increasing order
 pub readings-increasing : (n k : ℕ) → Increasing (readings n k)
@@ -147,7 +148,12 @@ unfolding first
 first-least f [] v a i h = absurd (let z : _≡_ {A = ℕ} 0 1 = cc in omega arith)
 first-least {P} f (w ∷ ws) v (also p a) (more b i) h =
     elim (test (f w)) [
-      | passes e ↦ let g = rw (e, first) at h in let q : w ≡ v = cc in subst (Least P f (w ∷ ws)) q (record { holds = p; passing = e; least = also (λ g. upTo-refl w) (all-weaken (λ u l g. before-upTo w u l) b) })
+      | passes e ↦ let g = rw (e, first) at h in let q : w ≡ v = cc in
+          subst (Least P f (w ∷ ws)) q (record {
+            holds = p;
+            passing = e;
+            least = also (λ g. upTo-refl w) (all-weaken (λ u l g. before-upTo w u l) b);
+          })
       | fails e ↦ later e (first-least f ws v a i (rw (e, first) at h))
     ]
   where

@@ -25,7 +25,11 @@ pub not-all : (n : ℕ) (f : ℕ → Bool) → allBelow n f ≡ false → (i : �
 unfolding allBelow
 not-all zero f h = absurd (false≢true (sym h))
 not-all (suc n) f h =
-    elim (test (f n)) [ fails e ↦ (n, omega arith, e) | passes e ↦ elim (test (allBelow n f)) [ passes a ↦ clash (allBelow n f && f n) (both (allBelow n f) (f n) a e) h | fails a ↦ wider (not-all n f a) ] ]
+    elim (test (f n)) [
+      | fails e ↦ (n, omega arith, e)
+      | passes e ↦ elim (test (allBelow n f))
+          [ passes a ↦ clash (allBelow n f && f n) (both (allBelow n f) (f n) a e) h | fails a ↦ wider (not-all n f a) ]
+    ]
   where
     wider : (i : ℕ) × (i < n) × (f i ≡ false) → (i : ℕ) × (i < suc n) × (f i ≡ false)
     wider (i, l, g) = (i, omega arith, g)
@@ -95,7 +99,11 @@ pub greatest-none : (n : ℕ) (f : ℕ → Bool) (i : ℕ) → greatest n f < i 
 unfolding greatest
 greatest-none zero f i h l = absurd (omega arith)
 greatest-none (suc n) f i h l =
-    elim (test (f (suc n))) [ passes e ↦ absurd (let g = rw (e, greatest) at h in omega arith) | fails e ↦ elim (tri i (suc n)) [ lt j ↦ greatest-none n f i (rw (e, greatest) at h) (omega arith) | eq j ↦ rw j e | gt j ↦ absurd (omega arith) ] ]
+    elim (test (f (suc n))) [
+      | passes e ↦ absurd (let g = rw (e, greatest) at h in omega arith)
+      | fails e ↦ elim (tri i (suc n))
+          [ lt j ↦ greatest-none n f i (rw (e, greatest) at h) (omega arith) | eq j ↦ rw j e | gt j ↦ absurd (omega arith) ]
+    ]
 
 pub greatest-is : (n : ℕ) (f : ℕ → Bool) (i : ℕ) → 0 < i → i ≤ n → f i ≡ true → ((j : ℕ) → i < j → j ≤ n → f j ≡ false) → greatest n f ≡ i
 greatest-is n f i z l e none =

@@ -37,7 +37,12 @@ module _ (f g : ℕ → ℕ) where
   alike-less n h l = omega (arith, l .less, h (l .at) (l .bound))
 
   pub less-asym : (n : ℕ) → Less f g n → Less g f n → ⊥
-  less-asym n p q = elim (tri (p .at) (q .at)) [ lt h ↦ omega (arith, p .less, q .agree (p .at) h) | eq h ↦ omega (arith, p .less, q .less, place f (p .at) (q .at) h, place g (p .at) (q .at) h) | gt h ↦ omega (arith, q .less, p .agree (q .at) h) ]
+  less-asym n p q = elim (tri (p .at) (q .at)) [
+    | lt h ↦ omega (arith, p .less, q .agree (p .at) h)
+    | eq h ↦ omega
+        (arith, p .less, q .less, place f (p .at) (q .at) h, place g (p .at) (q .at) h)
+    | gt h ↦ omega (arith, q .less, p .agree (q .at) h)
+  ]
 
   -- the three ways
   pub cmp : (n : ℕ) → Cmp f g n
@@ -56,11 +61,23 @@ pub less-trans : (f g h : ℕ → ℕ) (n : ℕ) → Less f g n → Less g h n �
 less-trans f g h n p q =
     elim (tri (p .at) (q .at)) [
       | lt e ↦ record { at = p .at; bound = p .bound; agree = λ m l. p .agree m l ∙ q .agree m (omega arith); less = omega (arith, p .less, q .agree (p .at) e) }
-      | eq e ↦ record { at = p .at; bound = p .bound; agree = λ m l. p .agree m l ∙ q .agree m (omega arith); less = omega (arith, p .less, q .less, place g (p .at) (q .at) e, place h (p .at) (q .at) e) }
+      | eq e ↦ record {
+        at = p .at;
+        bound = p .bound;
+        agree = λ m l. p .agree m l ∙ q .agree m (omega arith);
+        less = omega
+            (arith, p .less, q .less, place g (p .at) (q .at) e, place h (p .at) (q .at) e);
+      }
       | gt e ↦ record { at = q .at; bound = q .bound; agree = λ m l. p .agree m (omega arith) ∙ q .agree m l; less = omega (arith, q .less, p .agree (q .at) e) }
     ]
 
 -- the same difference, seen through equal sequences
 pub recast : (f g f′ g′ : ℕ → ℕ) (n : ℕ) → ((m : ℕ) → m < n → f m ≡ f′ m) → ((m : ℕ) → m < n → g m ≡ g′ m) → Less f g n → Less f′ g′ n
 recast f g f′ g′ n p q l =
-    record { at = l .at; bound = l .bound; agree = λ m h. sym (p m (omega (arith, l .bound))) ∙ l .agree m h ∙ q m (omega (arith, l .bound)); less = omega (arith, l .less, p (l .at) (l .bound), q (l .at) (l .bound)) }
+    record {
+      at = l .at;
+      bound = l .bound;
+      agree = λ m h. sym (p m (omega (arith, l .bound))) ∙ l .agree m h ∙ q m (omega (arith, l .bound));
+      less =
+          omega (arith, l .less, p (l .at) (l .bound), q (l .at) (l .bound));
+    }

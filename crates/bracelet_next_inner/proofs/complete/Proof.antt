@@ -14,17 +14,8 @@ Inv-loop s₀ m k top i₀ p₀ s i p = Leading k s₀ m s i
 abbrev μ-loop : tie.MeasureT-loop
 μ-loop s₀ m k top i₀ p₀ s i p = length s - i
 
-sub-top : tie.Need-sub-top Inv-loop μ-loop
-sub-top c = search needs
-
-cast-top : tie.Need-cast-top Inv-loop μ-loop
-cast-top c = search needs
-
 loop-holds : tie.Need-loop-holds Inv-loop μ-loop
 loop-holds c = let a = c .before .args in leading-start (a .k) (a .s .now) (a .m) (c .before .pre .2)
-
-asked-requires : tie.Need-asked-requires Inv-loop μ-loop
-asked-requires c κs = search needs
 
 settle-requires : tie.Need-settle-requires Inv-loop μ-loop
 settle-requires c κs =
@@ -32,15 +23,6 @@ settle-requires c κs =
     let l = c .before .before .before .before .loop in
     leading-settles (a .k) (a .s .now) (a .m) (l .s) (l .i) (a .k - 1) (l .inv) (c .before .before .before .loop-test .taken) refl _
     (omega (arith, c .before .before .before .before .before .before .pre .0))
-
-add-next : tie.Need-add-next Inv-loop μ-loop
-add-next c = search needs
-
-slice-read-if1 : tie.Need-slice-read-if1 Inv-loop μ-loop
-slice-read-if1 c = search needs
-
-loop-less : tie.Need-loop-less Inv-loop μ-loop
-loop-less c = search needs
 
 loop-again : tie.Need-loop-again Inv-loop μ-loop
 loop-again c =
@@ -50,9 +32,6 @@ loop-again c =
     (c .before .before .before .before .before .before .before .before .loop-test .taken) refl _ (omega arith) _ (search needs)
     (c .before .before .before .before .settle .ensures)
 
-loop-less-2 : tie.Need-loop-less-2 Inv-loop μ-loop
-loop-less-2 c = search needs
-
 loop-again-2 : tie.Need-loop-again-2 Inv-loop μ-loop
 loop-again-2 c =
     let a = c .before .before .before .before .before .before .before .before .before .before .before .args in
@@ -60,9 +39,6 @@ loop-again-2 c =
     leading-on (a .k) (a .s .now) (a .m) (l .s) (l .i) (a .k - 1) (l .inv)
     (c .before .before .before .before .before .before .before .before .loop-test .taken) refl _ (omega arith) _ (search needs)
     (c .before .before .before .before .settle .ensures)
-
-same-length : tie.Need-same-length Inv-loop μ-loop
-same-length c = search needs
 
 returns : tie.Need-returns Inv-loop μ-loop
 returns c =
@@ -72,5 +48,6 @@ returns c =
 
 pub complete-spec : {M : Type 1} → statement M
 complete-spec =
-    tie.close (tie.spec Inv-loop μ-loop sub-top cast-top loop-holds asked-requires settle-requires add-next slice-read-if1 loop-less loop-again loop-less-2
-    loop-again-2 same-length returns)
+    tie.close (tie.spec Inv-loop μ-loop (λ c. search needs) (λ c. search needs) loop-holds (λ c κs. search needs)
+    settle-requires (λ c. search needs) (λ c. search needs) (λ c. search needs) loop-again (λ c. search needs)
+    loop-again-2 (λ c. search needs) returns)

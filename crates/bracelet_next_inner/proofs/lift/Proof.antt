@@ -14,29 +14,13 @@ Inv-loop s₀ k top i₀ s i = Lifting k s₀ s i
 abbrev μ-loop : tie.MeasureT-loop
 μ-loop s₀ k top i₀ s i = i
 
-sub-top : tie.Need-sub-top Inv-loop μ-loop
-sub-top c = search needs
-
-cast-top : tie.Need-cast-top Inv-loop μ-loop
-cast-top c = search needs
-
 loop-holds : tie.Need-loop-holds Inv-loop μ-loop
 loop-holds c = let g = c .before in lifting-start (g .args .k) (g .args .s .now) (g .pre)
 
-sub-i : tie.Need-sub-i Inv-loop μ-loop
-sub-i c = search needs
-
-slice-read-here : tie.Need-slice-read-here Inv-loop μ-loop
-slice-read-here c = search needs
-
-loop-less : tie.Need-loop-less Inv-loop μ-loop
-loop-less c = search needs
-
 loop-again : tie.Need-loop-again Inv-loop μ-loop
-loop-again c = let g = c .before .before .before .before .before in let a = g .args in let l = c .before .before .before .loop in lifting-full (a .k) (a .s .now) (g .pre) (l .s) (l .i) (l .i - 1) (a .k - 1) (l .inv) (omega arith) refl (c .if1 .taken)
-
-slice-write-s : tie.Need-slice-write-s Inv-loop μ-loop
-slice-write-s c = search needs
+loop-again c =
+    let g = c .before .before .before .before .before in let a = g .args in let l = c .before .before .before .loop in
+    lifting-full (a .k) (a .s .now) (g .pre) (l .s) (l .i) (l .i - 1) (a .k - 1) (l .inv) (omega arith) refl (c .if1 .taken)
 
 is-bracelet-requires : tie.Need-is-bracelet-requires Inv-loop μ-loop
 is-bracelet-requires c κs = simp length-set (omega (arith, c .before .before .before .before .loop .inv .long, c .before .before .before .before .before .before .pre .pos))
@@ -62,10 +46,8 @@ settle-requires c κs =
     let l = c .before .before .before .before .before .before .before .loop in
     let is = sym (c .before .before .is-bracelet .ensures) ∙ c .before .if2 .taken in
     let up = c .before .before .before .before .if1 .left in
-    lifting-settles (a .k) (a .s .now) (g .pre) (l .s) (l .i) (l .i - 1) (a .k - 1) (l .inv) (omega arith) refl is up _ (omega (arith, lifting-below (a .k) (a .s .now) (g .pre) (l .s) (l .i) (l .i - 1) (a .k - 1) (l .inv) (omega arith) refl is up))
-
-add-result : tie.Need-add-result Inv-loop μ-loop
-add-result c = search needs
+    lifting-settles (a .k) (a .s .now) (g .pre) (l .s) (l .i) (l .i - 1) (a .k - 1) (l .inv) (omega arith) refl is up _
+    (omega (arith, lifting-below (a .k) (a .s .now) (g .pre) (l .s) (l .i) (l .i - 1) (a .k - 1) (l .inv) (omega arith) refl is up))
 
 same-length : tie.Need-same-length Inv-loop μ-loop
 same-length c =
@@ -79,16 +61,16 @@ returns c =
     let g = c .before .before .before .before .before .before .before .before .before .before .before .before in
     let a = g .args in
     let l = c .before .before .before .before .before .before .before .before .before .before .loop in
-    lifting-found (a .k) (a .s .now) (g .pre) (l .s) (l .i) (l .i - 1) (a .k - 1) (l .inv) (omega arith) refl (sym (c .before .before .before .before .before .is-bracelet .ensures) ∙ c .before .before .before .before .if2 .taken) (c .before .before .before .before .before .before .before .if1 .left) _ (omega arith) (omega arith) _ (c .before .before .settle .ensures)
-
-loop-less-2 : tie.Need-loop-less-2 Inv-loop μ-loop
-loop-less-2 c = search needs
+    lifting-found (a .k) (a .s .now) (g .pre) (l .s) (l .i) (l .i - 1) (a .k - 1) (l .inv) (omega arith) refl
+    (sym (c .before .before .before .before .before .is-bracelet .ensures) ∙ c .before .before .before .before .if2 .taken)
+    (c .before .before .before .before .before .before .before .if1 .left) _ (omega arith) (omega arith) _ (c .before .before .settle .ensures)
 
 loop-again-2 : tie.Need-loop-again-2 Inv-loop μ-loop
-loop-again-2 c = let g = c .before .before .before .before .before .before .before .before in let a = g .args in let l = c .before .before .before .before .before .before .loop in lifting-stuck (a .k) (a .s .now) (g .pre) (l .s) (l .i) (l .i - 1) (a .k - 1) (l .inv) (omega arith) refl (sym (c .before .is-bracelet .ensures) ∙ c .if2 .left)
-
-same-length-2 : tie.Need-same-length-2 Inv-loop μ-loop
-same-length-2 c = search needs
+loop-again-2 c =
+    let g = c .before .before .before .before .before .before .before .before in let a = g .args in
+    let l = c .before .before .before .before .before .before .loop in
+    lifting-stuck (a .k) (a .s .now) (g .pre) (l .s) (l .i) (l .i - 1) (a .k - 1) (l .inv) (omega arith) refl
+    (sym (c .before .is-bracelet .ensures) ∙ c .if2 .left)
 
 returns-2 : tie.Need-returns-2 Inv-loop μ-loop
 returns-2 c = let g = c .before .before .before in let a = g .args in let l = c .before .loop in lifting-none (a .k) (a .s .now) (g .pre) (l .s) (l .i) (l .inv) (c .loop-test .left)
@@ -96,25 +78,7 @@ returns-2 c = let g = c .before .before .before in let a = g .args in let l = c 
 pub lift-spec : {M : Type 1} → statement M
 lift-spec =
     tie.close
-    (tie.spec
-    Inv-loop
-    μ-loop
-    sub-top
-    cast-top
-    loop-holds
-    sub-i
-    slice-read-here
-    loop-less
-    loop-again
-    slice-write-s
-    is-bracelet-requires
-    add-settle
-    add-settle-2
-    settle-requires
-    add-result
-    same-length
-    returns
-    loop-less-2
-    loop-again-2
-    same-length-2
-    returns-2)
+    (tie.spec Inv-loop μ-loop (λ c. search needs) (λ c. search needs) loop-holds (λ c. search needs)
+    (λ c. search needs) (λ c. search needs) loop-again (λ c. search needs) is-bracelet-requires add-settle
+    add-settle-2 settle-requires (λ c. search needs) same-length returns (λ c. search needs) loop-again-2
+    (λ c. search needs) returns-2)

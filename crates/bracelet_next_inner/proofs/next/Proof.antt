@@ -4,25 +4,26 @@ use borrow.Author.Needs.{needs}
 use Rattle.bracelet_next_inner.proofs.next.Statement.{statement}
 use Rattle.bracelet_next_inner.proofs.next.Tie as tie
 
-lift-requires : tie.Need-lift-requires
-lift-requires c κs = search needs
-
-same-length : tie.Need-same-length
-same-length c = search needs
-
 returns : tie.Need-returns
 returns c = c .before .before .before .lift .ensures .none-above (c .if1 .taken)
 
 complete-requires : tie.Need-complete-requires
-complete-requires c κs = let p = c .before .before .before .before .before .before .before .pre in (p .some-shades, p .shades, (c .before .before .before .before .before .before .before .args .s .now, c .before .before .before .before .lift .ensures .leads (omega (arith, c .before .if1 .left))))
-
-same-length-2 : tie.Need-same-length-2
-same-length-2 c = search needs
+complete-requires c κs =
+    let p = c .before .before .before .before .before .before .before .pre in (
+      p .some-shades,
+      p .shades,
+      (
+        c .before .before .before .before .before .before .before .args .s .now,
+        c .before .before .before .before .lift .ensures .leads (omega (arith, c .before .if1 .left)),
+      ),
+    )
 
 returns-2 : tie.Need-returns-2
-returns-2 c = c .before .before .complete .ensures (c .before .before .before .before .before .before .before .before .before .before .args .s .now) (c .before .before .before .before .before .before .before .lift .ensures .leads (omega (arith, c .before .before .before .before .if1 .left)))
+returns-2 c =
+    c .before .before .complete .ensures (c .before .before .before .before .before .before .before .before .before .before .args .s .now)
+    (c .before .before .before .before .before .before .before .lift .ensures .leads (omega (arith, c .before .before .before .before .if1 .left)))
 
 pub next-spec : {M : Type 1} → statement M
 next-spec =
     tie.close
-    (tie.spec lift-requires same-length returns complete-requires same-length-2 returns-2)
+    (tie.spec (λ c κs. search needs) (λ c. search needs) returns complete-requires (λ c. search needs) returns-2)

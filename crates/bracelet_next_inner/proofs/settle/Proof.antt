@@ -19,15 +19,6 @@ abbrev μ-loop : tie.MeasureT-loop
 loop-holds : tie.Need-loop-holds Inv-loop μ-loop
 loop-holds c = let a = c .before .args in settling-start (a .s .now) (a .m) (a .least) (a .top) (c .before .pre)
 
-between-requires : tie.Need-between-requires Inv-loop μ-loop
-between-requires c κs = search needs
-
-one-less-requires : tie.Need-one-less-requires Inv-loop μ-loop
-one-less-requires c κs = search needs
-
-slice-write-s : tie.Need-slice-write-s Inv-loop μ-loop
-slice-write-s c = search needs
-
 is-bracelet-requires : tie.Need-is-bracelet-requires Inv-loop μ-loop
 is-bracelet-requires c κs =
     simp length-set (omega (arith, c .before .before .before .before .loop .inv .long, c .before .before .before .before .before .before .pre .inside))
@@ -73,12 +64,6 @@ loop-again-2 c =
     (l .inv) (c .before .before .before .before .between .result) (c .before .before .before .before .between .ensures .up)
     (c .before .before .before .before .between .ensures .down) (sym (c .before .is-bracelet .ensures) ∙ c .if1 .left)
 
-slice-write-s-2 : tie.Need-slice-write-s-2 Inv-loop μ-loop
-slice-write-s-2 c = search needs
-
-same-length : tie.Need-same-length Inv-loop μ-loop
-same-length c = search needs
-
 returns : tie.Need-returns Inv-loop μ-loop
 returns c =
     let a = c .before .before .before .args in
@@ -87,5 +72,6 @@ returns c =
 
 pub settle-spec : {M : Type 1} → statement M
 settle-spec =
-    tie.close (tie.spec Inv-loop μ-loop loop-holds between-requires one-less-requires slice-write-s is-bracelet-requires loop-less loop-again add-low
-    loop-less-2 loop-again-2 slice-write-s-2 same-length returns)
+    tie.close (tie.spec Inv-loop μ-loop loop-holds (λ c κs. search needs) (λ c κs. search needs) (λ c. search needs)
+    is-bracelet-requires loop-less loop-again add-low loop-less-2 loop-again-2 (λ c. search needs) (λ c. search needs)
+    returns)

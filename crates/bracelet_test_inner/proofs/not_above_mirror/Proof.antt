@@ -24,20 +24,11 @@ returns c =
     let l = c .before .before .loop in
     sym (facing-whole (g .args .s .now) (g .pre .0) (g .pre .1) (l .i) (l .j) (l .inv) (c .before .loop-test .taken) (omega (arith, c .if1 .taken)))
 
-sub-p : tie.Need-sub-p Inv-loop μ-loop
-sub-p c = search needs
-
-around-requires : tie.Need-around-requires Inv-loop μ-loop
-around-requires c κs = search needs
-
 sub-p-2 : tie.Need-sub-p-2 Inv-loop μ-loop
 sub-p-2 c = omega (arith, c .around .ensures .inside)
 
 shared-slice-read-there : tie.Need-shared-slice-read-there Inv-loop μ-loop
 shared-slice-read-there c = omega (arith, c .before .around .ensures .inside)
-
-shared-slice-read-here : tie.Need-shared-slice-read-here Inv-loop μ-loop
-shared-slice-read-here c = search needs
 
 returns-2 : tie.Need-returns-2 Inv-loop μ-loop
 returns-2 c =
@@ -45,36 +36,25 @@ returns-2 c =
     let l = c .before .before .before .before .before .before .loop in
     let r = c .before .before .before .around in
     sym
-    (facing-above (g .args .s .now) (g .pre .0) (g .pre .1) (l .i) (l .j) (l .inv) (c .before .before .before .before .before .loop-test .taken) (omega (arith, l .inv .fits, c .before .before .before .before .if1 .left)) (r .result) (r .ensures) (c .if2 .taken))
-
-add-j : tie.Need-add-j Inv-loop μ-loop
-add-j c = search needs
-
-loop-less : tie.Need-loop-less Inv-loop μ-loop
-loop-less c = search needs
+    (facing-above (g .args .s .now) (g .pre .0) (g .pre .1) (l .i) (l .j) (l .inv) (c .before .before .before .before .before .loop-test .taken)
+    (omega (arith, l .inv .fits, c .before .before .before .before .if1 .left)) (r .result) (r .ensures) (c .if2 .taken))
 
 loop-again : tie.Need-loop-again Inv-loop μ-loop
 loop-again c =
     let g = c .before .before .before .before .before .before .before .before .before in
     let l = c .before .before .before .before .before .before .before .loop in
     let r = c .before .before .before .before .around in
-    facing-more (g .args .s .now) (g .pre .0) (g .pre .1) (l .i) (l .j) (l .inv) (c .before .before .before .before .before .before .loop-test .taken) (omega (arith, l .inv .fits, c .before .before .before .before .before .if1 .left)) (r .result) (r .ensures) (c .if3 .taken)
-
-add-i : tie.Need-add-i Inv-loop μ-loop
-add-i c = search needs
-
-add-i-2 : tie.Need-add-i-2 Inv-loop μ-loop
-add-i-2 c = search needs
-
-loop-less-2 : tie.Need-loop-less-2 Inv-loop μ-loop
-loop-less-2 c = search needs
+    facing-more (g .args .s .now) (g .pre .0) (g .pre .1) (l .i) (l .j) (l .inv) (c .before .before .before .before .before .before .loop-test .taken)
+    (omega (arith, l .inv .fits, c .before .before .before .before .before .if1 .left)) (r .result) (r .ensures) (c .if3 .taken)
 
 loop-again-2 : tie.Need-loop-again-2 Inv-loop μ-loop
 loop-again-2 c =
     let g = c .before .before .before .before .before .before .before .before .before in
     let l = c .before .before .before .before .before .before .before .loop in
     let r = c .before .before .before .before .around in
-    facing-skip (g .args .s .now) (g .pre .0) (g .pre .1) (l .i) (l .j) (l .inv) (c .before .before .before .before .before .before .loop-test .taken) (omega (arith, l .inv .fits, c .before .before .before .before .before .if1 .left)) (r .result) (r .ensures) (omega (arith, c .before .if2 .left, c .if3 .left))
+    facing-skip (g .args .s .now) (g .pre .0) (g .pre .1) (l .i) (l .j) (l .inv) (c .before .before .before .before .before .before .loop-test .taken)
+    (omega (arith, l .inv .fits, c .before .before .before .before .before .if1 .left)) (r .result) (r .ensures)
+    (omega (arith, c .before .if2 .left, c .if3 .left))
 
 returns-3 : tie.Need-returns-3 Inv-loop μ-loop
 returns-3 c =
@@ -85,22 +65,6 @@ returns-3 c =
 pub not-above-mirror-spec : {M : Type 1} → statement M
 not-above-mirror-spec =
     tie.close
-    (tie.spec
-    Inv-loop
-    μ-loop
-    loop-holds
-    returns
-    sub-p
-    around-requires
-    sub-p-2
-    shared-slice-read-there
-    shared-slice-read-here
-    returns-2
-    add-j
-    loop-less
-    loop-again
-    add-i
-    add-i-2
-    loop-less-2
-    loop-again-2
-    returns-3)
+    (tie.spec Inv-loop μ-loop loop-holds returns (λ c. search needs) (λ c κs. search needs) sub-p-2
+    shared-slice-read-there (λ c. search needs) returns-2 (λ c. search needs) (λ c. search needs) loop-again
+    (λ c. search needs) (λ c. search needs) (λ c. search needs) loop-again-2 returns-3)

@@ -13,37 +13,14 @@ returns c = (inl (inl (refl, c .if1 .taken)), refl)
 returns-2 : tie.Need-returns-2
 returns-2 c = (inl (inr (search needs, (refl, λ h. omega (arith, c .if2 .taken)))), refl)
 
-returns-3 : tie.Need-returns-3
-returns-3 c = search needs
-
-sub-read-head : tie.Need-sub-read-head
-sub-read-head c = search needs
-
-part-read-head-start : tie.Need-part-read-head-start
-part-read-head-start c = search needs
-
-part-read-head-end : tie.Need-part-read-head-end
-part-read-head-end c = search needs
-
-read-head-requires : tie.Need-read-head-requires
-read-head-requires c κs = search needs
-
-same-length : tie.Need-same-length
-same-length c = search needs
-
 returns-4 : tie.Need-returns-4
-returns-4 c = let a = c .before .before .before .before .before .before .before .before .before .before .args in record-read (a .catalogue .now) (a .start) (a .out .now) (c .before .before .read-head .result) _ (search needs) (search needs) (c .before .before .read-head .ensures)
+returns-4 c =
+    let a = c .before .before .before .before .before .before .before .before .before .before .args in
+    record-read (a .catalogue .now) (a .start) (a .out .now) (c .before .before .read-head .result) _ (search needs) (search needs)
+    (c .before .before .read-head .ensures)
 
 pub read-record-spec : {M : Type 1} → statement M
 read-record-spec =
     tie.close
-    (tie.spec
-    returns
-    returns-2
-    returns-3
-    sub-read-head
-    part-read-head-start
-    part-read-head-end
-    read-head-requires
-    same-length
-    returns-4)
+    (tie.spec returns returns-2 (λ c. search needs) (λ c. search needs) (λ c. search needs) (λ c. search needs)
+    (λ c κs. search needs) (λ c. search needs) returns-4)

@@ -8,17 +8,8 @@ use Rattle.refusal.proofs.More.{numbers-refused, numbers-passed}
 use Rattle.check_counts_inner.proofs.check_first.Statement.{statement}
 use Rattle.check_counts_inner.proofs.check_first.Tie as tie
 
-check-numbers-requires : tie.Need-check-numbers-requires
-check-numbers-requires c κs = search needs
-
-enum-known-r : tie.Need-enum-known-r
-enum-known-r c = search needs
-
 enum-told : tie.Need-enum-told
 enum-told c = search needs
-
-counts-fit-requires : tie.Need-counts-fit-requires
-counts-fit-requires c κs = search needs
 
 returns : tie.Need-returns
 returns c =
@@ -42,11 +33,4 @@ returns-3 c =
 pub check-first-spec : {M : Type 1} → statement M
 check-first-spec =
     tie.close
-    (tie.spec
-    check-numbers-requires
-    enum-known-r
-    enum-told
-    counts-fit-requires
-    returns
-    returns-2
-    returns-3)
+    (tie.spec (λ c κs. search needs) (λ c. search needs) enum-told (λ c κs. search needs) returns returns-2 returns-3)

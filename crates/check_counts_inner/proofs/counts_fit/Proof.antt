@@ -15,28 +15,10 @@ Inv-loop counts k n left₀ i₀ left i = (i ≤ length counts) × (sumOf counts
 abbrev μ-loop : tie.MeasureT-loop
 μ-loop counts k n left₀ i₀ left i = length counts - i
 
-returns : tie.Need-returns Inv-loop μ-loop
-returns c = search needs
-
-loop-holds : tie.Need-loop-holds Inv-loop μ-loop
-loop-holds c = search needs
-
-mul-x : tie.Need-mul-x Inv-loop μ-loop
-mul-x c = search needs
-
-shared-slice-read-x : tie.Need-shared-slice-read-x Inv-loop μ-loop
-shared-slice-read-x c = search needs
-
 returns-2 : tie.Need-returns-2 Inv-loop μ-loop
 returns-2 c =
     let l = c .before .before .before .loop in
     λ q. sum-over _ _ _ _ (l .inv .1) (omega arith) (c .if2 .taken) (q .1)
-
-add-i : tie.Need-add-i Inv-loop μ-loop
-add-i c = search needs
-
-loop-less : tie.Need-loop-less Inv-loop μ-loop
-loop-less c = search needs
 
 loop-again : tie.Need-loop-again Inv-loop μ-loop
 loop-again c =
@@ -58,16 +40,5 @@ returns-4 c =
 pub counts-fit-spec : {M : Type 1} → statement M
 counts-fit-spec =
     tie.close
-    (tie.spec
-    Inv-loop
-    μ-loop
-    returns
-    loop-holds
-    mul-x
-    shared-slice-read-x
-    returns-2
-    add-i
-    loop-less
-    loop-again
-    returns-3
-    returns-4)
+    (tie.spec Inv-loop μ-loop (λ c. search needs) (λ c. search needs) (λ c. search needs) (λ c. search needs)
+    returns-2 (λ c. search needs) (λ c. search needs) loop-again returns-3 returns-4)

@@ -20,8 +20,5 @@ returns-4 c = inl (inl (inl (inl (inr (search needs, (refl, search needs))))))
 returns-5 : tie.Need-returns-5
 returns-5 c = inl (inl (inl (inl (inr (search needs, (refl, search needs))))))
 
-returns-6 : tie.Need-returns-6
-returns-6 c = search needs
-
 pub check-numbers-spec : {M : Type 1} → statement M
-check-numbers-spec = tie.close (tie.spec returns returns-2 returns-3 returns-4 returns-5 returns-6)
+check-numbers-spec = tie.close (tie.spec returns returns-2 returns-3 returns-4 returns-5 (λ c. search needs))

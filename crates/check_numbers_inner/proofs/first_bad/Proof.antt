@@ -14,53 +14,18 @@ Inv-loop s limit i₀ i = (i ≤ length s) × ((j : ℕ) → j < i → getD s j 
 abbrev μ-loop : tie.MeasureT-loop
 μ-loop s limit i₀ i = length s - i
 
-greatest-requires : tie.Need-greatest-requires Inv-loop μ-loop
-greatest-requires c κs = search needs
-
-cast-if1 : tie.Need-cast-if1 Inv-loop μ-loop
-cast-if1 c = search needs
-
 returns : tie.Need-returns Inv-loop μ-loop
 returns c = record { within = omega arith; first = λ j h. omega (arith, c .before .greatest .ensures j h, c .if1 .taken); here = λ h. absurd (omega arith) }
-
-loop-holds : tie.Need-loop-holds Inv-loop μ-loop
-loop-holds c = search needs
-
-shared-slice-read-if2 : tie.Need-shared-slice-read-if2 Inv-loop μ-loop
-shared-slice-read-if2 c = search needs
 
 cast-if2 : tie.Need-cast-if2 Inv-loop μ-loop
 cast-if2 c = omega (arith, c .shared-slice-known2 .given (c .before .before .loop .i))
 
-returns-2 : tie.Need-returns-2 Inv-loop μ-loop
-returns-2 c = search needs
-
-add-i : tie.Need-add-i Inv-loop μ-loop
-add-i c = search needs
-
-loop-less : tie.Need-loop-less Inv-loop μ-loop
-loop-less c = search needs
-
 loop-again : tie.Need-loop-again Inv-loop μ-loop
 loop-again c = (search needs, below-more _ _ (c .before .before .before .loop .inv .1) (c .if2 .left))
-
-returns-3 : tie.Need-returns-3 Inv-loop μ-loop
-returns-3 c = search needs
 
 pub first-bad-spec : {M : Type 1} → statement M
 first-bad-spec =
     tie.close
-    (tie.spec
-    Inv-loop
-    μ-loop
-    greatest-requires
-    cast-if1
-    returns
-    loop-holds
-    shared-slice-read-if2
-    cast-if2
-    returns-2
-    add-i
-    loop-less
-    loop-again
-    returns-3)
+    (tie.spec Inv-loop μ-loop (λ c κs. search needs) (λ c. search needs) returns (λ c. search needs)
+    (λ c. search needs) cast-if2 (λ c. search needs) (λ c. search needs) (λ c. search needs) loop-again
+    (λ c. search needs))

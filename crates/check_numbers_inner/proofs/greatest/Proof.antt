@@ -14,18 +14,6 @@ Inv-loop s top₀ i₀ top i = (i ≤ length s) × ((j : ℕ) → j < i → getD
 abbrev μ-loop : tie.MeasureT-loop
 μ-loop s top₀ i₀ top i = length s - i
 
-loop-holds : tie.Need-loop-holds Inv-loop μ-loop
-loop-holds c = search needs
-
-shared-slice-read-here : tie.Need-shared-slice-read-here Inv-loop μ-loop
-shared-slice-read-here c = search needs
-
-add-i : tie.Need-add-i Inv-loop μ-loop
-add-i c = search needs
-
-loop-less : tie.Need-loop-less Inv-loop μ-loop
-loop-less c = search needs
-
 loop-again : tie.Need-loop-again Inv-loop μ-loop
 loop-again c =
     let l = c .before .before .before .loop in (
@@ -41,4 +29,5 @@ returns c = λ j h. c .before .loop .inv .1 j (omega arith)
 pub greatest-spec : {M : Type 1} → statement M
 greatest-spec =
     tie.close
-    (tie.spec Inv-loop μ-loop loop-holds shared-slice-read-here add-i loop-less loop-again returns)
+    (tie.spec Inv-loop μ-loop (λ c. search needs) (λ c. search needs) (λ c. search needs) (λ c. search needs)
+    loop-again returns)

@@ -6,12 +6,6 @@ use Rattle.refusal.proofs.More.{more-room}
 use Rattle.check_readings_inner.proofs.check_room.Statement.{statement}
 use Rattle.check_readings_inner.proofs.check_room.Tie as tie
 
-check-reading-requires : tie.Need-check-reading-requires
-check-reading-requires c κs = search needs
-
-enum-known-r : tie.Need-enum-known-r
-enum-known-r c = search needs
-
 enum-told : tie.Need-enum-told
 enum-told c = search needs
 
@@ -28,4 +22,4 @@ returns-3 c = let g = rw (c .before .enum-told .given .1) at (c .before .before 
 
 pub check-room-spec : {M : Type 1} → statement M
 check-room-spec =
-    tie.close (tie.spec check-reading-requires enum-known-r enum-told returns returns-2 returns-3)
+    tie.close (tie.spec (λ c κs. search needs) (λ c. search needs) enum-told returns returns-2 returns-3)

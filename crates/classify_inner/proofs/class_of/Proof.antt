@@ -15,9 +15,6 @@ use Rattle.classify_inner.proofs.scan.Reads as scan-reads
 returns : tie.Need-returns
 returns c = class-empty _ (c .if1 .taken)
 
-scan-requires : tie.Need-scan-requires
-scan-requires c κs = search needs
-
 returns-2 : tie.Need-returns-2
 returns-2 c = let b = c .before .before .scan in class-broken (c .before .before .before .before .before .args .s .now) (b .result) (b .ensures) (c .if2 .taken)
 
@@ -28,11 +25,17 @@ rem-if4 : tie.Need-rem-if4
 rem-if4 c = c .before .before .before .scan .ensures .run .pos
 
 returns-4 : tie.Need-returns-4
-returns-4 c = let b = c .before .before .before .before .scan in class-repeats (c .before .before .before .before .before .before .before .args .s .now) (b .result) (b .ensures) (c .before .before .if2 .left) (c .before .if3 .left) (c .if4 .taken)
+returns-4 c =
+    let b = c .before .before .before .before .scan in
+    class-repeats (c .before .before .before .before .before .before .before .args .s .now) (b .result) (b .ensures) (c .before .before .if2 .left)
+    (c .before .if3 .left) (c .if4 .taken)
 
 returns-5 : tie.Need-returns-5
-returns-5 c = let b = c .before .before .before .before .scan in class-opens (c .before .before .before .before .before .before .before .args .s .now) (b .result) (b .ensures) (c .before .before .if2 .left) (c .if4 .left)
+returns-5 c =
+    let b = c .before .before .before .before .scan in
+    class-opens (c .before .before .before .before .before .before .before .args .s .now) (b .result) (b .ensures) (c .before .before .if2 .left)
+    (c .if4 .left)
 
 pub class-of-spec : {M : Type 1} → statement M
 class-of-spec =
-    tie.close (tie.spec returns scan-requires returns-2 returns-3 rem-if4 returns-4 returns-5)
+    tie.close (tie.spec returns (λ c κs. search needs) returns-2 returns-3 rem-if4 returns-4 returns-5)

@@ -20,9 +20,6 @@ abbrev μ-loop : tie.MeasureT-loop
 loop-holds : tie.Need-loop-holds Inv-loop μ-loop
 loop-holds c = (omega (arith, c .pre), scan-start (c .args .s .now))
 
-shared-slice-read-here : tie.Need-shared-slice-read-here Inv-loop μ-loop
-shared-slice-read-here c = search needs
-
 shared-slice-read-opposite : tie.Need-shared-slice-read-opposite Inv-loop μ-loop
 shared-slice-read-opposite c = omega (arith, c .before .before .before .loop .inv .1 .short)
 
@@ -30,16 +27,13 @@ sub-t11 : tie.Need-sub-t11 Inv-loop μ-loop
 sub-t11 c = omega (arith, c .before .before .before .before .loop .inv .1 .short)
 
 returns : tie.Need-returns Inv-loop μ-loop
-returns c = let l = c .before .before .before .before .loop in scan-breaks (c .before .before .before .before .before .args .s .now) (l .i) (l .j) (l .inv .1) (c .before .before .before .loop-test .taken) (c .if1 .taken)
+returns c =
+    let l = c .before .before .before .before .loop in
+    scan-breaks (c .before .before .before .before .before .args .s .now) (l .i) (l .j) (l .inv .1) (c .before .before .before .loop-test .taken)
+    (c .if1 .taken)
 
 add-j : tie.Need-add-j Inv-loop μ-loop
 add-j c = omega (arith, c .before .before .before .before .before .loop .inv .1 .short)
-
-add-i : tie.Need-add-i Inv-loop μ-loop
-add-i c = search needs
-
-loop-less : tie.Need-loop-less Inv-loop μ-loop
-loop-less c = search needs
 
 loop-again : tie.Need-loop-again Inv-loop μ-loop
 loop-again c =
@@ -61,17 +55,5 @@ returns-2 c = let l = c .before .loop in scan-whole (c .before .before .args .s 
 pub scan-spec : {M : Type 1} → statement M
 scan-spec =
     tie.close
-    (tie.spec
-    Inv-loop
-    μ-loop
-    loop-holds
-    shared-slice-read-here
-    shared-slice-read-opposite
-    sub-t11
-    returns
-    add-j
-    add-i
-    loop-less
-    loop-again
-    sub-t12
-    returns-2)
+    (tie.spec Inv-loop μ-loop loop-holds (λ c. search needs) shared-slice-read-opposite sub-t11 returns add-j
+    (λ c. search needs) (λ c. search needs) loop-again sub-t12 returns-2)

@@ -9,12 +9,6 @@ use Rattle.converter.proofs.convert.Tie as tie
 returns : tie.Need-returns
 returns c = (room refl (λ e. omega (arith, e, c .if1 .taken)), refl)
 
-check-all-requires : tie.Need-check-all-requires
-check-all-requires c κs = search needs
-
-enum-known-r : tie.Need-enum-known-r
-enum-known-r c = search needs
-
 enum-told : tie.Need-enum-told
 enum-told c = search needs
 
@@ -24,21 +18,8 @@ write-all-requires c κs = (rw (c .before .enum-told .given .1) at (c .before .b
 returns-2 : tie.Need-returns-2
 returns-2 c = (damaged (c .before .before .before .before .if1 .left) (rw (c .before .r .given .1) at (c .before .before .before .check-all .ensures)), refl)
 
-same-length : tie.Need-same-length
-same-length c = search needs
-
-returns-3 : tie.Need-returns-3
-returns-3 c = search needs
-
 pub convert-spec : {M : Type 1} → statement M
 convert-spec =
     tie.close
-    (tie.spec
-    returns
-    check-all-requires
-    enum-known-r
-    enum-told
-    write-all-requires
-    returns-2
-    same-length
-    returns-3)
+    (tie.spec returns (λ c κs. search needs) (λ c. search needs) enum-told write-all-requires returns-2
+    (λ c. search needs) (λ c. search needs))

@@ -4,17 +4,8 @@ use borrow.Author.Needs.{needs}
 use Rattle.converter_blocks.proofs.check.Statement.{statement}
 use Rattle.converter_blocks.proofs.check.Tie as tie
 
-check-all-requires : tie.Need-check-all-requires
-check-all-requires c κs = search needs
-
 enum-told : tie.Need-enum-told
 enum-told c = search needs
-
-enum-known-r : tie.Need-enum-known-r
-enum-known-r c = search needs
-
-left-over-requires : tie.Need-left-over-requires
-left-over-requires c κs = search needs
 
 returns : tie.Need-returns
 returns c =
@@ -34,4 +25,4 @@ returns-2 c =
 pub check-spec : {M : Type 1} → statement M
 check-spec =
     tie.close
-    (tie.spec check-all-requires enum-told enum-known-r left-over-requires returns returns-2)
+    (tie.spec (λ c κs. search needs) enum-told (λ c. search needs) (λ c κs. search needs) returns returns-2)

@@ -11,15 +11,6 @@ use Rattle.converter_blocks.proofs.convert.Tie as tie
 returns : tie.Need-returns
 returns c = (room refl (λ e. omega (arith, c .if1 .taken, e)), refl)
 
-check-requires : tie.Need-check-requires
-check-requires c κs = search needs
-
-enum-known-r : tie.Need-enum-known-r
-enum-known-r c = search needs
-
-enum-known-m : tie.Need-enum-known-m
-enum-known-m c = search needs
-
 slice-aggregate-write-all : tie.Need-slice-aggregate-write-all
 slice-aggregate-write-all c =
     let m = c .before .before .m in
@@ -57,9 +48,6 @@ returns-2 c =
     let check = c .before .before .before .check in
     (damaged (if1 .left) (rw (c .before .r .given .1) at (check .ensures)), refl)
 
-same-length : tie.Need-same-length
-same-length c = search needs
-
 returns-3 : tie.Need-returns-3
 returns-3 c =
     let args = c .before .before .before .before .before .before .before .before .before .before .before .before .args in
@@ -74,15 +62,6 @@ returns-3 c =
 pub convert-spec : {M : Type 1} → statement M
 convert-spec =
     tie.close
-    (tie.spec
-    returns
-    check-requires
-    enum-known-r
-    enum-known-m
-    slice-aggregate-write-all
-    slice-relend-prefix-write-all
-    slice-aggregate-write-all-2
-    write-all-requires
-    returns-2
-    same-length
+    (tie.spec returns (λ c κs. search needs) (λ c. search needs) (λ c. search needs) slice-aggregate-write-all
+    slice-relend-prefix-write-all slice-aggregate-write-all-2 write-all-requires returns-2 (λ c. search needs)
     returns-3)

@@ -8,12 +8,6 @@ use Rattle.converter_blocks.proofs.left_over.Tie as tie
 returns : tie.Need-returns
 returns c = left-last _ _ (c .if1 .taken)
 
-number-requires : tie.Need-number-requires
-number-requires c κs = search needs
-
-place-requires : tie.Need-place-requires
-place-requires c κs = search needs
-
 returns-2 : tie.Need-returns-2
 returns-2 c =
     let if1 = c .before .before .before .if1 in
@@ -24,4 +18,4 @@ returns-3 : tie.Need-returns-3
 returns-3 c = left-other _ _ (c .before .before .if1 .left) (λ e. c .if2 .left (c .before .number .ensures ∙ e))
 
 pub left-over-spec : {M : Type 1} → statement M
-left-over-spec = tie.close (tie.spec returns number-requires place-requires returns-2 returns-3)
+left-over-spec = tie.close (tie.spec returns (λ c κs. search needs) (λ c κs. search needs) returns-2 returns-3)

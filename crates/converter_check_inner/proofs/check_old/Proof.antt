@@ -15,10 +15,16 @@ returns-2 : tie.Need-returns-2
 returns-2 c = inl (inr (search needs, (refl, λ k. c .if2 .taken (k .1 .0))))
 
 returns-3 : tie.Need-returns-3
-returns-3 c = let a = c .before .before .before .before .before .before .before .args in rest-checked (a .rest .now) (a .start) front (c .check-behind .result) (search needs) (c .before .before .before .if2 .left, c .before .if3 .taken) (c .check-behind .ensures)
+returns-3 c =
+    let a = c .before .before .before .before .before .before .before .args in
+    rest-checked (a .rest .now) (a .start) front (c .check-behind .result) (search needs)
+    (c .before .before .before .if2 .left, c .before .if3 .taken) (c .check-behind .ensures)
 
 returns-4 : tie.Need-returns-4
-returns-4 c = let a = c .before .before .before .before .before .before .before .before .before .args in rest-checked (a .rest .now) (a .start) back (c .check-behind2 .result) (search needs) (c .before .before .before .before .before .if2 .left, c .before .if4 .taken) (c .check-behind2 .ensures)
+returns-4 c =
+    let a = c .before .before .before .before .before .before .before .before .before .args in
+    rest-checked (a .rest .now) (a .start) back (c .check-behind2 .result) (search needs)
+    (c .before .before .before .before .before .if2 .left, c .before .if4 .taken) (c .check-behind2 .ensures)
 
 returns-5 : tie.Need-returns-5
 returns-5 c =
@@ -28,14 +34,5 @@ returns-5 c =
 pub check-old-spec : {M : Type 1} → statement M
 check-old-spec =
     tie.close
-    (tie.spec
-    returns
-    (λ c. search needs)
-    returns-2
-    (λ c. search needs)
-    (λ c κs. search needs)
-    returns-3
-    (λ c. search needs)
-    (λ c κs. search needs)
-    returns-4
-    returns-5)
+    (tie.spec returns (λ c. search needs) returns-2 (λ c. search needs) (λ c κs. search needs) returns-3
+    (λ c. search needs) (λ c κs. search needs) returns-4 returns-5)

@@ -8,17 +8,13 @@ use borrow.Author.Needs.{needs}
 use Rattle.converter_sides_inner.proofs.settle.Statement.{statement}
 use Rattle.converter_sides_inner.proofs.settle.Tie as tie
 
-least-shift-requires : tie.Need-least-shift-requires
-least-shift-requires c κs = search needs
-
 turn-there-requires : tie.Need-turn-there-requires
 turn-there-requires c κs = omega (arith, c .before .least-shift .ensures, shift-lt (c .before .before .before .before .args .a .now) (c .before .before .before .before .pre))
 
-same-length : tie.Need-same-length
-same-length c = search needs
-
 returns : tie.Need-returns
-returns c = let w = c .before .before .before .before .before .before .before .args .a .now in c .before .before .turn-there .ensures ∙ ap (λ (i : ℕ). turn i w) (c .before .before .before .before .least-shift .ensures) ∙ sym (home-turn-of w)
+returns c =
+    let w = c .before .before .before .before .before .before .before .args .a .now in
+    c .before .before .turn-there .ensures ∙ ap (λ (i : ℕ). turn i w) (c .before .before .before .before .least-shift .ensures) ∙ sym (home-turn-of w)
 
 pub settle-spec : {M : Type 1} → statement M
-settle-spec = tie.close (tie.spec least-shift-requires turn-there-requires same-length returns)
+settle-spec = tie.close (tie.spec (λ c κs. search needs) turn-there-requires (λ c. search needs) returns)

@@ -7,63 +7,60 @@ use borrow.Author.Needs.{needs}
 use Rattle.converter_turn_inner.proofs.put_front.Statement.{statement}
 use Rattle.converter_turn_inner.proofs.put_front.Tie as tie
 
-copy-requires : tie.Need-copy-requires
-copy-requires c κs = search needs
-
-shared-slice-read-if1 : tie.Need-shared-slice-read-if1
-shared-slice-read-if1 c = search needs
-
-same-length : tie.Need-same-length
-same-length c = search needs
-
 returns : tie.Need-returns
-returns c = let a = c .before .before .before .before .before .before .before .before .args in passed-on (a .part .now) (a .out .now) _ (c .before .before .before .before .before .before .before .before .pre .0) (c .before .before .before .before .before .before .before .before .pre .1) (c .before .before .before .before .copy .ensures .1) (c .if1 .taken)
-
-slice-write-out : tie.Need-slice-write-out
-slice-write-out c = search needs
-
-sub-turn-over : tie.Need-sub-turn-over
-sub-turn-over c = search needs
-
-part-turn-over-start : tie.Need-part-turn-over-start
-part-turn-over-start c = search needs
-
-part-turn-over-end : tie.Need-part-turn-over-end
-part-turn-over-end c = search needs
+returns c =
+    let a = c .before .before .before .before .before .before .before .before .args in
+    passed-on (a .part .now) (a .out .now) _ (c .before .before .before .before .before .before .before .before .pre .0)
+    (c .before .before .before .before .before .before .before .before .pre .1) (c .before .before .before .before .copy .ensures .1) (c .if1 .taken)
 
 sub-turn-over-2 : tie.Need-sub-turn-over-2
-sub-turn-over-2 c = simp length-set (omega (arith, c .before .before .before .before .before .before .before .before .before .pre .0, c .before .before .before .before .before .before .before .before .before .pre .1, c .before .before .before .before .out .given))
+sub-turn-over-2 c =
+    simp length-set (omega (
+      arith,
+      c .before .before .before .before .before .before .before .before .before .pre .0,
+      c .before .before .before .before .before .before .before .before .before .pre .1,
+      c .before .before .before .before .out .given,
+    ))
 
 part-turn-over-start-2 : tie.Need-part-turn-over-start-2
-part-turn-over-start-2 c = simp length-set (omega (arith, c .before .before .before .before .before .before .before .before .before .pre .0, c .before .before .before .before .before .before .before .before .before .pre .1, c .before .before .before .before .out .given))
-
-part-turn-over-end-2 : tie.Need-part-turn-over-end-2
-part-turn-over-end-2 c = search needs
+part-turn-over-start-2 c =
+    simp length-set (omega (
+      arith,
+      c .before .before .before .before .before .before .before .before .before .pre .0,
+      c .before .before .before .before .before .before .before .before .before .pre .1,
+      c .before .before .before .before .out .given,
+    ))
 
 turn-over-requires : tie.Need-turn-over-requires
-turn-over-requires c κs = simp (length-take, length-drop, length-set) (omega (arith, c .before .before .before .before .before .before .before .before .before .before .pre .0, c .before .before .before .before .before .before .before .before .before .before .pre .1, c .before .before .before .before .before .out .given))
+turn-over-requires c κs =
+    simp (length-take, length-drop, length-set)
+    (omega (
+      arith,
+      c .before .before .before .before .before .before .before .before .before .before .pre .0,
+      c .before .before .before .before .before .before .before .before .before .before .pre .1,
+      c .before .before .before .before .before .out .given,
+    ))
 
 same-length-2 : tie.Need-same-length-2
-same-length-2 c = let a = c .before .before .before .before .before .before .before .before .before .before .before .before .before .args in kept (a .part .now) (a .out .now) _ _ _ (c .before .before .before .before .before .before .before .before .before .before .before .before .before .pre .0) (c .before .before .before .before .before .before .before .before .before .before .before .before .before .pre .1) (c .before .before .before .before .before .before .before .before .before .copy .ensures .1) (c .before .before .turn-over .ensures)
+same-length-2 c =
+    let a = c .before .before .before .before .before .before .before .before .before .before .before .before .before .args in
+    kept (a .part .now) (a .out .now) _ _ _
+    (c .before .before .before .before .before .before .before .before .before .before .before .before .before .pre .0)
+    (c .before .before .before .before .before .before .before .before .before .before .before .before .before .pre .1)
+    (c .before .before .before .before .before .before .before .before .before .copy .ensures .1) (c .before .before .turn-over .ensures)
 
 returns-2 : tie.Need-returns-2
-returns-2 c = let a = c .before .before .before .before .before .before .before .before .before .before .before .before .before .args in turned-over (a .part .now) (a .out .now) _ _ _ (c .before .before .before .before .before .before .before .before .before .before .before .before .before .pre .0) (c .before .before .before .before .before .before .before .before .before .before .before .before .before .pre .1) (c .before .before .before .before .before .before .before .before .before .copy .ensures .1) (c .before .before .before .before .before .if1 .left) (c .before .before .turn-over .ensures) refl
+returns-2 c =
+    let a = c .before .before .before .before .before .before .before .before .before .before .before .before .before .args in
+    turned-over (a .part .now) (a .out .now) _ _ _
+    (c .before .before .before .before .before .before .before .before .before .before .before .before .before .pre .0)
+    (c .before .before .before .before .before .before .before .before .before .before .before .before .before .pre .1)
+    (c .before .before .before .before .before .before .before .before .before .copy .ensures .1)
+    (c .before .before .before .before .before .if1 .left) (c .before .before .turn-over .ensures) refl
 
 pub put-front-spec : {M : Type 1} → statement M
 put-front-spec =
     tie.close
-    (tie.spec
-    copy-requires
-    shared-slice-read-if1
-    same-length
-    returns
-    slice-write-out
-    sub-turn-over
-    part-turn-over-start
-    part-turn-over-end
-    sub-turn-over-2
-    part-turn-over-start-2
-    part-turn-over-end-2
-    turn-over-requires
-    same-length-2
-    returns-2)
+    (tie.spec (λ c κs. search needs) (λ c. search needs) (λ c. search needs) returns (λ c. search needs)
+    (λ c. search needs) (λ c. search needs) (λ c. search needs) sub-turn-over-2 part-turn-over-start-2
+    (λ c. search needs) turn-over-requires same-length-2 returns-2)

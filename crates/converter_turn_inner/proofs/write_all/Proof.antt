@@ -51,13 +51,19 @@ part-put-front-end-2 : tie.Need-part-put-front-end-2 Inv-loop μ-loop
 part-put-front-end-2 c = let g = going-room _ _ _ (c .before .before .before .loop .inv) (c .before .before .loop-test .taken) in omega (arith, g .2, c .before .before .before .loop .inv .long)
 
 put-front-requires : tie.Need-put-front-requires Inv-loop μ-loop
-put-front-requires c κs = let g = going-room _ _ _ (c .before .before .before .before .loop .inv) (c .before .before .before .loop-test .taken) in simp (length-take, length-drop) (omega (arith, g .0, g .1, g .2, c .before .before .before .before .loop .inv .long))
+put-front-requires c κs =
+    let g = going-room _ _ _ (c .before .before .before .before .loop .inv) (c .before .before .before .loop-test .taken) in
+    simp (length-take, length-drop) (omega (arith, g .0, g .1, g .2, c .before .before .before .before .loop .inv .long))
 
 loop-less : tie.Need-loop-less Inv-loop μ-loop
-loop-less c = let g = going-room _ _ _ (c .before .before .before .before .before .before .before .loop .inv) (c .before .before .before .before .before .before .loop-test .taken) in omega (arith, g .2)
+loop-less c =
+    let g = going-room _ _ _ (c .before .before .before .before .before .before .before .loop .inv)
+    (c .before .before .before .before .before .before .loop-test .taken) in omega (arith, g .2)
 
 loop-again : tie.Need-loop-again Inv-loop μ-loop
-loop-again c = going-on _ _ _ (c .before .before .before .before .before .before .before .loop .inv) (c .before .before .before .before .before .before .loop-test .taken) _ _ _ refl (c .before .before .put-front .ensures) refl
+loop-again c =
+    going-on _ _ _ (c .before .before .before .before .before .before .before .loop .inv)
+    (c .before .before .before .before .before .before .loop-test .taken) _ _ _ refl (c .before .before .put-front .ensures) refl
 
 same-length : tie.Need-same-length Inv-loop μ-loop
 same-length c = c .before .loop .inv .long ∙ sym (c .before .before .before .before .pre .1)
@@ -68,23 +74,6 @@ returns c = going-ended _ _ _ (c .before .loop .inv) (c .loop-test .left)
 pub write-all-spec : {M : Type 1} → statement M
 write-all-spec =
     tie.close
-    (tie.spec
-    Inv-loop
-    μ-loop
-    loop-holds
-    add-n
-    shared-slice-read-n
-    cast-n
-    add-e
-    add-e-2
-    sub-put-front
-    part-put-front-start
-    part-put-front-end
-    sub-put-front-2
-    part-put-front-start-2
-    part-put-front-end-2
-    put-front-requires
-    loop-less
-    loop-again
-    same-length
-    returns)
+    (tie.spec Inv-loop μ-loop loop-holds add-n shared-slice-read-n cast-n add-e add-e-2 sub-put-front
+    part-put-front-start part-put-front-end sub-put-front-2 part-put-front-start-2 part-put-front-end-2
+    put-front-requires loop-less loop-again same-length returns)

@@ -21,9 +21,6 @@ returns-3 c = (inl (inl (inr ((omega arith, omega arith), inl (refl, λ s. absur
 returns-4 : tie.Need-returns-4
 returns-4 c = (inl (inl (inr ((omega arith, omega arith), inl (refl, λ s. absurd (omega (arith, s .1)))))), refl)
 
-is-good-requires : tie.Need-is-good-requires
-is-good-requires c κs = search needs
-
 returns-5 : tie.Need-returns-5
 returns-5 c = (inl (inl (inr ((omega arith, omega arith), inr ((omega arith, omega arith), (refl, λ g. clash _ (c .before .is-good .ensures ∙ g) (not-true _ (c .if5 .taken))))))), refl)
 
@@ -31,12 +28,6 @@ returns-6 : tie.Need-returns-6
 returns-6 c =
     let good : _ ≡ true = sym (c .before .before .is-good .ensures) ∙ not-false _ (c .before .if5 .left) in
     (inl (inr (((omega arith, omega arith), ((omega arith, omega arith), good)), (refl, c .if6 .taken))), refl)
-
-cast-shades : tie.Need-cast-shades
-cast-shades c = search needs
-
-first-unreadable-requires : tie.Need-first-unreadable-requires
-first-unreadable-requires c κs = search needs
 
 returns-7 : tie.Need-returns-7
 returns-7 c =
@@ -47,29 +38,15 @@ returns-7 c =
 write-shades-requires : tie.Need-write-shades-requires
 write-shades-requires c κs = let s = c .before .before .first-unreadable .ensures in ((omega arith, omega arith), (λ i h. s .before i (omega arith)), omega arith)
 
-same-length : tie.Need-same-length
-same-length c = search needs
-
 returns-8 : tie.Need-returns-8
 returns-8 c =
-    let good : _ ≡ true = sym (c .before .before .before .before .before .before .before .before .is-good .ensures) ∙ not-false _ (c .before .before .before .before .before .before .before .if5 .left) in
+    let good : _ ≡ true = sym (c .before .before .before .before .before .before .before .before .is-good .ensures) ∙ not-false _
+    (c .before .before .before .before .before .before .before .if5 .left) in
     let s = c .before .before .before .before .before .first-unreadable .ensures in
     (((((omega arith, omega arith), ((omega arith, omega arith), good)), omega arith), (λ i h. s .before i (omega arith))), c .before .before .write-shades .ensures)
 
 pub ring-shades-spec : {M : Type 1} → statement M
 ring-shades-spec =
     tie.close
-    (tie.spec
-    returns
-    returns-2
-    returns-3
-    returns-4
-    is-good-requires
-    returns-5
-    returns-6
-    cast-shades
-    first-unreadable-requires
-    returns-7
-    write-shades-requires
-    same-length
-    returns-8)
+    (tie.spec returns returns-2 returns-3 returns-4 (λ c κs. search needs) returns-5 returns-6 (λ c. search needs)
+    (λ c κs. search needs) returns-7 write-shades-requires (λ c. search needs) returns-8)

@@ -15,20 +15,12 @@ returns c = inl (refl, λ s. absurd (omega (arith, s .0)))
 returns-2 : tie.Need-returns-2
 returns-2 c = inl (refl, λ s. absurd (omega (arith, s .1)))
 
-is-good-requires : tie.Need-is-good-requires
-is-good-requires c κs = search needs
-
 returns-3 : tie.Need-returns-3
 returns-3 c = inr ((omega arith, omega arith), (refl, λ g. clash _ (c .before .is-good .ensures ∙ g) (not-true _ (c .if3 .taken))))
-
-cast-read : tie.Need-cast-read
-cast-read c = search needs
-
-read-requires : tie.Need-read-requires
-read-requires c κs = search needs
 
 returns-4 : tie.Need-returns-4
 returns-4 c = (((omega arith, omega arith), sym (c .before .before .is-good .ensures) ∙ not-false _ (c .before .if3 .left)), c .read .ensures)
 
 pub sector-shade-spec : {M : Type 1} → statement M
-sector-shade-spec = tie.close (tie.spec returns returns-2 is-good-requires returns-3 cast-read read-requires returns-4)
+sector-shade-spec = tie.close (tie.spec returns returns-2 (λ c κs. search needs) returns-3 (λ c. search needs)
+    (λ c κs. search needs) returns-4)

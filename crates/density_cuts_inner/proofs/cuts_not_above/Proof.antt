@@ -16,32 +16,14 @@ Inv-loop card k x last shade₀ i₀ shade i = (i ≤ last) × (shade ≤ i) × 
 abbrev μ-loop : tie.MeasureT-loop
 μ-loop card k x last shade₀ i₀ shade i = last - i
 
-sub-last : tie.Need-sub-last Inv-loop μ-loop
-sub-last c = search needs
-
 loop-holds : tie.Need-loop-holds Inv-loop μ-loop
 loop-holds c = let a = c .args in (omega arith, omega arith, sym (none-counted (a .card) (a .k) (a .x)))
-
-add-j : tie.Need-add-j Inv-loop μ-loop
-add-j c = search needs
-
-cut-level-requires : tie.Need-cut-level-requires Inv-loop μ-loop
-cut-level-requires c κs = search needs
-
-add-shade : tie.Need-add-shade Inv-loop μ-loop
-add-shade c = search needs
-
-loop-less : tie.Need-loop-less Inv-loop μ-loop
-loop-less c = search needs
 
 loop-again : tie.Need-loop-again Inv-loop μ-loop
 loop-again c =
     let a = c .before .before .before .before .args in let l = c .before .before .before .loop in
     let e : le (cut (a .card) (a .k) (l .i + 1)) (a .x) ≡ true = rw (c .before .cut-level .ensures) at (c .if1 .taken) in
     (omega arith, omega arith, omega (arith, l .inv .2, one-counted (a .card) (a .k) (a .x) (l .i) e))
-
-loop-less-2 : tie.Need-loop-less-2 Inv-loop μ-loop
-loop-less-2 c = search needs
 
 loop-again-2 : tie.Need-loop-again-2 Inv-loop μ-loop
 loop-again-2 c =
@@ -58,16 +40,5 @@ returns c =
 pub cuts-not-above-spec : {M : Type 1} → statement M
 cuts-not-above-spec =
     tie.close
-    (tie.spec
-    Inv-loop
-    μ-loop
-    sub-last
-    loop-holds
-    add-j
-    cut-level-requires
-    add-shade
-    loop-less
-    loop-again
-    loop-less-2
-    loop-again-2
-    returns)
+    (tie.spec Inv-loop μ-loop (λ c. search needs) loop-holds (λ c. search needs) (λ c κs. search needs)
+    (λ c. search needs) (λ c. search needs) loop-again (λ c. search needs) loop-again-2 returns)

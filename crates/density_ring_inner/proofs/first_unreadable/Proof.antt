@@ -20,15 +20,6 @@ abbrev μ-loop : tie.MeasureT-loop
 loop-holds : tie.Need-loop-holds Inv-loop μ-loop
 loop-holds c = (omega arith, λ m h. absurd (omega arith))
 
-mul-read : tie.Need-mul-read Inv-loop μ-loop
-mul-read c = search needs
-
-shared-slice-read-read : tie.Need-shared-slice-read-read Inv-loop μ-loop
-shared-slice-read-read c = search needs
-
-read-requires : tie.Need-read-requires Inv-loop μ-loop
-read-requires c κs = search needs
-
 enum-told : tie.Need-enum-told Inv-loop μ-loop
 enum-told c = search needs
 
@@ -40,12 +31,6 @@ returns c =
       before = l .inv .1;
       here = λ h. has-none (a .card) (a .k) _ (c .before .read .result) (c .match .keys2) (c .before .read .ensures);
     }
-
-add-i : tie.Need-add-i Inv-loop μ-loop
-add-i c = search needs
-
-loop-less : tie.Need-loop-less Inv-loop μ-loop
-loop-less c = search needs
 
 loop-again : tie.Need-loop-again Inv-loop μ-loop
 loop-again c =
@@ -59,16 +44,5 @@ returns-2 c = let l = c .before .loop in record { within = l .inv .0; before = l
 pub first-unreadable-spec : {M : Type 1} → statement M
 first-unreadable-spec =
     tie.close
-    (tie.spec
-    Inv-loop
-    μ-loop
-    loop-holds
-    mul-read
-    shared-slice-read-read
-    read-requires
-    enum-told
-    returns
-    add-i
-    loop-less
-    loop-again
-    returns-2)
+    (tie.spec Inv-loop μ-loop loop-holds (λ c. search needs) (λ c. search needs) (λ c κs. search needs) enum-told
+    returns (λ c. search needs) (λ c. search needs) loop-again returns-2)

@@ -24,65 +24,58 @@ loop-holds c =
     let f = shadeOf (a .card) (a .k) in
     (omega arith, written-start (map f (a .values .now)) (a .out .now) (c .before .before .pre .2 ∙ sym (length-map (a .values .now) f)))
 
-mul-read : tie.Need-mul-read Inv-loop μ-loop
-mul-read c = search needs
-
-shared-slice-read-read : tie.Need-shared-slice-read-read Inv-loop μ-loop
-shared-slice-read-read c = search needs
-
-read-requires : tie.Need-read-requires Inv-loop μ-loop
-read-requires c κs = search needs
-
-enum-known-shade : tie.Need-enum-known-shade Inv-loop μ-loop
-enum-known-shade c = search needs
-
 same-length : tie.Need-same-length Inv-loop μ-loop
-same-length c = let a = c .before .before .before .before .before .before .before .args in omega (arith, c .before .before .before .before .loop .inv .1 .long, length-map (a .values .now) (shadeOf (a .card) (a .k)), c .before .before .before .before .before .before .before .pre .2)
+same-length c =
+    let a = c .before .before .before .before .before .before .before .args in
+    omega (
+      arith,
+      c .before .before .before .before .loop .inv .1 .long,
+      length-map (a .values .now) (shadeOf (a .card) (a .k)),
+      c .before .before .before .before .before .before .before .pre .2,
+    )
 
 returns : tie.Need-returns Inv-loop μ-loop
 returns c =
     let a = c .before .before .before .before .before .before .before .args in
-    absurd (has-none (a .card) (a .k) _ (c .before .read .result) (c .match .keys2) (c .before .read .ensures) (c .before .before .before .before .before .before .before .pre .1 (c .before .before .before .before .loop .i) (omega (arith, c .before .before .before .loop-test .taken))))
+    absurd (has-none (a .card) (a .k) _ (c .before .read .result) (c .match .keys2) (c .before .read .ensures)
+    (c .before .before .before .before .before .before .before .pre .1 (c .before .before .before .before .loop .i)
+    (omega (arith, c .before .before .before .loop-test .taken))))
 
 slice-write-out : tie.Need-slice-write-out Inv-loop μ-loop
-slice-write-out c = let a = c .before .before .before .before .before .before .before .before .before .args in omega (arith, c .before .before .before .before .before .before .loop .inv .1 .long, length-map (a .values .now) (shadeOf (a .card) (a .k)), c .before .before .before .before .before .loop-test .taken)
-
-add-i : tie.Need-add-i Inv-loop μ-loop
-add-i c = search needs
-
-loop-less : tie.Need-loop-less Inv-loop μ-loop
-loop-less c = search needs
+slice-write-out c =
+    let a = c .before .before .before .before .before .before .before .before .before .args in
+    omega (
+      arith,
+      c .before .before .before .before .before .before .loop .inv .1 .long,
+      length-map (a .values .now) (shadeOf (a .card) (a .k)),
+      c .before .before .before .before .before .loop-test .taken,
+    )
 
 loop-again : tie.Need-loop-again Inv-loop μ-loop
 loop-again c =
     let a = c .before .before .before .before .before .before .before .before .before .args in
     let l = c .before .before .before .before .before .before .loop in
     let f = shadeOf (a .card) (a .k) in
-    let h = has-one (a .card) (a .k) _ (c .before .before .before .read .result) _ (c .before .shade .given .1) (c .before .before .before .read .ensures) in
-    (omega arith, written-more (map f (a .values .now)) (l .out) (l .i) _ (l .inv .1) (omega (arith, length-map (a .values .now) f)) (h .1 ∙ sym (shade-at (a .card) (a .k) (a .values .now) (l .i) (omega arith))))
+    let h = has-one (a .card) (a .k) _ (c .before .before .before .read .result) _ (c .before .shade .given .1) (c .before .before .before .read .ensures) in (
+      omega arith,
+      written-more (map f (a .values .now)) (l .out) (l .i) _ (l .inv .1) (omega (arith, length-map (a .values .now) f))
+          (h .1 ∙ sym (shade-at (a .card) (a .k) (a .values .now) (l .i) (omega arith))),
+    )
 
 same-length-2 : tie.Need-same-length-2 Inv-loop μ-loop
-same-length-2 c = let a = c .before .before .before .before .args in omega (arith, c .before .loop .inv .1 .long, length-map (a .values .now) (shadeOf (a .card) (a .k)), c .before .before .before .before .pre .2)
+same-length-2 c =
+    let a = c .before .before .before .before .args in
+    omega (arith, c .before .loop .inv .1 .long, length-map (a .values .now) (shadeOf (a .card) (a .k)), c .before .before .before .before .pre .2)
 
 returns-2 : tie.Need-returns-2 Inv-loop μ-loop
-returns-2 c = let a = c .before .before .before .before .args in let f = shadeOf (a .card) (a .k) in written-end (map f (a .values .now)) _ (c .before .loop .i) (c .before .loop .inv .1) (omega (arith, length-map (a .values .now) f, c .loop-test .left))
+returns-2 c =
+    let a = c .before .before .before .before .args in let f = shadeOf (a .card) (a .k) in
+    written-end (map f (a .values .now)) _ (c .before .loop .i) (c .before .loop .inv .1)
+    (omega (arith, length-map (a .values .now) f, c .loop-test .left))
 
 pub write-shades-spec : {M : Type 1} → statement M
 write-shades-spec =
     tie.close
-    (tie.spec
-    Inv-loop
-    μ-loop
-    loop-holds
-    mul-read
-    shared-slice-read-read
-    read-requires
-    enum-known-shade
-    same-length
-    returns
-    slice-write-out
-    add-i
-    loop-less
-    loop-again
-    same-length-2
-    returns-2)
+    (tie.spec Inv-loop μ-loop loop-holds (λ c. search needs) (λ c. search needs) (λ c κs. search needs)
+    (λ c. search needs) same-length returns slice-write-out (λ c. search needs) (λ c. search needs) loop-again
+    same-length-2 returns-2)

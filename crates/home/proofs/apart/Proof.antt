@@ -4,12 +4,6 @@ use Rattle.home.proofs.Answers.{passed-pair}
 use Rattle.home.proofs.apart.Statement.{statement}
 use Rattle.home.proofs.apart.Tie as tie
 
-check-pair-requires : tie.Need-check-pair-requires
-check-pair-requires c κs = search needs
-
-enum-known-r : tie.Need-enum-known-r
-enum-known-r c = search needs
-
 enum-told : tie.Need-enum-told
 enum-told c = search needs
 
@@ -28,10 +22,4 @@ returns-2 c = (rw (c .before .enum-told .given .1) at (c .before .before .before
 pub apart-spec : {M : Type 1} → statement M
 apart-spec =
     tie.close
-    (tie.spec
-    check-pair-requires
-    enum-known-r
-    enum-told
-    fewest-differing-requires
-    returns
-    returns-2)
+    (tie.spec (λ c κs. search needs) (λ c. search needs) enum-told fewest-differing-requires returns returns-2)

@@ -8,20 +8,19 @@ use Rattle.refusal.specs.Calls.{askRoom}
 use Rattle.home.proofs.bring_home.Statement.{statement}
 use Rattle.home.proofs.bring_home.Tie as tie
 
-check-room-requires : tie.Need-check-room-requires
-check-room-requires c κs = search needs
-
-enum-known-r : tie.Need-enum-known-r
-enum-known-r c = search needs
-
 enum-told : tie.Need-enum-told
 enum-told c = search needs
 
 least-shift-requires : tie.Need-least-shift-requires
-least-shift-requires c κs = let a = c .before .before .before .before .before .args in passed-pos (askRoom (a .s .now) (a .k) (length (a .out .now))) (rw (c .enum-told .given .1) at (c .before .before .check-room .ensures))
+least-shift-requires c κs =
+    let a = c .before .before .before .before .before .args in
+    passed-pos (askRoom (a .s .now) (a .k) (length (a .out .now))) (rw (c .enum-told .given .1) at (c .before .before .check-room .ensures))
 
 period-of-requires : tie.Need-period-of-requires
-period-of-requires c κs = let a = c .before .before .before .before .before .before .args in passed-pos (askRoom (a .s .now) (a .k) (length (a .out .now))) (rw (c .before .enum-told .given .1) at (c .before .before .before .check-room .ensures))
+period-of-requires c κs =
+    let a = c .before .before .before .before .before .before .args in
+    passed-pos (askRoom (a .s .now) (a .k) (length (a .out .now))) (rw (c .before .enum-told .given .1) at
+    (c .before .before .before .check-room .ensures))
 
 write-turn-requires : tie.Need-write-turn-requires
 write-turn-requires c κs =
@@ -32,9 +31,6 @@ write-turn-requires c κs =
 
 returns : tie.Need-returns
 returns c = (rw (c .before .r .given .1) at (c .before .before .before .check-room .ensures), refl)
-
-same-length : tie.Need-same-length
-same-length c = search needs
 
 returns-2 : tie.Need-returns-2
 returns-2 c =
@@ -49,13 +45,5 @@ returns-2 c =
 pub bring-home-spec : {M : Type 1} → statement M
 bring-home-spec =
     tie.close
-    (tie.spec
-    check-room-requires
-    enum-known-r
-    enum-told
-    least-shift-requires
-    period-of-requires
-    write-turn-requires
-    returns
-    same-length
-    returns-2)
+    (tie.spec (λ c κs. search needs) (λ c. search needs) enum-told least-shift-requires period-of-requires
+    write-turn-requires returns (λ c. search needs) returns-2)

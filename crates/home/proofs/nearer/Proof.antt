@@ -6,12 +6,6 @@ use borrow.Author.Needs.{needs}
 use Rattle.home.proofs.nearer.Statement.{statement}
 use Rattle.home.proofs.nearer.Tie as tie
 
-check-pair-requires : tie.Need-check-pair-requires
-check-pair-requires c κs = search needs
-
-enum-known-r : tie.Need-enum-known-r
-enum-known-r c = search needs
-
 enum-told : tie.Need-enum-told
 enum-told c = search needs
 
@@ -39,4 +33,5 @@ returns-3 c = (
 )
 
 pub nearer-spec : {M : Type 1} → statement M
-nearer-spec = tie.close (tie.spec check-pair-requires enum-known-r enum-told is-nearer-requires returns returns-2 returns-3)
+nearer-spec = tie.close (tie.spec (λ c κs. search needs) (λ c. search needs) enum-told is-nearer-requires returns
+    returns-2 returns-3)

@@ -5,12 +5,6 @@ use Rattle.home.proofs.Answers.{passed-pos, passed-pair}
 use Rattle.home.proofs.nearest.Statement.{statement}
 use Rattle.home.proofs.nearest.Tie as tie
 
-check-pair-requires : tie.Need-check-pair-requires
-check-pair-requires c κs = search needs
-
-enum-known-r : tie.Need-enum-known-r
-enum-known-r c = search needs
-
 enum-told : tie.Need-enum-told
 enum-told c = search needs
 
@@ -38,4 +32,5 @@ returns-2 c = (
 
 pub nearest-spec : {M : Type 1} → statement M
 nearest-spec =
-    tie.close (tie.spec check-pair-requires enum-known-r enum-told fewest-differing-requires nearest-turn-requires returns returns-2)
+    tie.close (tie.spec (λ c κs. search needs) (λ c. search needs) enum-told fewest-differing-requires
+    nearest-turn-requires returns returns-2)

@@ -6,12 +6,6 @@ use Rattle.home.proofs.Answers.{passed-pos}
 use Rattle.home.proofs.steady.Statement.{statement}
 use Rattle.home.proofs.steady.Tie as tie
 
-check-reading-requires : tie.Need-check-reading-requires
-check-reading-requires c κs = search needs
-
-enum-known-r : tie.Need-enum-known-r
-enum-known-r c = search needs
-
 enum-told : tie.Need-enum-told
 enum-told c = search needs
 
@@ -32,11 +26,4 @@ returns-3 c = (rw (c .before .before .enum-told .given .1) at (c .before .before
 pub steady-spec : {M : Type 1} → statement M
 steady-spec =
     tie.close
-    (tie.spec
-    check-reading-requires
-    enum-known-r
-    enum-told
-    is-steady-requires
-    returns
-    returns-2
-    returns-3)
+    (tie.spec (λ c κs. search needs) (λ c. search needs) enum-told is-steady-requires returns returns-2 returns-3)

@@ -27,9 +27,6 @@ turns-holds c = (omega arith, refl, unmirrored-start (c .before .args .s .now))
 loop-holds : tie.Need-loop-holds Inv-loop μ-loop Inv-turns μ-turns
 loop-holds c = (refl, omega arith, mirrors-start (c .before .before .before .args .s .now) (c .before .turns .t))
 
-sub-p : tie.Need-sub-p Inv-loop μ-loop Inv-turns μ-turns
-sub-p c = search needs
-
 around-requires : tie.Need-around-requires Inv-loop μ-loop Inv-turns μ-turns
 around-requires c κs = let l = c .before .loop in omega (arith, l .inv .0)
 
@@ -38,9 +35,6 @@ sub-p-2 c = omega (arith, c .around .ensures .inside)
 
 shared-slice-read-if1 : tie.Need-shared-slice-read-if1 Inv-loop μ-loop Inv-turns μ-turns
 shared-slice-read-if1 c = omega (arith, c .before .around .ensures .inside)
-
-shared-slice-read-if1-2 : tie.Need-shared-slice-read-if1-2 Inv-loop μ-loop Inv-turns μ-turns
-shared-slice-read-if1-2 c = search needs
 
 add-t : tie.Need-add-t Inv-loop μ-loop Inv-turns μ-turns
 add-t c = omega (arith, c .before .before .before .before .before .loop .inv .0)
@@ -56,14 +50,9 @@ turns-again c =
     let r = c .before .before .before .around in (
       omega (arith, l .inv .0),
       o .inv .1,
-      unmirrored-more w (l .t) (rw (l .inv .0) (o .inv .2)) (mirrors-no w (l .t) (l .m) (r .result) (omega (arith, l .inv .0)) (c .before .before .before .before .loop-test .taken) (r .ensures) (c .if1 .taken)),
+      unmirrored-more w (l .t) (rw (l .inv .0) (o .inv .2)) (mirrors-no w (l .t) (l .m) (r .result) (omega (arith, l .inv .0))
+          (c .before .before .before .before .loop-test .taken) (r .ensures) (c .if1 .taken)),
     )
-
-add-m : tie.Need-add-m Inv-loop μ-loop Inv-turns μ-turns
-add-m c = search needs
-
-loop-less : tie.Need-loop-less Inv-loop μ-loop Inv-turns μ-turns
-loop-less c = search needs
 
 loop-again : tie.Need-loop-again Inv-loop μ-loop Inv-turns μ-turns
 loop-again c =
@@ -85,23 +74,6 @@ returns-2 c =
 pub is-even-handed-spec : {M : Type 1} → statement M
 is-even-handed-spec =
     tie.close
-    (tie.spec
-    Inv-loop
-    μ-loop
-    Inv-turns
-    μ-turns
-    turns-holds
-    loop-holds
-    sub-p
-    around-requires
-    sub-p-2
-    shared-slice-read-if1
-    shared-slice-read-if1-2
-    add-t
-    turns-less
-    turns-again
-    add-m
-    loop-less
-    loop-again
-    returns
-    returns-2)
+    (tie.spec Inv-loop μ-loop Inv-turns μ-turns turns-holds loop-holds (λ c. search needs) around-requires sub-p-2
+    shared-slice-read-if1 (λ c. search needs) add-t turns-less turns-again (λ c. search needs) (λ c. search needs)
+    loop-again returns returns-2)

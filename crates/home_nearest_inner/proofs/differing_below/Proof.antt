@@ -25,21 +25,6 @@ loop-holds c = omega arith
 returns : tie.Need-returns Inv-loop μ-loop
 returns c = omega (arith, c .before .before .loop .inv .0, c .if1 .taken)
 
-sector-requires : tie.Need-sector-requires Inv-loop μ-loop
-sector-requires c κs = search needs
-
-shared-slice-read-y : tie.Need-shared-slice-read-y Inv-loop μ-loop
-shared-slice-read-y c = search needs
-
-add-d : tie.Need-add-d Inv-loop μ-loop
-add-d c = search needs
-
-add-m : tie.Need-add-m Inv-loop μ-loop
-add-m c = search needs
-
-loop-less : tie.Need-loop-less Inv-loop μ-loop
-loop-less c = search needs
-
 loop-again : tie.Need-loop-again Inv-loop μ-loop
 loop-again c =
     let a = c .before .before .before .before .before .before .before .before .args in
@@ -48,8 +33,12 @@ loop-again c =
     let v = turn (a .i) (a .a .now) in
     let w = a .b .now in (
       ⊎-elim
-          (λ e. rw (e .1) (differing-one v w (length (a .a .now)) (l .m) (c .before .before .sector .result) (getD w (l .m) 0) (length-turn (a .i) (a .a .now) (p .1)) (sym (p .0)) (c .before .before .before .before .loop-test .taken) (c .before .before .sector .ensures) refl (l .d) (l .inv .0) (e .0 .taken)))
-          (λ e. rw (e .1) (differing-on v w (length (a .a .now)) (l .m) (c .before .before .sector .result) (getD w (l .m) 0) (length-turn (a .i) (a .a .now) (p .1)) (sym (p .0)) (c .before .before .before .before .loop-test .taken) (c .before .before .sector .ensures) refl (l .d) (l .inv .0) (e .0 .left)))
+          (λ e. rw (e .1) (differing-one v w (length (a .a .now)) (l .m) (c .before .before .sector .result) (getD w (l .m) 0)
+          (length-turn (a .i) (a .a .now) (p .1)) (sym (p .0)) (c .before .before .before .before .loop-test .taken)
+          (c .before .before .sector .ensures) refl (l .d) (l .inv .0) (e .0 .taken)))
+          (λ e. rw (e .1) (differing-on v w (length (a .a .now)) (l .m) (c .before .before .sector .result) (getD w (l .m) 0)
+          (length-turn (a .i) (a .a .now) (p .1)) (sym (p .0)) (c .before .before .before .before .loop-test .taken)
+          (c .before .before .sector .ensures) refl (l .d) (l .inv .0) (e .0 .left)))
           (c .if2 .came),
       omega arith,
       ⊎-elim (λ e. omega arith) (λ e. omega arith) (c .if2 .came),
@@ -67,15 +56,5 @@ returns-2 c =
 pub differing-below-spec : {M : Type 1} → statement M
 differing-below-spec =
     tie.close
-    (tie.spec
-    Inv-loop
-    μ-loop
-    loop-holds
-    returns
-    sector-requires
-    shared-slice-read-y
-    add-d
-    add-m
-    loop-less
-    loop-again
-    returns-2)
+    (tie.spec Inv-loop μ-loop loop-holds returns (λ c κs. search needs) (λ c. search needs) (λ c. search needs)
+    (λ c. search needs) (λ c. search needs) loop-again returns-2)

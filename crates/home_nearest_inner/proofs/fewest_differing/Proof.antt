@@ -17,20 +17,13 @@ abbrev μ-loop : tie.MeasureT-loop
 loop-holds : tie.Need-loop-holds Inv-loop μ-loop
 loop-holds c = let a = c .before .before .args in (nearest-start (a .a .now) (a .b .now), omega arith)
 
-differing-below-requires : tie.Need-differing-below-requires Inv-loop μ-loop
-differing-below-requires c κs = search needs
-
 returns : tie.Need-returns Inv-loop μ-loop
 returns c =
     let a = c .before .before .before .before .before .before .args in
     let l = c .before .before .before .loop in
-    nearest-none (a .a .now) (a .b .now) (l .i + 1) (c .before .differing-below .result) (nearest-more (a .a .now) (a .b .now) (l .i) (l .best) (c .before .differing-below .result) (l .inv .0) (c .before .before .loop-test .taken) (c .before .differing-below .ensures)) (c .if1 .taken)
-
-add-i : tie.Need-add-i Inv-loop μ-loop
-add-i c = search needs
-
-loop-less : tie.Need-loop-less Inv-loop μ-loop
-loop-less c = search needs
+    nearest-none (a .a .now) (a .b .now) (l .i + 1) (c .before .differing-below .result)
+    (nearest-more (a .a .now) (a .b .now) (l .i) (l .best) (c .before .differing-below .result) (l .inv .0) (c .before .before .loop-test .taken)
+    (c .before .differing-below .ensures)) (c .if1 .taken)
 
 loop-again : tie.Need-loop-again Inv-loop μ-loop
 loop-again c =
@@ -47,13 +40,5 @@ returns-2 c =
 pub fewest-differing-spec : {M : Type 1} → statement M
 fewest-differing-spec =
     tie.close
-    (tie.spec
-    Inv-loop
-    μ-loop
-    loop-holds
-    differing-below-requires
-    returns
-    add-i
-    loop-less
-    loop-again
-    returns-2)
+    (tie.spec Inv-loop μ-loop loop-holds (λ c κs. search needs) returns (λ c. search needs) (λ c. search needs)
+    loop-again returns-2)

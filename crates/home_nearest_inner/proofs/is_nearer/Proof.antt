@@ -16,21 +16,12 @@ abbrev μ-loop : tie.MeasureT-loop
 loop-holds : tie.Need-loop-holds Inv-loop μ-loop
 loop-holds c = let a = c .before .before .args in (omega arith, turns-start (a .a .now) (a .b .now) (a .d))
 
-differing-below-requires : tie.Need-differing-below-requires Inv-loop μ-loop
-differing-below-requires c κs = search needs
-
 returns : tie.Need-returns Inv-loop μ-loop
 returns c =
     let a = c .before .before .before .before .before .before .args in
     let l = c .before .before .before .loop in
     turns-found (a .a .now) (a .b .now) (a .d) (l .j) (c .before .differing-below .result) (c .before .differing-below .ensures)
     (c .before .before .loop-test .taken) (c .if1 .taken)
-
-add-j : tie.Need-add-j Inv-loop μ-loop
-add-j c = search needs
-
-loop-less : tie.Need-loop-less Inv-loop μ-loop
-loop-less c = search needs
 
 loop-again : tie.Need-loop-again Inv-loop μ-loop
 loop-again c =
@@ -48,4 +39,5 @@ returns-2 c =
     turns-end (a .a .now) (a .b .now) (a .d) (l .j) (c .before .before .before .before .pre .0) (l .inv .1) (c .loop-test .left)
 
 pub is-nearer-spec : {M : Type 1} → statement M
-is-nearer-spec = tie.close (tie.spec Inv-loop μ-loop loop-holds differing-below-requires returns add-j loop-less loop-again returns-2)
+is-nearer-spec = tie.close (tie.spec Inv-loop μ-loop loop-holds (λ c κs. search needs) returns (λ c. search needs)
+    (λ c. search needs) loop-again returns-2)

@@ -16,24 +16,12 @@ abbrev μ-loop : tie.MeasureT-loop
 loop-holds : tie.Need-loop-holds Inv-loop μ-loop
 loop-holds c = let a = c .before .args in (omega arith, omega (arith, c .before .pre), turned-start (a .d) (a .s .now))
 
-sub-loop : tie.Need-sub-loop Inv-loop μ-loop
-sub-loop c = search needs
-
-differing-below-requires : tie.Need-differing-below-requires Inv-loop μ-loop
-differing-below-requires c κs = search needs
-
 returns : tie.Need-returns Inv-loop μ-loop
 returns c =
     let a = c .before .before .before .before .before .args in
     let l = c .before .before .before .loop in
     turned-near (a .d) (a .s .now) (l .j) (c .before .differing-below .result) (c .before .differing-below .ensures) (omega (arith, l .inv .0))
     (omega (arith, l .inv, c .before .before .loop-test .taken)) (c .if1 .taken)
-
-add-j : tie.Need-add-j Inv-loop μ-loop
-add-j c = search needs
-
-loop-less : tie.Need-loop-less Inv-loop μ-loop
-loop-less c = search needs
 
 loop-again : tie.Need-loop-again Inv-loop μ-loop
 loop-again c =
@@ -52,4 +40,5 @@ returns-2 c =
 
 pub is-steady-spec : {M : Type 1} → statement M
 is-steady-spec =
-    tie.close (tie.spec Inv-loop μ-loop loop-holds sub-loop differing-below-requires returns add-j loop-less loop-again returns-2)
+    tie.close (tie.spec Inv-loop μ-loop loop-holds (λ c. search needs) (λ c κs. search needs) returns
+    (λ c. search needs) (λ c. search needs) loop-again returns-2)

@@ -21,9 +21,6 @@ add-limit c = let a = c .before .before .args in omega (arith, c .before .before
 loop-holds : tie.Need-loop-holds Inv-loop μ-loop
 loop-holds c = let a = c .before .before .args in (omega arith, not-yet-start (a .a .now) (a .b .now))
 
-differing-below-requires : tie.Need-differing-below-requires Inv-loop μ-loop
-differing-below-requires c κs = search needs
-
 returns : tie.Need-returns Inv-loop μ-loop
 returns c =
     let a = c .before .before .before .before .before .before .args in
@@ -31,12 +28,6 @@ returns c =
     let l = c .before .before .before .loop in
     let x = c .before .differing-below in
     not-yet-found (a .a .now) (a .b .now) (a .best) (a .best + 1) (l .t) (x .result) (p .2) refl (x .ensures) (l .inv .1) (c .before .before .loop-test .taken) (c .if1 .taken)
-
-add-t : tie.Need-add-t Inv-loop μ-loop
-add-t c = search needs
-
-loop-less : tie.Need-loop-less Inv-loop μ-loop
-loop-less c = search needs
 
 loop-again : tie.Need-loop-again Inv-loop μ-loop
 loop-again c =
@@ -55,14 +46,5 @@ returns-2 c =
 pub nearest-turn-spec : {M : Type 1} → statement M
 nearest-turn-spec =
     tie.close
-    (tie.spec
-    Inv-loop
-    μ-loop
-    add-limit
-    loop-holds
-    differing-below-requires
-    returns
-    add-t
-    loop-less
-    loop-again
-    returns-2)
+    (tie.spec Inv-loop μ-loop add-limit loop-holds (λ c κs. search needs) returns (λ c. search needs)
+    (λ c. search needs) loop-again returns-2)

@@ -4,17 +4,13 @@ use borrow.Author.Needs.{needs}
 use Rattle.home_reverse_inner.proofs.write_reversed.Statement.{statement}
 use Rattle.home_reverse_inner.proofs.write_reversed.Tie as tie
 
-copy-requires : tie.Need-copy-requires
-copy-requires c κs = search needs
-
-reverse-requires : tie.Need-reverse-requires
-reverse-requires c κs = search needs
-
-same-length : tie.Need-same-length
-same-length c = search needs
-
 returns : tie.Need-returns
-returns c = let p = c .before .before .before .before .before .before in let a = c .before .before .before .before .before .before .before .before .before .before .args in reversed (a .s .now) (a .out .now) _ _ _ (p .copy .ensures .1) (c .before .before .before .before .before .before .before .before .before .before .pre) (p .copy .ensures .0) (c .before .before .reverse .ensures)
+returns c =
+    let p = c .before .before .before .before .before .before in
+    let a = c .before .before .before .before .before .before .before .before .before .before .args in
+    reversed (a .s .now) (a .out .now) _ _ _ (p .copy .ensures .1)
+    (c .before .before .before .before .before .before .before .before .before .before .pre) (p .copy .ensures .0)
+    (c .before .before .reverse .ensures)
 
 pub write-reversed-spec : {M : Type 1} → statement M
-write-reversed-spec = tie.close (tie.spec copy-requires reverse-requires same-length returns)
+write-reversed-spec = tie.close (tie.spec (λ c κs. search needs) (λ c κs. search needs) (λ c. search needs) returns)

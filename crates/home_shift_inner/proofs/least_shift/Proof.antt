@@ -35,7 +35,9 @@ loop-less c = let s = c .before .before .before .before .loop .inv in omega (ari
 loop-again : tie.Need-loop-again Inv-loop μ-loop
 loop-again c =
     let l = c .before .before .before .before .loop in
-    seeks-smaller (c .before .before .before .before .before .before .args .s .now) (l .i) (l .j) (l .m) (c .before .before .sector .result) (c .before .sector2 .result) (l .inv) (c .before .before .before .loop-test .taken) (c .before .before .sector .ensures) (c .before .sector2 .ensures) (c .if1 .taken)
+    seeks-smaller (c .before .before .before .before .before .before .args .s .now) (l .i) (l .j) (l .m) (c .before .before .sector .result)
+    (c .before .sector2 .result) (l .inv) (c .before .before .before .loop-test .taken) (c .before .before .sector .ensures)
+    (c .before .sector2 .ensures) (c .if1 .taken)
 
 add-past : tie.Need-add-past Inv-loop μ-loop
 add-past c = let s = c .before .before .before .before .before .loop .inv in omega (arith, s .order, s .inside, s .short)
@@ -44,15 +46,22 @@ add-past-2 : tie.Need-add-past-2 Inv-loop μ-loop
 add-past-2 c = let s = c .before .before .before .before .before .loop .inv in omega (arith, s .order, s .inside, s .short)
 
 add-j-3 : tie.Need-add-j-3 Inv-loop μ-loop
-add-j-3 c = let s = c .before .before .before .before .before .before .before .loop .inv in ⊎-elim (λ e. omega (arith, s .order, s .inside, s .short)) (λ e. omega (arith, s .order, s .inside, s .short)) (c .before .if3 .came)
+add-j-3 c =
+    let s = c .before .before .before .before .before .before .before .loop .inv in
+    ⊎-elim (λ e. omega (arith, s .order, s .inside, s .short)) (λ e. omega (arith, s .order, s .inside, s .short)) (c .before .if3 .came)
 
 loop-less-2 : tie.Need-loop-less-2 Inv-loop μ-loop
-loop-less-2 c = let s = c .before .before .before .before .before .before .before .loop .inv in ⊎-elim (λ e. omega (arith, s .order, s .inside, s .short)) (λ e. omega (arith, s .order, s .inside, s .short)) (c .before .if3 .came)
+loop-less-2 c =
+    let s = c .before .before .before .before .before .before .before .loop .inv in
+    ⊎-elim (λ e. omega (arith, s .order, s .inside, s .short)) (λ e. omega (arith, s .order, s .inside, s .short)) (c .before .if3 .came)
 
 loop-again-2 : tie.Need-loop-again-2 Inv-loop μ-loop
 loop-again-2 c =
     let l = c .before .before .before .before .before .before .before .loop in
-    let past = seeks-greater (c .before .before .before .before .before .before .before .before .before .args .s .now) (l .i) (l .j) (l .m) (c .before .before .before .before .before .sector .result) (c .before .before .before .before .sector2 .result) (l .inv) (c .before .before .before .before .before .before .loop-test .taken) (c .before .before .before .before .before .sector .ensures) (c .before .before .before .before .sector2 .ensures) (c .before .before .if2 .taken) in
+    let past = seeks-greater (c .before .before .before .before .before .before .before .before .before .args .s .now) (l .i) (l .j) (l .m)
+    (c .before .before .before .before .before .sector .result) (c .before .before .before .before .sector2 .result) (l .inv)
+    (c .before .before .before .before .before .before .loop-test .taken) (c .before .before .before .before .before .sector .ensures)
+    (c .before .before .before .before .sector2 .ensures) (c .before .before .if2 .taken) in
     ⊎-elim (λ e. past (c .before .if3 .i) (omega arith) (omega arith) (λ b h k. omega arith)) (λ e. past (c .before .if3 .i) (omega arith) (omega arith) (λ b h k. omega arith)) (c .before .if3 .came)
 
 add-m : tie.Need-add-m Inv-loop μ-loop
@@ -61,7 +70,10 @@ add-m c = let s = c .before .before .before .before .before .loop .inv in omega 
 returns : tie.Need-returns Inv-loop μ-loop
 returns c =
     let l = c .before .before .before .before .before .before .loop in
-    seeks-alike (c .before .before .before .before .before .before .before .before .args .s .now) (l .i) (l .j) (l .m) (c .before .before .before .before .sector .result) (c .before .before .before .sector2 .result) (l .inv) (c .before .before .before .before .before .loop-test .taken) (c .before .before .before .before .sector .ensures) (c .before .before .before .sector2 .ensures) (omega (arith, c .before .before .if1 .left, c .before .if2 .left)) (c .if4 .taken)
+    seeks-alike (c .before .before .before .before .before .before .before .before .args .s .now) (l .i) (l .j) (l .m)
+    (c .before .before .before .before .sector .result) (c .before .before .before .sector2 .result) (l .inv)
+    (c .before .before .before .before .before .loop-test .taken) (c .before .before .before .before .sector .ensures)
+    (c .before .before .before .sector2 .ensures) (omega (arith, c .before .before .if1 .left, c .before .if2 .left)) (c .if4 .taken)
 
 loop-less-3 : tie.Need-loop-less-3 Inv-loop μ-loop
 loop-less-3 c = let s = c .before .before .before .before .before .before .loop .inv in omega (arith, s .order, s .inside, s .short)
@@ -69,7 +81,10 @@ loop-less-3 c = let s = c .before .before .before .before .before .before .loop 
 loop-again-3 : tie.Need-loop-again-3 Inv-loop μ-loop
 loop-again-3 c =
     let l = c .before .before .before .before .before .before .loop in
-    seeks-on (c .before .before .before .before .before .before .before .before .args .s .now) (l .i) (l .j) (l .m) (c .before .before .before .before .sector .result) (c .before .before .before .sector2 .result) (l .inv) (c .before .before .before .before .before .loop-test .taken) (c .before .before .before .before .sector .ensures) (c .before .before .before .sector2 .ensures) (omega (arith, c .before .before .if1 .left, c .before .if2 .left)) (c .if4 .left)
+    seeks-on (c .before .before .before .before .before .before .before .before .args .s .now) (l .i) (l .j) (l .m)
+    (c .before .before .before .before .sector .result) (c .before .before .before .sector2 .result) (l .inv)
+    (c .before .before .before .before .before .loop-test .taken) (c .before .before .before .before .sector .ensures)
+    (c .before .before .before .sector2 .ensures) (omega (arith, c .before .before .if1 .left, c .before .if2 .left)) (c .if4 .left)
 
 returns-2 : tie.Need-returns-2 Inv-loop μ-loop
 returns-2 c = let l = c .before .loop in seeks-end (c .before .before .before .args .s .now) (l .i) (l .j) (l .m) (l .inv) (c .loop-test .left)
@@ -77,23 +92,5 @@ returns-2 c = let l = c .before .loop in seeks-end (c .before .before .before .a
 pub least-shift-spec : {M : Type 1} → statement M
 least-shift-spec =
     tie.close
-    (tie.spec
-    Inv-loop
-    μ-loop
-    loop-holds
-    sector-requires
-    sector-requires-2
-    add-j
-    add-j-2
-    loop-less
-    loop-again
-    add-past
-    add-past-2
-    add-j-3
-    loop-less-2
-    loop-again-2
-    add-m
-    returns
-    loop-less-3
-    loop-again-3
-    returns-2)
+    (tie.spec Inv-loop μ-loop loop-holds sector-requires sector-requires-2 add-j add-j-2 loop-less loop-again add-past
+    add-past-2 add-j-3 loop-less-2 loop-again-2 add-m returns loop-less-3 loop-again-3 returns-2)

@@ -19,16 +19,14 @@ repeats-by-requires : tie.Need-repeats-by-requires Inv-loop μ-loop
 repeats-by-requires c κs = let u = c .before .loop .inv in (u .pos, u .fits)
 
 returns : tie.Need-returns Inv-loop μ-loop
-returns c = unrepeated-found (c .before .before .before .before .before .args .s .now) (c .before .before .before .loop .p) (c .before .before .before .loop .inv) (sym (c .if1 .taken) ∙ c .before .repeats-by .ensures)
-
-add-p : tie.Need-add-p Inv-loop μ-loop
-add-p c = search needs
-
-loop-less : tie.Need-loop-less Inv-loop μ-loop
-loop-less c = search needs
+returns c =
+    unrepeated-found (c .before .before .before .before .before .args .s .now) (c .before .before .before .loop .p)
+    (c .before .before .before .loop .inv) (sym (c .if1 .taken) ∙ c .before .repeats-by .ensures)
 
 loop-again : tie.Need-loop-again Inv-loop μ-loop
-loop-again c = unrepeated-more (c .before .before .before .before .before .args .s .now) (c .before .before .before .loop .p) (c .before .before .before .loop .inv) (c .before .before .loop-test .taken) (sym (c .if1 .left) ∙ c .before .repeats-by .ensures)
+loop-again c =
+    unrepeated-more (c .before .before .before .before .before .args .s .now) (c .before .before .before .loop .p)
+    (c .before .before .before .loop .inv) (c .before .before .loop-test .taken) (sym (c .if1 .left) ∙ c .before .repeats-by .ensures)
 
 returns-2 : tie.Need-returns-2 Inv-loop μ-loop
 returns-2 c = unrepeated-end (c .before .before .before .args .s .now) (c .before .loop .p) (c .before .loop .inv) (c .loop-test .left)
@@ -36,13 +34,5 @@ returns-2 c = unrepeated-end (c .before .before .before .args .s .now) (c .befor
 pub period-of-spec : {M : Type 1} → statement M
 period-of-spec =
     tie.close
-    (tie.spec
-    Inv-loop
-    μ-loop
-    loop-holds
-    repeats-by-requires
-    returns
-    add-p
-    loop-less
-    loop-again
-    returns-2)
+    (tie.spec Inv-loop μ-loop loop-holds repeats-by-requires returns (λ c. search needs) (λ c. search needs)
+    loop-again returns-2)

@@ -20,50 +20,36 @@ abbrev μ-loop : tie.MeasureT-loop
 loop-holds : tie.Need-loop-holds Inv-loop μ-loop
 loop-holds c = (omega arith, refl)
 
-sector-requires : tie.Need-sector-requires Inv-loop μ-loop
-sector-requires c κs = search needs
-
-sector-requires-2 : tie.Need-sector-requires-2 Inv-loop μ-loop
-sector-requires-2 c κs = search needs
-
 returns : tie.Need-returns Inv-loop μ-loop
 returns c =
     let a = c .before .before .before .before .before .before .before .args in
     let p = c .before .before .before .before .before .before .before .pre in
     let l = c .before .before .before .before .loop in
-    same-no (turn (a .i) (a .a .now)) (turn (a .j) (a .b .now)) (length (a .a .now)) (l .m) (c .before .before .sector .result) (c .before .sector2 .result) (length-turn (a .i) (a .a .now) (p .1)) (length-turn (a .j) (a .b .now) (p .2) ∙ sym (p .0)) (c .before .before .before .loop-test .taken) (c .before .before .sector .ensures) (c .before .sector2 .ensures) (l .inv .1) (c .if1 .taken)
-
-add-m : tie.Need-add-m Inv-loop μ-loop
-add-m c = search needs
-
-loop-less : tie.Need-loop-less Inv-loop μ-loop
-loop-less c = search needs
+    same-no (turn (a .i) (a .a .now)) (turn (a .j) (a .b .now)) (length (a .a .now)) (l .m) (c .before .before .sector .result)
+    (c .before .sector2 .result) (length-turn (a .i) (a .a .now) (p .1)) (length-turn (a .j) (a .b .now) (p .2) ∙ sym (p .0))
+    (c .before .before .before .loop-test .taken) (c .before .before .sector .ensures) (c .before .sector2 .ensures) (l .inv .1) (c .if1 .taken)
 
 loop-again : tie.Need-loop-again Inv-loop μ-loop
 loop-again c =
     let a = c .before .before .before .before .before .before .before .args in
     let p = c .before .before .before .before .before .before .before .pre in
-    let l = c .before .before .before .before .loop in
-    (omega arith, same-on (turn (a .i) (a .a .now)) (turn (a .j) (a .b .now)) (length (a .a .now)) (l .m) (c .before .before .sector .result) (c .before .sector2 .result) (length-turn (a .i) (a .a .now) (p .1)) (length-turn (a .j) (a .b .now) (p .2) ∙ sym (p .0)) (c .before .before .before .loop-test .taken) (c .before .before .sector .ensures) (c .before .sector2 .ensures) (l .inv .1) (c .if1 .left))
+    let l = c .before .before .before .before .loop in (
+      omega arith,
+      same-on (turn (a .i) (a .a .now)) (turn (a .j) (a .b .now)) (length (a .a .now)) (l .m) (c .before .before .sector .result)
+          (c .before .sector2 .result) (length-turn (a .i) (a .a .now) (p .1)) (length-turn (a .j) (a .b .now) (p .2) ∙ sym (p .0))
+          (c .before .before .before .loop-test .taken) (c .before .before .sector .ensures) (c .before .sector2 .ensures) (l .inv .1) (c .if1 .left),
+    )
 
 returns-2 : tie.Need-returns-2 Inv-loop μ-loop
 returns-2 c =
     let a = c .before .before .before .before .args in
     let p = c .before .before .before .before .pre in
     let l = c .before .loop in
-    same-end (turn (a .i) (a .a .now)) (turn (a .j) (a .b .now)) (length (a .a .now)) (l .m) (length-turn (a .i) (a .a .now) (p .1)) (length-turn (a .j) (a .b .now) (p .2) ∙ sym (p .0)) (c .loop-test .left) (l .inv .1)
+    same-end (turn (a .i) (a .a .now)) (turn (a .j) (a .b .now)) (length (a .a .now)) (l .m) (length-turn (a .i) (a .a .now) (p .1))
+    (length-turn (a .j) (a .b .now) (p .2) ∙ sym (p .0)) (c .loop-test .left) (l .inv .1)
 
 pub same-turns-spec : {M : Type 1} → statement M
 same-turns-spec =
     tie.close
-    (tie.spec
-    Inv-loop
-    μ-loop
-    loop-holds
-    sector-requires
-    sector-requires-2
-    returns
-    add-m
-    loop-less
-    loop-again
-    returns-2)
+    (tie.spec Inv-loop μ-loop loop-holds (λ c κs. search needs) (λ c κs. search needs) returns (λ c. search needs)
+    (λ c. search needs) loop-again returns-2)

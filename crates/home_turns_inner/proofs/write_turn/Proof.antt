@@ -17,43 +17,38 @@ abbrev μ-loop : tie.MeasureT-loop
 μ-loop s i out₀ m₀ out m = length s - m
 
 loop-holds : tie.Need-loop-holds Inv-loop μ-loop
-loop-holds c = let a = c .before .before .args in (omega arith, written-start (turn (a .i) (a .s .now)) (a .out .now) (c .before .before .pre .1 ∙ sym (length-turn (a .i) (a .s .now) (c .before .before .pre .0))))
-
-sector-requires : tie.Need-sector-requires Inv-loop μ-loop
-sector-requires c κs = search needs
+loop-holds c =
+    let a = c .before .before .args in (
+      omega arith,
+      written-start (turn (a .i) (a .s .now)) (a .out .now)
+          (c .before .before .pre .1 ∙ sym (length-turn (a .i) (a .s .now) (c .before .before .pre .0))),
+    )
 
 slice-write-out : tie.Need-slice-write-out Inv-loop μ-loop
-slice-write-out c = let a = c .before .before .before .before .before .args in omega (arith, c .before .before .loop .inv .1 .long, length-turn (a .i) (a .s .now) (c .before .before .before .before .before .pre .0))
-
-add-m : tie.Need-add-m Inv-loop μ-loop
-add-m c = search needs
-
-loop-less : tie.Need-loop-less Inv-loop μ-loop
-loop-less c = search needs
+slice-write-out c =
+    let a = c .before .before .before .before .before .args in
+    omega (arith, c .before .before .loop .inv .1 .long, length-turn (a .i) (a .s .now) (c .before .before .before .before .before .pre .0))
 
 loop-again : tie.Need-loop-again Inv-loop μ-loop
 loop-again c =
     let a = c .before .before .before .before .before .args in
-    let l = c .before .before .loop in
-    (omega arith, written-more (turn (a .i) (a .s .now)) (l .out) (l .m) (c .sector .result) (l .inv .1) (omega (arith, length-turn (a .i) (a .s .now) (c .before .before .before .before .before .pre .0))) (c .sector .ensures))
+    let l = c .before .before .loop in (
+      omega arith,
+      written-more (turn (a .i) (a .s .now)) (l .out) (l .m) (c .sector .result) (l .inv .1)
+          (omega (arith, length-turn (a .i) (a .s .now) (c .before .before .before .before .before .pre .0))) (c .sector .ensures),
+    )
 
 same-length : tie.Need-same-length Inv-loop μ-loop
 same-length c = let a = c .before .before .before .before .args in omega (arith, c .before .loop .inv .1 .long, length-turn (a .i) (a .s .now) (c .before .before .before .before .pre .0))
 
 returns : tie.Need-returns Inv-loop μ-loop
-returns c = let a = c .before .before .before .before .args in written-end (turn (a .i) (a .s .now)) _ (c .before .loop .m) (c .before .loop .inv .1) (omega (arith, length-turn (a .i) (a .s .now) (c .before .before .before .before .pre .0)))
+returns c =
+    let a = c .before .before .before .before .args in
+    written-end (turn (a .i) (a .s .now)) _ (c .before .loop .m) (c .before .loop .inv .1)
+    (omega (arith, length-turn (a .i) (a .s .now) (c .before .before .before .before .pre .0)))
 
 pub write-turn-spec : {M : Type 1} → statement M
 write-turn-spec =
     tie.close
-    (tie.spec
-    Inv-loop
-    μ-loop
-    loop-holds
-    sector-requires
-    slice-write-out
-    add-m
-    loop-less
-    loop-again
-    same-length
-    returns)
+    (tie.spec Inv-loop μ-loop loop-holds (λ c κs. search needs) slice-write-out (λ c. search needs)
+    (λ c. search needs) loop-again same-length returns)

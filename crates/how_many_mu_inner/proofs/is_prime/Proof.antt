@@ -22,20 +22,13 @@ returns c = prime-small (c .before .args .p) (c .if1 .taken)
 loop-holds : tie.Need-loop-holds Inv-loop μ-loop
 loop-holds c = (omega arith, omega arith, trial-start (λ j. eqb (c .before .args .p % j) 0))
 
-rem-if2 : tie.Need-rem-if2 Inv-loop μ-loop
-rem-if2 c = search needs
-
 returns-2 : tie.Need-returns-2 Inv-loop μ-loop
 returns-2 c = prime-no (c .before .before .before .before .args .p) (c .before .before .loop .d) (omega arith) (c .before .loop-test .taken) (c .if2 .taken)
 
-add-d : tie.Need-add-d Inv-loop μ-loop
-add-d c = search needs
-
-loop-less : tie.Need-loop-less Inv-loop μ-loop
-loop-less c = search needs
-
 loop-again : tie.Need-loop-again Inv-loop μ-loop
-loop-again c = let p = c .before .before .before .before .args .p in let d = c .before .before .loop .d in (omega arith, omega arith, trial-on (λ j. eqb (p % j) 0) d (c .before .before .loop .inv .2) (ne-eqb (p % d) 0 (c .if2 .left)))
+loop-again c =
+    let p = c .before .before .before .before .args .p in let d = c .before .before .loop .d in
+    (omega arith, omega arith, trial-on (λ j. eqb (p % j) 0) d (c .before .before .loop .inv .2) (ne-eqb (p % d) 0 (c .if2 .left)))
 
 returns-3 : tie.Need-returns-3 Inv-loop μ-loop
 returns-3 c = prime-yes (c .before .before .before .args .p) (c .before .loop .d) (c .before .before .if1 .left) (c .before .loop .inv .1) (c .loop-test .left) (c .before .loop .inv .2)
@@ -43,14 +36,5 @@ returns-3 c = prime-yes (c .before .before .before .args .p) (c .before .loop .d
 pub is-prime-spec : {M : Type 1} → statement M
 is-prime-spec =
     tie.close
-    (tie.spec
-    Inv-loop
-    μ-loop
-    returns
-    loop-holds
-    rem-if2
-    returns-2
-    add-d
-    loop-less
-    loop-again
-    returns-3)
+    (tie.spec Inv-loop μ-loop returns loop-holds (λ c. search needs) returns-2 (λ c. search needs) (λ c. search needs)
+    loop-again returns-3)

@@ -28,14 +28,10 @@ rem-if1 c = square-pos (c .before .loop .d) (omega arith)
 returns : tie.Need-returns Inv-loop μ-loop
 returns c = square-no (c .before .before .before .args .m) (c .before .before .loop .d) (omega arith) (c .before .loop-test .taken) (c .if1 .taken)
 
-add-d : tie.Need-add-d Inv-loop μ-loop
-add-d c = search needs
-
-loop-less : tie.Need-loop-less Inv-loop μ-loop
-loop-less c = search needs
-
 loop-again : tie.Need-loop-again Inv-loop μ-loop
-loop-again c = let m = c .before .before .before .args .m in let d = c .before .before .loop .d in (omega arith, omega arith, trial-on (λ j. eqb (m % (j * j)) 0) d (c .before .before .loop .inv .2) (ne-eqb (m % (d * d)) 0 (c .if1 .left)))
+loop-again c =
+    let m = c .before .before .before .args .m in let d = c .before .before .loop .d in
+    (omega arith, omega arith, trial-on (λ j. eqb (m % (j * j)) 0) d (c .before .before .loop .inv .2) (ne-eqb (m % (d * d)) 0 (c .if1 .left)))
 
 returns-2 : tie.Need-returns-2 Inv-loop μ-loop
 returns-2 c = square-yes (c .before .before .args .m) (c .before .loop .d) (c .loop-test .left) (c .before .loop .inv .1) (c .before .loop .inv .2)
@@ -43,14 +39,5 @@ returns-2 c = square-yes (c .before .before .args .m) (c .before .loop .d) (c .l
 pub is-square-free-spec : {M : Type 1} → statement M
 is-square-free-spec =
     tie.close
-    (tie.spec
-    Inv-loop
-    μ-loop
-    loop-holds
-    mul-if1
-    rem-if1
-    returns
-    add-d
-    loop-less
-    loop-again
+    (tie.spec Inv-loop μ-loop loop-holds mul-if1 rem-if1 returns (λ c. search needs) (λ c. search needs) loop-again
     returns-2)

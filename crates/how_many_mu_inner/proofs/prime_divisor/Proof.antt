@@ -11,22 +11,22 @@ use borrow.Author.Needs.{needs}
 use Rattle.how_many_mu_inner.proofs.prime_divisor.Statement.{statement}
 use Rattle.how_many_mu_inner.proofs.prime_divisor.Tie as tie
 
-is-prime-requires : tie.Need-is-prime-requires
-is-prime-requires c κs = search needs
-
 returns : tie.Need-returns
-returns c = let a = c .before .before .args in bit-zero (prime (a .p) && divides (a .p) (a .m)) (not-left (prime (a .p)) (divides (a .p) (a .m)) (sym (c .before .is-prime .ensures) ∙ not-true _ (c .if1 .taken)))
-
-rem-if2 : tie.Need-rem-if2
-rem-if2 c = search needs
+returns c =
+    let a = c .before .before .args in
+    bit-zero (prime (a .p) && divides (a .p) (a .m)) (not-left (prime (a .p)) (divides (a .p) (a .m))
+    (sym (c .before .is-prime .ensures) ∙ not-true _ (c .if1 .taken)))
 
 returns-2 : tie.Need-returns-2
 unfolding divides
-returns-2 c = let a = c .before .before .before .args in bit-one (prime (a .p) && divides (a .p) (a .m)) (both (prime (a .p)) (divides (a .p) (a .m)) (sym (c .before .before .is-prime .ensures) ∙ not-false _ (c .before .if1 .left)) (eq-eqb (a .m % a .p) 0 (c .if2 .taken)))
+returns-2 c =
+    let a = c .before .before .before .args in
+    bit-one (prime (a .p) && divides (a .p) (a .m)) (both (prime (a .p)) (divides (a .p) (a .m))
+    (sym (c .before .before .is-prime .ensures) ∙ not-false _ (c .before .if1 .left)) (eq-eqb (a .m % a .p) 0 (c .if2 .taken)))
 
 returns-3 : tie.Need-returns-3
 unfolding divides
 returns-3 c = let a = c .before .before .before .args in bit-zero (prime (a .p) && divides (a .p) (a .m)) (not-right (prime (a .p)) (divides (a .p) (a .m)) (ne-eqb (a .m % a .p) 0 (c .if2 .left)))
 
 pub prime-divisor-spec : {M : Type 1} → statement M
-prime-divisor-spec = tie.close (tie.spec is-prime-requires returns rem-if2 returns-2 returns-3)
+prime-divisor-spec = tie.close (tie.spec (λ c κs. search needs) returns (λ c. search needs) returns-2 returns-3)

@@ -8,9 +8,6 @@ use borrow.Author.Needs.{needs}
 use Rattle.how_many_phi_inner.proofs.coprime.Statement.{statement}
 use Rattle.how_many_phi_inner.proofs.coprime.Tie as tie
 
-gcd-of-requires : tie.Need-gcd-of-requires
-gcd-of-requires c κs = search needs
-
 returns : tie.Need-returns
 returns c = let g = gcd (c .before .before .args .i) (c .before .before .args .m) in bit-one (eqb g 1) (eq-eqb g 1 (sym (c .before .gcd-of .ensures) ∙ c .if1 .taken))
 
@@ -18,4 +15,4 @@ returns-2 : tie.Need-returns-2
 returns-2 c = let g = gcd (c .before .before .args .i) (c .before .before .args .m) in bit-zero (eqb g 1) (ne-eqb g 1 (λ e. c .if1 .left (c .before .gcd-of .ensures ∙ e)))
 
 pub coprime-spec : {M : Type 1} → statement M
-coprime-spec = tie.close (tie.spec gcd-of-requires returns returns-2)
+coprime-spec = tie.close (tie.spec (λ c κs. search needs) returns returns-2)

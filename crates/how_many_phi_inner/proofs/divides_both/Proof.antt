@@ -4,17 +4,11 @@ use borrow.Author.Needs.{needs}
 use Rattle.how_many_phi_inner.proofs.divides_both.Statement.{statement}
 use Rattle.how_many_phi_inner.proofs.divides_both.Tie as tie
 
-rem-if1 : tie.Need-rem-if1
-rem-if1 c = search needs
-
 returns : tie.Need-returns
 returns c = both-no (c .before .args .a) (c .before .args .b) (c .before .args .d) (c .if1 .taken)
-
-rem-result : tie.Need-rem-result
-rem-result c = search needs
 
 returns-2 : tie.Need-returns-2
 returns-2 c = both-yes (c .before .args .a) (c .before .args .b) (c .before .args .d) (c .if1 .left)
 
 pub divides-both-spec : {M : Type 1} → statement M
-divides-both-spec = tie.close (tie.spec rem-if1 returns rem-result returns-2)
+divides-both-spec = tie.close (tie.spec (λ c. search needs) returns (λ c. search needs) returns-2)

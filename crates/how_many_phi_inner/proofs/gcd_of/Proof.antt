@@ -17,20 +17,17 @@ abbrev μ-loop : tie.MeasureT-loop
 loop-holds : tie.Need-loop-holds Inv-loop μ-loop
 loop-holds c = gcd-start (c .args .a) (c .args .b)
 
-divides-both-requires : tie.Need-divides-both-requires Inv-loop μ-loop
-divides-both-requires c κs = search needs
-
 returns : tie.Need-returns Inv-loop μ-loop
-returns c = let a = c .before .before .before .before .args in gcd-found (a .a) (a .b) (c .before .before .before .loop .g) (c .before .before .before .loop .inv) (c .before .before .loop-test .taken) (sym (c .if1 .taken) ∙ c .before .divides-both .ensures)
-
-sub-g : tie.Need-sub-g Inv-loop μ-loop
-sub-g c = search needs
-
-loop-less : tie.Need-loop-less Inv-loop μ-loop
-loop-less c = search needs
+returns c =
+    let a = c .before .before .before .before .args in
+    gcd-found (a .a) (a .b) (c .before .before .before .loop .g) (c .before .before .before .loop .inv) (c .before .before .loop-test .taken)
+    (sym (c .if1 .taken) ∙ c .before .divides-both .ensures)
 
 loop-again : tie.Need-loop-again Inv-loop μ-loop
-loop-again c = let a = c .before .before .before .before .args in gcd-on (a .a) (a .b) (c .before .before .before .loop .g) (c .before .before .before .loop .inv) (c .before .before .loop-test .taken) (sym (c .if1 .left) ∙ c .before .divides-both .ensures)
+loop-again c =
+    let a = c .before .before .before .before .args in
+    gcd-on (a .a) (a .b) (c .before .before .before .loop .g) (c .before .before .before .loop .inv) (c .before .before .loop-test .taken)
+    (sym (c .if1 .left) ∙ c .before .divides-both .ensures)
 
 returns-2 : tie.Need-returns-2 Inv-loop μ-loop
 returns-2 c = gcd-end (c .before .before .args .a) (c .before .before .args .b) (c .before .loop .g) (c .before .loop .inv) (c .loop-test .left)
@@ -38,13 +35,5 @@ returns-2 c = gcd-end (c .before .before .args .a) (c .before .before .args .b) 
 pub gcd-of-spec : {M : Type 1} → statement M
 gcd-of-spec =
     tie.close
-    (tie.spec
-    Inv-loop
-    μ-loop
-    loop-holds
-    divides-both-requires
-    returns
-    sub-g
-    loop-less
-    loop-again
-    returns-2)
+    (tie.spec Inv-loop μ-loop loop-holds (λ c κs. search needs) returns (λ c. search needs) (λ c. search needs)
+    loop-again returns-2)

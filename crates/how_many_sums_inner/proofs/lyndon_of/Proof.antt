@@ -5,25 +5,18 @@ use Rattle.how_many_sums_inner.proofs.Sums.{minus-fits, lyndon-are}
 use Rattle.how_many_sums_inner.proofs.lyndon_of.Statement.{statement}
 use Rattle.how_many_sums_inner.proofs.lyndon_of.Tie as tie
 
-over-divisors-requires : tie.Need-over-divisors-requires
-over-divisors-requires c κs = search needs
-
-over-divisors-requires-2 : tie.Need-over-divisors-requires-2
-over-divisors-requires-2 c κs = search needs
-
 sub-part : tie.Need-sub-part
 sub-part c =
     let a = c .before .before .args in
     minus-fits (a .k) (a .n) (c .before .before .pre) (c .before .over-divisors .result) (c .over-divisors2 .result) (c .before .over-divisors .ensures) (c .over-divisors2 .ensures)
 
-part-requires : tie.Need-part-requires
-part-requires c κs = search needs
-
 returns : tie.Need-returns
 returns c =
     let a = c .before .before .before .args in
     c .part .ensures
-    ∙ lyndon-are (a .k) (a .n) (c .before .before .before .pre) (c .before .before .over-divisors .result) (c .before .over-divisors2 .result) (c .before .before .over-divisors .ensures) (c .before .over-divisors2 .ensures)
+    ∙ lyndon-are (a .k) (a .n) (c .before .before .before .pre) (c .before .before .over-divisors .result) (c .before .over-divisors2 .result)
+    (c .before .before .over-divisors .ensures) (c .before .over-divisors2 .ensures)
 
 pub lyndon-of-spec : {M : Type 1} → statement M
-lyndon-of-spec = tie.close (tie.spec over-divisors-requires over-divisors-requires-2 sub-part part-requires returns)
+lyndon-of-spec = tie.close (tie.spec (λ c κs. search needs) (λ c κs. search needs) sub-part (λ c κs. search needs)
+    returns)

@@ -18,26 +18,29 @@ abbrev μ-loop : tie.MeasureT-loop
 loop-holds : tie.Need-loop-holds Inv-loop μ-loop
 loop-holds c = let a = c .args in (omega arith, sum-start (λ j. when (divides j (a .n)) (powers (a .w) (a .k) (a .n) j)), omega arith)
 
-add-d : tie.Need-add-d Inv-loop μ-loop
-add-d c = search needs
-
 summand-requires : tie.Need-summand-requires Inv-loop μ-loop
 summand-requires c κs = (c .before .before .pre, (omega arith, omega arith))
 
 add-x : tie.Need-add-x Inv-loop μ-loop
 add-x c = omega (arith, c .summand .ensures .1, c .before .before .before .pre .sized)
 
-loop-less : tie.Need-loop-less Inv-loop μ-loop
-loop-less c = search needs
-
 loop-again : tie.Need-loop-again Inv-loop μ-loop
-loop-again c = let a = c .before .before .before .args in (omega arith, sum-on (λ j. when (divides j (a .n)) (powers (a .w) (a .k) (a .n) j)) (c .before .before .loop .x) (c .before .before .loop .d) (c .summand .result) (c .before .before .loop .inv .1) (c .summand .ensures .0), omega (arith, c .summand .ensures .1))
+loop-again c =
+    let a = c .before .before .before .args in (
+      omega arith,
+      sum-on (λ j. when (divides j (a .n)) (powers (a .w) (a .k) (a .n) j)) (c .before .before .loop .x) (c .before .before .loop .d)
+          (c .summand .result) (c .before .before .loop .inv .1) (c .summand .ensures .0),
+      omega (arith, c .summand .ensures .1),
+    )
 
 returns : tie.Need-returns Inv-loop μ-loop
 unfolding overDivisors
-returns c = let a = c .before .before .args in let l = c .before .loop in sum-end (λ j. when (divides j (a .n)) (powers (a .w) (a .k) (a .n) j)) (l .x) (l .d) (a .n) (l .inv .0) (c .loop-test .left) (l .inv .1)
+returns c =
+    let a = c .before .before .args in let l = c .before .loop in
+    sum-end (λ j. when (divides j (a .n)) (powers (a .w) (a .k) (a .n) j)) (l .x) (l .d) (a .n) (l .inv .0) (c .loop-test .left) (l .inv .1)
 
 pub over-divisors-spec : {M : Type 1} → statement M
 over-divisors-spec =
     tie.close
-    (tie.spec Inv-loop μ-loop loop-holds add-d summand-requires add-x loop-less loop-again returns)
+    (tie.spec Inv-loop μ-loop loop-holds (λ c. search needs) summand-requires add-x (λ c. search needs) loop-again
+    returns)

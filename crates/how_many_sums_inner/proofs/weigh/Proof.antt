@@ -8,21 +8,6 @@ use Rattle.how_many_sums_inner.proofs.weigh.Tie as tie
 enum-told : tie.Need-enum-told
 enum-told c = search needs
 
-phi-of-requires : tie.Need-phi-of-requires
-phi-of-requires c κs = search needs
-
-enum-told-2 : tie.Need-enum-told-2
-enum-told-2 c = search needs
-
-mu-of-requires : tie.Need-mu-of-requires
-mu-of-requires c κs = search needs
-
-enum-told-3 : tie.Need-enum-told-3
-enum-told-3 c = search needs
-
-mu-of-requires-2 : tie.Need-mu-of-requires-2
-mu-of-requires-2 c κs = search needs
-
 returns : tie.Need-returns
 returns c = rw (c .before .enum-told .given .1) (c .phi-of .ensures .0, omega (arith, c .phi-of .ensures .1, c .before .before .before .pre))
 
@@ -37,13 +22,5 @@ returns-3 c = rw (c .before .enum-told3 .given .1) (c .mu-of2 .ensures .0, omega
 pub weigh-spec : {M : Type 1} → statement M
 weigh-spec =
     tie.close
-    (tie.spec
-    enum-told
-    phi-of-requires
-    enum-told-2
-    mu-of-requires
-    enum-told-3
-    mu-of-requires-2
-    returns
-    returns-2
-    returns-3)
+    (tie.spec enum-told (λ c κs. search needs) (λ c. search needs) (λ c κs. search needs) (λ c. search needs)
+    (λ c κs. search needs) returns returns-2 returns-3)

@@ -26,45 +26,41 @@ returns-3 c = power-zero (c .before .before .before .args .k) (c .before .before
 loop-holds : tie.Need-loop-holds Inv-loop μ-loop
 loop-holds c = (omega arith, sym (pow-zero (c .before .before .before .args .k)), omega arith)
 
-div-if4 : tie.Need-div-if4 Inv-loop μ-loop
-div-if4 c = search needs
-
 returns-4 : tie.Need-returns-4 Inv-loop μ-loop
-returns-4 c = power-over (c .before .before .before .before .before .before .args .k) (c .before .before .before .before .before .before .args .n) (c .before .before .before .before .before .before .args .limit) (c .before .before .loop .i) (c .before .before .loop .p) (c .before .before .before .before .if2 .left) (c .before .before .loop .inv .1) (c .before .loop-test .taken) (c .if4 .taken)
+returns-4 c =
+    power-over (c .before .before .before .before .before .before .args .k) (c .before .before .before .before .before .before .args .n)
+    (c .before .before .before .before .before .before .args .limit) (c .before .before .loop .i) (c .before .before .loop .p)
+    (c .before .before .before .before .if2 .left) (c .before .before .loop .inv .1) (c .before .loop-test .taken) (c .if4 .taken)
 
 mul-p : tie.Need-mul-p Inv-loop μ-loop
-mul-p c = omega (arith, power-within (c .before .before .before .before .before .before .args .k) (c .before .before .before .before .before .before .args .n) (c .before .before .before .before .before .before .args .limit) (c .before .before .loop .i) (c .before .before .loop .p) (c .before .before .before .before .if2 .left) (c .before .before .loop .inv .1) (c .if4 .left))
-
-add-i : tie.Need-add-i Inv-loop μ-loop
-add-i c = search needs
-
-loop-less : tie.Need-loop-less Inv-loop μ-loop
-loop-less c = search needs
+mul-p c =
+    omega (
+      arith,
+      power-within (c .before .before .before .before .before .before .args .k)
+          (c .before .before .before .before .before .before .args .n) (c .before .before .before .before .before .before .args .limit)
+          (c .before .before .loop .i) (c .before .before .loop .p) (c .before .before .before .before .if2 .left) (c .before .before .loop .inv .1)
+          (c .if4 .left),
+    )
 
 loop-again : tie.Need-loop-again Inv-loop μ-loop
 loop-again c = (
   omega arith,
-  power-on (c .before .before .before .before .before .before .args .k) (c .before .before .before .before .before .before .args .n) (c .before .before .before .before .before .before .args .limit) (c .before .before .loop .i) (c .before .before .loop .p) (c .before .before .before .before .if2 .left) (c .before .before .loop .inv .1),
-  power-within (c .before .before .before .before .before .before .args .k) (c .before .before .before .before .before .before .args .n) (c .before .before .before .before .before .before .args .limit) (c .before .before .loop .i) (c .before .before .loop .p) (c .before .before .before .before .if2 .left) (c .before .before .loop .inv .1) (c .if4 .left),
+  power-on (c .before .before .before .before .before .before .args .k) (c .before .before .before .before .before .before .args .n)
+      (c .before .before .before .before .before .before .args .limit) (c .before .before .loop .i) (c .before .before .loop .p)
+      (c .before .before .before .before .if2 .left) (c .before .before .loop .inv .1),
+  power-within (c .before .before .before .before .before .before .args .k) (c .before .before .before .before .before .before .args .n)
+      (c .before .before .before .before .before .before .args .limit) (c .before .before .loop .i) (c .before .before .loop .p)
+      (c .before .before .before .before .if2 .left) (c .before .before .loop .inv .1) (c .if4 .left),
 )
 
 returns-5 : tie.Need-returns-5 Inv-loop μ-loop
-returns-5 c = power-end (c .before .before .before .before .before .args .k) (c .before .before .before .before .before .args .n) (c .before .before .before .before .before .args .limit) (c .before .loop .i) (c .before .loop .p) (c .before .before .before .if2 .left) (c .before .loop .inv .1) (c .before .loop .inv .0) (c .loop-test .left) (c .before .loop .inv .2)
+returns-5 c =
+    power-end (c .before .before .before .before .before .args .k) (c .before .before .before .before .before .args .n)
+    (c .before .before .before .before .before .args .limit) (c .before .loop .i) (c .before .loop .p) (c .before .before .before .if2 .left)
+    (c .before .loop .inv .1) (c .before .loop .inv .0) (c .loop-test .left) (c .before .loop .inv .2)
 
 pub power-above-spec : {M : Type 1} → statement M
 power-above-spec =
     tie.close
-    (tie.spec
-    Inv-loop
-    μ-loop
-    returns
-    returns-2
-    returns-3
-    loop-holds
-    div-if4
-    returns-4
-    mul-p
-    add-i
-    loop-less
-    loop-again
-    returns-5)
+    (tie.spec Inv-loop μ-loop returns returns-2 returns-3 loop-holds (λ c. search needs) returns-4 mul-p
+    (λ c. search needs) (λ c. search needs) loop-again returns-5)

@@ -9,77 +9,50 @@ use Rattle.line_spec.proofs.Lines.{fields-at, fields-join}
 use Rattle.line.proofs.parse_fields.Statement.{statement}
 use Rattle.line.proofs.parse_fields.Tie as tie
 
-first-space-requires : tie.Need-first-space-requires
-first-space-requires c κs = search needs
-
 returns : tie.Need-returns
 returns c = λ k n hk hn e. let f = fields-at k n (c .before .before .before .args .s .now) (c .before .first-space .result) e (c .before .first-space .ensures) in omega (arith, f .0, c .if1 .taken)
 
 slice-aggregate-parse-number : tie.Need-slice-aggregate-parse-number
 slice-aggregate-parse-number c = simp length-take (omega arith)
 
-parse-number-requires : tie.Need-parse-number-requires
-parse-number-requires c κs = search needs
-
 enum-told : tie.Need-enum-told
 enum-told c = search needs
 
-enum-known-k : tie.Need-enum-known-k
-enum-known-k c = search needs
-
-add-parse-number : tie.Need-add-parse-number
-add-parse-number c = search needs
-
-sub-parse-number : tie.Need-sub-parse-number
-sub-parse-number c = search needs
-
-part-parse-number-start : tie.Need-part-parse-number-start
-part-parse-number-start c = search needs
-
-part-parse-number-end : tie.Need-part-parse-number-end
-part-parse-number-end c = search needs
-
-parse-number-requires-2 : tie.Need-parse-number-requires-2
-parse-number-requires-2 c κs = search needs
-
-enum-told-2 : tie.Need-enum-told-2
-enum-told-2 c = search needs
-
-enum-known-n : tie.Need-enum-known-n
-enum-known-n c = search needs
-
 returns-2 : tie.Need-returns-2
-returns-2 c = λ k n hk hn e. let f = fields-at k n (c .before .before .before .before .before .before .before .args .s .now) (c .before .before .before .before .before .first-space .result) e (c .before .before .before .before .before .first-space .ensures) in (rw (c .enum-told .given .1) at (c .before .before .parse-number .ensures)) k hk (f .1)
+returns-2 c =
+    λ k n hk hn e. let f = fields-at k n (c .before .before .before .before .before .before .before .args .s .now)
+    (c .before .before .before .before .before .first-space .result) e (c .before .before .before .before .before .first-space .ensures) in
+    (rw (c .enum-told .given .1) at (c .before .before .parse-number .ensures)) k hk (f .1)
 
 returns-3 : tie.Need-returns-3
 returns-3 c =
     λ k n hk hn e.
-    let f = fields-at k n (c .before .before .before .before .before .before .before .before .before .before .before .before .args .s .now) (c .before .before .before .before .before .before .before .before .before .before .first-space .result) e (c .before .before .before .before .before .before .before .before .before .before .first-space .ensures) in
-    (rw (c .enum-told2 .given .1) at (c .before .before .parse-number2 .ensures)) n hn (take-all (length (c .before .before .before .before .before .before .before .before .before .before .before .before .args .s .now) - ((c .before .before .before .before .before .before .before .before .before .before .first-space .result) + 1)) (drop ((c .before .before .before .before .before .before .before .before .before .before .first-space .result) + 1) (c .before .before .before .before .before .before .before .before .before .before .before .before .args .s .now)) (simp length-drop (omega arith)) ∙ f .2)
+    let f = fields-at k n (c .before .before .before .before .before .before .before .before .before .before .before .before .args .s .now)
+    (c .before .before .before .before .before .before .before .before .before .before .first-space .result) e
+    (c .before .before .before .before .before .before .before .before .before .before .first-space .ensures) in
+    (rw (c .enum-told2 .given .1) at (c .before .before .parse-number2 .ensures)) n hn
+    (take-all (length (c .before .before .before .before .before .before .before .before .before .before .before .before .args .s .now) -
+    ((c .before .before .before .before .before .before .before .before .before .before .first-space .result) + 1))
+    (drop ((c .before .before .before .before .before .before .before .before .before .before .first-space .result) + 1)
+    (c .before .before .before .before .before .before .before .before .before .before .before .before .args .s .now))
+    (simp length-drop (omega arith)) ∙ f .2)
 
 returns-4 : tie.Need-returns-4
 returns-4 c =
     let p = rw (c .before .before .before .before .before .before .k .given .1) at (c .before .before .before .before .before .before .before .before .parse-number .ensures) in
-    let q = rw (c .before .n .given .1) at (c .before .before .before .parse-number2 .ensures) in
-    (p .0, q .0, fields-join (c .before .before .before .before .before .before .before .before .before .before .before .before .before .args .s .now) (c .before .before .before .before .before .before .before .before .before .before .before .first-space .result) _ _ (c .before .before .before .before .before .before .before .before .before .before .before .first-space .ensures) (c .before .before .before .before .before .before .before .before .before .before .if1 .left) (p .1) (sym (take-all (length (c .before .before .before .before .before .before .before .before .before .before .before .before .before .args .s .now) - ((c .before .before .before .before .before .before .before .before .before .before .before .first-space .result) + 1)) (drop ((c .before .before .before .before .before .before .before .before .before .before .before .first-space .result) + 1) (c .before .before .before .before .before .before .before .before .before .before .before .before .before .args .s .now)) (simp length-drop (omega arith))) ∙ q .1))
+    let q = rw (c .before .n .given .1) at (c .before .before .before .parse-number2 .ensures) in (
+      p .0,
+      q .0,
+      fields-join (c .before .before .before .before .before .before .before .before .before .before .before .before .before .args .s .now)
+          (c .before .before .before .before .before .before .before .before .before .before .before .first-space .result) _ _
+          (c .before .before .before .before .before .before .before .before .before .before .before .first-space .ensures)
+          (c .before .before .before .before .before .before .before .before .before .before .if1 .left) (p .1)
+          (sym (take-all (length (c .before .before .before .before .before .before .before .before .before .before .before .before .before .args .s .now) - ((c .before .before .before .before .before .before .before .before .before .before .before .first-space .result) + 1)) (drop ((c .before .before .before .before .before .before .before .before .before .before .before .first-space .result) + 1) (c .before .before .before .before .before .before .before .before .before .before .before .before .before .args .s .now)) (simp length-drop (omega arith))) ∙ q .1),
+    )
 
 pub parse-fields-spec : {M : Type 1} → statement M
 parse-fields-spec =
     tie.close
-    (tie.spec
-    first-space-requires
-    returns
-    slice-aggregate-parse-number
-    parse-number-requires
-    enum-told
-    enum-known-k
-    add-parse-number
-    sub-parse-number
-    part-parse-number-start
-    part-parse-number-end
-    parse-number-requires-2
-    enum-told-2
-    enum-known-n
-    returns-2
-    returns-3
-    returns-4)
+    (tie.spec (λ c κs. search needs) returns slice-aggregate-parse-number (λ c κs. search needs) enum-told
+    (λ c. search needs) (λ c. search needs) (λ c. search needs) (λ c. search needs) (λ c. search needs)
+    (λ c κs. search needs) (λ c. search needs) (λ c. search needs) returns-2 returns-3 returns-4)

@@ -9,20 +9,13 @@ use Rattle.line.proofs.parse_line.Tie as tie
 returns : tie.Need-returns
 returns c = λ k n p. omega (arith, line-some (c .before .before .args .s .now) k n p, c .if1 .taken)
 
-shared-slice-read-if2 : tie.Need-shared-slice-read-if2
-shared-slice-read-if2 c = search needs
-
 slice-aggregate-parse-fields : tie.Need-slice-aggregate-parse-fields
 slice-aggregate-parse-fields c = simp length-take (omega arith)
 
-parse-fields-requires : tie.Need-parse-fields-requires
-parse-fields-requires c κs = search needs
-
 returns-2 : tie.Need-returns-2
-returns-2 c = ended-says (c .before .before .before .before .before .before .args .s .now) (c .parse-fields .result) (c .before .before .before .before .if1 .left) (c .before .before .if2 .taken) (c .parse-fields .ensures)
-
-parse-fields-requires-2 : tie.Need-parse-fields-requires-2
-parse-fields-requires-2 c κs = search needs
+returns-2 c =
+    ended-says (c .before .before .before .before .before .before .args .s .now) (c .parse-fields .result)
+    (c .before .before .before .before .if1 .left) (c .before .before .if2 .taken) (c .parse-fields .ensures)
 
 returns-3 : tie.Need-returns-3
 returns-3 c = bare-says (c .before .before .before .before .before .args .s .now) (c .parse-fields2 .result) (c .before .before .before .if1 .left) (c .before .if2 .left) (c .parse-fields2 .ensures)
@@ -30,11 +23,5 @@ returns-3 c = bare-says (c .before .before .before .before .before .args .s .now
 pub parse-line-spec : {M : Type 1} → statement M
 parse-line-spec =
     tie.close
-    (tie.spec
-    returns
-    shared-slice-read-if2
-    slice-aggregate-parse-fields
-    parse-fields-requires
-    returns-2
-    parse-fields-requires-2
-    returns-3)
+    (tie.spec returns (λ c. search needs) slice-aggregate-parse-fields (λ c κs. search needs) returns-2
+    (λ c κs. search needs) returns-3)

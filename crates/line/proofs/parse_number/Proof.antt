@@ -19,9 +19,6 @@ returns c = λ x h e. too-short (c .before .args .s .now) x e (c .if1 .taken)
 returns-2 : tie.Need-returns-2 Inv-loop μ-loop
 returns-2 c = λ x h e. too-long (c .before .before .args .s .now) x e h (c .if2 .taken)
 
-shared-slice-read-if3 : tie.Need-shared-slice-read-if3 Inv-loop μ-loop
-shared-slice-read-if3 c = search needs
-
 returns-3 : tie.Need-returns-3 Inv-loop μ-loop
 returns-3 c = λ x h e. zero-first (c .before .before .before .before .before .args .s .now) x e (c .before .if3 .taken) (c .if4 .taken)
 
@@ -31,57 +28,50 @@ returns-4 c = (omega arith, zero-text (c .before .before .before .before .before
 loop-holds : tie.Need-loop-holds Inv-loop μ-loop
 loop-holds c = spelling-start (c .before .before .before .before .args .s .now)
 
-shared-slice-read-a : tie.Need-shared-slice-read-a Inv-loop μ-loop
-shared-slice-read-a c = search needs
-
 returns-5 : tie.Need-returns-5 Inv-loop μ-loop
-returns-5 c = λ x h e. no-digit (c .before .before .before .before .before .before .before .before .args .s .now) x e (c .before .before .before .loop .i) (omega arith) (λ lo hi. omega (arith, c .if5 .taken))
+returns-5 c =
+    λ x h e. no-digit (c .before .before .before .before .before .before .before .before .args .s .now) x e (c .before .before .before .loop .i)
+    (omega arith) (λ lo hi. omega (arith, c .if5 .taken))
 
 returns-6 : tie.Need-returns-6 Inv-loop μ-loop
-returns-6 c = λ x h e. no-digit (c .before .before .before .before .before .before .before .before .before .args .s .now) x e (c .before .before .before .before .loop .i) (omega arith) (λ lo hi. omega (arith, c .if6 .taken))
+returns-6 c =
+    λ x h e. no-digit (c .before .before .before .before .before .before .before .before .before .args .s .now) x e
+    (c .before .before .before .before .loop .i) (omega arith) (λ lo hi. omega (arith, c .if6 .taken))
 
 mul-x : tie.Need-mul-x Inv-loop μ-loop
-mul-x c = omega (arith, spelling-small (c .before .before .before .before .before .before .before .before .before .args .s .now) (c .before .before .before .before .loop .x) (c .before .before .before .before .loop .i) (c .before .before .before .before .loop .inv) (let b = c .before .before .before .before .loop .inv .inside in omega arith))
-
-cast-x : tie.Need-cast-x Inv-loop μ-loop
-cast-x c = search needs
+mul-x c =
+    omega (
+      arith,
+      spelling-small (c .before .before .before .before .before .before .before .before .before .args .s .now)
+          (c .before .before .before .before .loop .x) (c .before .before .before .before .loop .i) (c .before .before .before .before .loop .inv)
+          (let b = c .before .before .before .before .loop .inv .inside in omega arith),
+    )
 
 add-x : tie.Need-add-x Inv-loop μ-loop
-add-x c = omega (arith, spelling-small (c .before .before .before .before .before .before .before .before .before .args .s .now) (c .before .before .before .before .loop .x) (c .before .before .before .before .loop .i) (c .before .before .before .before .loop .inv) (let b = c .before .before .before .before .loop .inv .inside in omega arith))
-
-add-i : tie.Need-add-i Inv-loop μ-loop
-add-i c = search needs
-
-loop-less : tie.Need-loop-less Inv-loop μ-loop
-loop-less c = search needs
+add-x c =
+    omega (
+      arith,
+      spelling-small (c .before .before .before .before .before .before .before .before .before .args .s .now)
+          (c .before .before .before .before .loop .x) (c .before .before .before .before .loop .i) (c .before .before .before .before .loop .inv)
+          (let b = c .before .before .before .before .loop .inv .inside in omega arith),
+    )
 
 loop-again : tie.Need-loop-again Inv-loop μ-loop
-loop-again c = spelling-on (c .before .before .before .before .before .before .before .before .before .args .s .now) (c .before .before .before .before .loop .x) (c .before .before .before .before .loop .i) (c .before .before .before .before .loop .inv) (omega arith) (c .before .if5 .left) (c .if6 .left)
+loop-again c =
+    spelling-on (c .before .before .before .before .before .before .before .before .before .args .s .now) (c .before .before .before .before .loop .x)
+    (c .before .before .before .before .loop .i) (c .before .before .before .before .loop .inv) (omega arith) (c .before .if5 .left) (c .if6 .left)
 
 returns-7 : tie.Need-returns-7 Inv-loop μ-loop
 returns-7 c =
-    let l = c .before .loop in
-    (spelling-small (c .before .before .before .before .before .before .args .s .now) (c .before .loop .x) (c .before .loop .i) (c .before .loop .inv) (let b = c .before .loop .inv .inside in omega arith), spelling-end (c .before .before .before .before .before .before .args .s .now) (l .x) (l .i) (l .inv) (omega arith) (omega arith) (c .before .before .if3 .left))
+    let l = c .before .loop in (
+      spelling-small (c .before .before .before .before .before .before .args .s .now) (c .before .loop .x) (c .before .loop .i) (c .before .loop .inv)
+          (let b = c .before .loop .inv .inside in omega arith),
+      spelling-end (c .before .before .before .before .before .before .args .s .now) (l .x)
+          (l .i) (l .inv) (omega arith) (omega arith) (c .before .before .if3 .left),
+    )
 
 pub parse-number-spec : {M : Type 1} → statement M
 parse-number-spec =
     tie.close
-    (tie.spec
-    Inv-loop
-    μ-loop
-    returns
-    returns-2
-    shared-slice-read-if3
-    returns-3
-    returns-4
-    loop-holds
-    shared-slice-read-a
-    returns-5
-    returns-6
-    mul-x
-    cast-x
-    add-x
-    add-i
-    loop-less
-    loop-again
-    returns-7)
+    (tie.spec Inv-loop μ-loop returns returns-2 (λ c. search needs) returns-3 returns-4 loop-holds (λ c. search needs)
+    returns-5 returns-6 mul-x (λ c. search needs) add-x (λ c. search needs) (λ c. search needs) loop-again returns-7)

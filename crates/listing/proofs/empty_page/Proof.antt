@@ -6,15 +6,10 @@ use Rattle.listing_spec.specs.declared.Page.{Page}
 use Rattle.listing.proofs.empty_page.Statement.{statement}
 use Rattle.listing.proofs.empty_page.Tie as tie
 
-empty-state-requires : tie.Need-empty-state-requires
-empty-state-requires c κs = search needs
-
 returns : tie.Need-returns
 returns c = let e = c .empty-state .ensures in λ i. record { length = 0; state = e i }
 
 pub empty-page-spec : {M : Type 1} → statement M
 empty-page-spec =
     tie.close
-    (tie.spec
-    empty-state-requires
-    returns)
+    (tie.spec (λ c κs. search needs) returns)

@@ -5,51 +5,34 @@ use Rattle.listing.proofs.Making.{first-small, first-refused, first-lis
 use Rattle.listing.proofs.first_page.Statement.{statement}
 use Rattle.listing.proofs.first_page.Tie as tie
 
-empty-page-requires : tie.Need-empty-page-requires
-empty-page-requires c κs = search needs
-
 returns : tie.Need-returns
 returns c = let a = c .before .before .before .before .args in first-small (a .line .now) (a .buf .now) _ (omega (arith, c .before .if1 .taken)) (c .empty-page .ensures)
-
-plan-requires : tie.Need-plan-requires
-plan-requires c κs = search needs
-
-enum-known-r : tie.Need-enum-known-r
-enum-known-r c = search needs
 
 refused-page-requires : tie.Need-refused-page-requires
 refused-page-requires c κs = omega (arith, c .before .before .before .before .before .if1 .left)
 
-enum-known-k : tie.Need-enum-known-k
-enum-known-k c = search needs
-
 open-page-requires : tie.Need-open-page-requires
-open-page-requires c κs = let g = c .before .before .k .given in let p = rw (g .1) at (c .before .before .before .before .plan .ensures) in (p .1, omega (arith, c .before .before .before .before .before .if1 .left))
-
-same-length : tie.Need-same-length
-same-length c = search needs
+open-page-requires c κs =
+    let g = c .before .before .k .given in let p = rw (g .1) at (c .before .before .before .before .plan .ensures) in
+    (p .1, omega (arith, c .before .before .before .before .before .if1 .left))
 
 returns-2 : tie.Need-returns-2
-returns-2 c = let a = c .before .before .before .before .before .before .before .before .before .before .before .args in let g = c .before .before .before .before .before .r .given in first-refused (a .line .now) (a .buf .now) _ _ (omega (arith, c .before .before .before .before .before .before .before .before .if1 .left)) (g .0 .0) (rw (g .1) at (c .before .before .before .before .before .before .before .plan .ensures)) (c .before .before .refused-page .ensures)
-
-same-length-2 : tie.Need-same-length-2
-same-length-2 c = search needs
+returns-2 c =
+    let a = c .before .before .before .before .before .before .before .before .before .before .before .args in
+    let g = c .before .before .before .before .before .r .given in
+    first-refused (a .line .now) (a .buf .now) _ _ (omega (arith, c .before .before .before .before .before .before .before .before .if1 .left))
+    (g .0 .0) (rw (g .1) at (c .before .before .before .before .before .before .before .plan .ensures)) (c .before .before .refused-page .ensures)
 
 returns-3 : tie.Need-returns-3
-returns-3 c = let a = c .before .before .before .before .before .before .before .before .before .before .before .args in let g = c .before .before .before .before .before .k .given in first-listed (a .line .now) (a .buf .now) _ _ (omega (arith, c .before .before .before .before .before .before .before .before .if1 .left)) (g .0 .0) (g .0 .1 .0) (rw (g .1) at (c .before .before .before .before .before .before .before .plan .ensures)) (c .before .before .open-page .ensures)
+returns-3 c =
+    let a = c .before .before .before .before .before .before .before .before .before .before .before .args in
+    let g = c .before .before .before .before .before .k .given in
+    first-listed (a .line .now) (a .buf .now) _ _ (omega (arith, c .before .before .before .before .before .before .before .before .if1 .left))
+    (g .0 .0) (g .0 .1 .0) (rw (g .1) at (c .before .before .before .before .before .before .before .plan .ensures))
+    (c .before .before .open-page .ensures)
 
 pub first-page-spec : {M : Type 1} → statement M
 first-page-spec =
     tie.close
-    (tie.spec
-    empty-page-requires
-    returns
-    plan-requires
-    enum-known-r
-    refused-page-requires
-    enum-known-k
-    open-page-requires
-    same-length
-    returns-2
-    same-length-2
-    returns-3)
+    (tie.spec (λ c κs. search needs) returns (λ c κs. search needs) (λ c. search needs) refused-page-requires
+    (λ c. search needs) open-page-requires (λ c. search needs) returns-2 (λ c. search needs) returns-3)

@@ -5,27 +5,17 @@ use Rattle.listing.proofs.Making.{refused-room, refused-says}
 use Rattle.listing.proofs.refused_page.Statement.{statement}
 use Rattle.listing.proofs.refused_page.Tie as tie
 
-number-requires : tie.Need-number-requires
-number-requires c κs = search needs
-
 place-refused-requires : tie.Need-place-refused-requires
 place-refused-requires c κs = refused-room _ _ _ (omega arith) (search needs) (c .before .before .before .pre)
 
-empty-state-requires : tie.Need-empty-state-requires
-empty-state-requires c κs = search needs
-
-same-length : tie.Need-same-length
-same-length c = search needs
-
 returns : tie.Need-returns
-returns c = let d = c .before .before .before .before .before .number in refused-says (c .before .before .before .before .before .before .before .args .r) (d .result) (d .ensures) (c .before .before .before .before .before .before .before .args .buf .now) _ _ (c .before .before .before .place-refused .ensures) (c .empty-state .ensures)
+returns c =
+    let d = c .before .before .before .before .before .number in
+    refused-says (c .before .before .before .before .before .before .before .args .r) (d .result) (d .ensures)
+    (c .before .before .before .before .before .before .before .args .buf .now) _ _ (c .before .before .before .place-refused .ensures)
+    (c .empty-state .ensures)
 
 pub refused-page-spec : {M : Type 1} → statement M
 refused-page-spec =
     tie.close
-    (tie.spec
-    number-requires
-    place-refused-requires
-    empty-state-requires
-    same-length
-    returns)
+    (tie.spec (λ c κs. search needs) place-refused-requires (λ c κs. search needs) (λ c. search needs) returns)

@@ -5,35 +5,25 @@ use Rattle.listing_pages_inner.proofs.Filling.{page-full, last-room, pa
 use Rattle.listing_pages_inner.proofs.fill_page.Statement.{statement}
 use Rattle.listing_pages_inner.proofs.fill_page.Tie as tie
 
-fill-rows-requires : tie.Need-fill-rows-requires
-fill-rows-requires c κs = search needs
-
-same-length : tie.Need-same-length
-same-length c = search needs
-
 returns : tie.Need-returns
-returns c = let a = c .before .before .before .before .before .before .before .args in page-full (a .s) (a .buf .now) (a .from) _ _ (c .before .before .before .before .fill-rows .ensures) (c .if1 .taken)
+returns c =
+    let a = c .before .before .before .before .before .before .before .args in
+    page-full (a .s) (a .buf .now) (a .from) _ _ (c .before .before .before .before .fill-rows .ensures) (c .if1 .taken)
 
 place-last-requires : tie.Need-place-last-requires
-place-last-requires c κs = let a = c .before .before .before .before .before .before .before .before .args in omega (arith, last-room (a .s) (a .buf .now) (a .from) _ _ (c .before .before .before .before .before .fill-rows .ensures) (c .before .if1 .left))
-
-empty-state-requires : tie.Need-empty-state-requires
-empty-state-requires c κs = search needs
-
-same-length-2 : tie.Need-same-length-2
-same-length-2 c = search needs
+place-last-requires c κs =
+    let a = c .before .before .before .before .before .before .before .before .args in
+    omega (arith, last-room (a .s) (a .buf .now) (a .from) _ _ (c .before .before .before .before .before .fill-rows .ensures) (c .before .if1 .left))
 
 returns-2 : tie.Need-returns-2
-returns-2 c = let a = c .before .before .before .before .before .before .before .before .before .before .before .before .args in page-last (a .s) (a .buf .now) (a .from) _ _ (c .before .before .before .before .before .before .before .before .before .fill-rows .ensures) (c .before .before .before .before .before .if1 .left) _ _ (c .before .before .before .place-last .ensures) (c .empty-state .result) (c .empty-state .ensures)
+returns-2 c =
+    let a = c .before .before .before .before .before .before .before .before .before .before .before .before .args in
+    page-last (a .s) (a .buf .now) (a .from) _ _ (c .before .before .before .before .before .before .before .before .before .fill-rows .ensures)
+    (c .before .before .before .before .before .if1 .left) _ _ (c .before .before .before .place-last .ensures) (c .empty-state .result)
+    (c .empty-state .ensures)
 
 pub fill-page-spec : {M : Type 1} → statement M
 fill-page-spec =
     tie.close
-    (tie.spec
-    fill-rows-requires
-    same-length
-    returns
-    place-last-requires
-    empty-state-requires
-    same-length-2
-    returns-2)
+    (tie.spec (λ c κs. search needs) (λ c. search needs) returns place-last-requires (λ c κs. search needs)
+    (λ c. search needs) returns-2)

@@ -9,32 +9,32 @@ use Rattle.listing_pages_inner.proofs.open_page.Tie as tie
 place-first-requires : tie.Need-place-first-requires
 place-first-requires c κs = let g = c .before .before in let a = g .args in open-first (a .k) (a .n) (g .pre .0) (a .buf .now) (g .pre .1)
 
-array-share-prefix-ring : tie.Need-array-share-prefix-ring
-array-share-prefix-ring c = search needs
-
 slice-aggregate-place-zero-ring : tie.Need-slice-aggregate-place-zero-ring
 slice-aggregate-place-zero-ring c = simp length-take (omega arith)
 
 place-zero-ring-requires : tie.Need-place-zero-ring-requires
-place-zero-ring-requires c κs = let g = c .before .before .before .before .before .before .before in let a = g .args in open-ring (a .k) (a .n) (g .pre .0) (a .buf .now) (g .pre .1) _ _ (c .before .before .before .before .place-first .ensures)
+place-zero-ring-requires c κs =
+    let g = c .before .before .before .before .before .before .before in let a = g .args in
+    open-ring (a .k) (a .n) (g .pre .0) (a .buf .now) (g .pre .1) _ _ (c .before .before .before .before .place-first .ensures)
 
 fill-page-requires : tie.Need-fill-page-requires
-fill-page-requires c κs = let g = c .before .before .before .before .before .before .before .before .before .before .before in let a = g .args in (start-good (a .k) (a .n) (g .pre .0) _ _ (omega arith) (omega arith), open-inside (a .k) (a .n) (g .pre .0) (a .buf .now) (g .pre .1) _ _ (c .before .before .before .before .before .before .before .before .place-first .ensures) _ _ (c .before .before .before .place-zero-ring .ensures))
-
-same-length : tie.Need-same-length
-same-length c = search needs
+fill-page-requires c κs =
+    let g = c .before .before .before .before .before .before .before .before .before .before .before in let a = g .args in (
+      start-good (a .k) (a .n) (g .pre .0) _ _ (omega arith) (omega arith),
+      open-inside (a .k) (a .n) (g .pre .0) (a .buf .now) (g .pre .1) _ _
+          (c .before .before .before .before .before .before .before .before .place-first .ensures) _ _
+          (c .before .before .before .place-zero-ring .ensures),
+    )
 
 returns : tie.Need-returns
-returns c = let g = c .before .before .before .before .before .before .before .before .before .before .before .before .before .before in let a = g .args in opened (a .k) (a .n) (g .pre .0) (a .buf .now) (g .pre .1) _ _ (c .before .before .before .before .before .before .before .before .before .before .before .place-first .ensures) _ _ (c .before .before .before .before .before .before .place-zero-ring .ensures) _ _ (c .before .before .fill-page .ensures)
+returns c =
+    let g = c .before .before .before .before .before .before .before .before .before .before .before .before .before .before in let a = g .args in
+    opened (a .k) (a .n) (g .pre .0) (a .buf .now) (g .pre .1) _ _
+    (c .before .before .before .before .before .before .before .before .before .before .before .place-first .ensures) _ _
+    (c .before .before .before .before .before .before .place-zero-ring .ensures) _ _ (c .before .before .fill-page .ensures)
 
 pub open-page-spec : {M : Type 1} → statement M
 open-page-spec =
     tie.close
-    (tie.spec
-    place-first-requires
-    array-share-prefix-ring
-    slice-aggregate-place-zero-ring
-    place-zero-ring-requires
-    fill-page-requires
-    same-length
-    returns)
+    (tie.spec place-first-requires (λ c. search needs) slice-aggregate-place-zero-ring place-zero-ring-requires
+    fill-page-requires (λ c. search needs) returns)

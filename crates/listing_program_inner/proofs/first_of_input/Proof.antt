@@ -12,12 +12,6 @@ use Rattle.listing_program_inner.proofs.first_of_input.Tie as tie
 enum-told : tie.Need-enum-told
 enum-told c = search needs
 
-first-page-requires : tie.Need-first-page-requires
-first-page-requires c κs = search needs
-
-enum-known-most : tie.Need-enum-known-most
-enum-known-most c = search needs
-
 slice-aggregate-first-page : tie.Need-slice-aggregate-first-page
 slice-aggregate-first-page c =
     let most = c .before .before .most in
@@ -26,18 +20,6 @@ slice-aggregate-first-page c =
     let m : MostSays (Ended (most .given .0 .0)) (args .line .now) = rw (most .given .1) at (pre .1) in
     simp length-take (omega (arith, m))
 
-first-page-requires-2 : tie.Need-first-page-requires-2
-first-page-requires-2 c κs = search needs
-
-enum-told-2 : tie.Need-enum-told-2
-enum-told-2 c = search needs
-
-no-page-requires : tie.Need-no-page-requires
-no-page-requires c κs = search needs
-
-same-length : tie.Need-same-length
-same-length c = search needs
-
 returns : tie.Need-returns
 returns c =
     let args = c .before .before .before .before .before .before .before .before .args in
@@ -45,9 +27,6 @@ returns c =
     let pre = c .before .before .before .before .before .before .before .before .pre in
     let first-page = c .before .before .first-page in
     input-by (args .most) Full _ _ _ _ (enum-told .given .1) (input-full (args .line .now) (args .buf .now) _ _ (pre .0) (first-page .ensures))
-
-same-length-2 : tie.Need-same-length-2
-same-length-2 c = search needs
 
 returns-2 : tie.Need-returns-2
 returns-2 c =
@@ -65,16 +44,5 @@ returns-3 c =
 pub first-of-input-spec : {M : Type 1} → statement M
 first-of-input-spec =
     tie.close
-    (tie.spec
-    enum-told
-    first-page-requires
-    enum-known-most
-    slice-aggregate-first-page
-    first-page-requires-2
-    enum-told-2
-    no-page-requires
-    same-length
-    returns
-    same-length-2
-    returns-2
-    returns-3)
+    (tie.spec enum-told (λ c κs. search needs) (λ c. search needs) slice-aggregate-first-page (λ c κs. search needs)
+    (λ c. search needs) (λ c κs. search needs) (λ c. search needs) returns (λ c. search needs) returns-2 returns-3)

@@ -26,20 +26,8 @@ slice-reshare-prefix-write-all c = omega (arith, c .loop .inv .2 .inside)
 slice-aggregate-write-all : tie.Need-slice-aggregate-write-all Inv-loop μ-loop
 slice-aggregate-write-all c = simp length-take (omega (arith, c .before .loop .inv .2 .inside))
 
-write-all-requires : tie.Need-write-all-requires Inv-loop μ-loop
-write-all-requires c κs = search needs
-
-goes-on-requires : tie.Need-goes-on-requires Inv-loop μ-loop
-goes-on-requires c κs = search needs
-
-same-length : tie.Need-same-length Inv-loop μ-loop
-same-length c = search needs
-
 returns : tie.Need-returns Inv-loop μ-loop
 returns c = sym (c .before .goes-on .ensures) ∙ not-true _ (c .if1 .taken)
-
-next-page-requires : tie.Need-next-page-requires Inv-loop μ-loop
-next-page-requires c κs = search needs
 
 loop-less : tie.Need-loop-less Inv-loop μ-loop
 loop-less c =
@@ -62,16 +50,6 @@ loop-again c =
 pub print-pages-spec : {M : Type 1} → statement M
 print-pages-spec =
     tie.close
-    (tie.spec
-    Inv-loop
-    μ-loop
-    loop-holds
-    slice-reshare-prefix-write-all
-    slice-aggregate-write-all
-    write-all-requires
-    goes-on-requires
-    same-length
-    returns
-    next-page-requires
-    loop-less
+    (tie.spec Inv-loop μ-loop loop-holds slice-reshare-prefix-write-all slice-aggregate-write-all
+    (λ c κs. search needs) (λ c κs. search needs) (λ c. search needs) returns (λ c κs. search needs) loop-less
     loop-again)

@@ -23,9 +23,6 @@ loop-holds c =
     let l : length (g .args .s .ring) ≡ 64 = search needs in
     (along-start (g .args .s) (g .args .buf .now) (g .args .from) (g .pre .0) l (g .pre .1), refl)
 
-add-loop : tie.Need-add-loop Inv-loop μ-loop
-add-loop c = search needs
-
 array-borrow-prefix-ring : tie.Need-array-borrow-prefix-ring Inv-loop μ-loop
 array-borrow-prefix-ring c = let a = c .before .loop .inv .0 in omega (arith, along-fits a, along-size a)
 
@@ -34,9 +31,6 @@ slice-aggregate-go-on c = let a = c .before .before .loop .inv .0 in simp length
 
 go-on-requires : tie.Need-go-on-requires Inv-loop μ-loop
 go-on-requires c κs = along-ready (c .before .before .loop .inv .0)
-
-enum-known-outcome : tie.Need-enum-known-outcome Inv-loop μ-loop
-enum-known-outcome c = search needs
 
 array-share-prefix-ring : tie.Need-array-share-prefix-ring Inv-loop μ-loop
 array-share-prefix-ring c =
@@ -119,23 +113,6 @@ returns-2 c =
 pub fill-rows-spec : {M : Type 1} → statement M
 fill-rows-spec =
     tie.close
-    (tie.spec
-    Inv-loop
-    μ-loop
-    loop-holds
-    add-loop
-    array-borrow-prefix-ring
-    slice-aggregate-go-on
-    go-on-requires
-    enum-known-outcome
-    array-share-prefix-ring
-    slice-aggregate-place-ring
-    place-ring-requires
-    add-rings
-    add-moves
-    loop-less
-    loop-again
-    same-length
-    returns
-    same-length-2
-    returns-2)
+    (tie.spec Inv-loop μ-loop loop-holds (λ c. search needs) array-borrow-prefix-ring slice-aggregate-go-on
+    go-on-requires (λ c. search needs) array-share-prefix-ring slice-aggregate-place-ring place-ring-requires
+    add-rings add-moves loop-less loop-again same-length returns same-length-2 returns-2)

@@ -5,9 +5,6 @@ use Rattle.packing_bits_inner.proofs.Shifts.{shifted, shifted-lt}
 use Rattle.packing_bits_inner.proofs.appended.Statement.{statement}
 use Rattle.packing_bits_inner.proofs.appended.Tie as tie
 
-shl-result : tie.Need-shl-result
-shl-result c = search needs
-
 add-result : tie.Need-add-result
 add-result c =
     let a = c .args in rw (shifted (a .rest) (a .width) (c .pre .0) (c .pre .1)) (omega (arith, shifted-lt (a .rest) (a .width) (c .pre .0) (c .pre .1)))
@@ -16,4 +13,4 @@ returns : tie.Need-returns
 returns c = rw (shifted (c .args .rest) (c .args .width) (c .pre .0) (c .pre .1))
 
 pub appended-spec : {M : Type 1} → statement M
-appended-spec = tie.close (tie.spec shl-result add-result returns)
+appended-spec = tie.close (tie.spec (λ c. search needs) add-result returns)

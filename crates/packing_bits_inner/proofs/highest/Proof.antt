@@ -7,12 +7,6 @@ use Rattle.packing_bits_inner.proofs.Shifts.{shifted, raised-lt}
 use Rattle.packing_bits_inner.proofs.highest.Statement.{statement}
 use Rattle.packing_bits_inner.proofs.highest.Tie as tie
 
-sub-result : tie.Need-sub-result
-sub-result c = search needs
-
-shl-result : tie.Need-shl-result
-shl-result c = search needs
-
 cast-result : tie.Need-cast-result
 cast-result c =
     let a = c .args in
@@ -23,4 +17,4 @@ returns c =
     let a = c .args in shifted (a .rest) (8 - a .held) (held-lt (a .rest) (a .held) (c .pre .1) (c .pre .0)) (omega arith)
 
 pub highest-spec : {M : Type 1} → statement M
-highest-spec = tie.close (tie.spec sub-result shl-result cast-result returns)
+highest-spec = tie.close (tie.spec (λ c. search needs) (λ c. search needs) cast-result returns)

@@ -7,9 +7,6 @@ use Rattle.packing_bits_inner.proofs.Shifts.{shifted}
 use Rattle.packing_bits_inner.proofs.lower.Statement.{statement}
 use Rattle.packing_bits_inner.proofs.lower.Tie as tie
 
-shl-result : tie.Need-shl-result
-shl-result c = search needs
-
 rem-result : tie.Need-rem-result
 rem-result c = rw (shifted 1 (c .args .held) (omega arith) (omega arith), one-mul) (pow-pos (c .args .held))
 
@@ -17,4 +14,4 @@ returns : tie.Need-returns
 returns c = rw (shifted 1 (c .args .held) (omega arith) (omega arith), one-mul)
 
 pub lower-spec : {M : Type 1} → statement M
-lower-spec = tie.close (tie.spec shl-result rem-result returns)
+lower-spec = tie.close (tie.spec (λ c. search needs) rem-result returns)

@@ -7,20 +7,11 @@ use Rattle.packing_laws.proofs.Width.{width-leading}
 use Rattle.packing_bits_inner.proofs.width_of.Statement.{statement}
 use Rattle.packing_bits_inner.proofs.width_of.Tie as tie
 
-sub-top : tie.Need-sub-top
-sub-top c = search needs
-
-cast-top : tie.Need-cast-top
-cast-top c = search needs
-
 sub-result : tie.Need-sub-result
 sub-result c = leading-le 8 _
-
-cast-result : tie.Need-cast-result
-cast-result c = search needs
 
 returns : tie.Need-returns
 returns c = sym (width-leading (c .args .k) (c .pre .0) (omega (arith, c .pre .1)))
 
 pub width-of-spec : {M : Type 1} → statement M
-width-of-spec = tie.close (tie.spec sub-top cast-top sub-result cast-result returns)
+width-of-spec = tie.close (tie.spec (λ c. search needs) (λ c. search needs) sub-result (λ c. search needs) returns)

@@ -81,25 +81,6 @@ returns-2 c = packs-end _ _ _ _ _ _ _ (c .before .before .loop .inv) (omega arit
 pub pack-into-spec : {M : Type 1} → statement M
 pack-into-spec =
     tie.close
-    (tie.spec
-    Inv-loop
-    μ-loop
-    loop-holds
-    shared-slice-read-appended
-    appended-requires
-    add-held
-    add-i
-    loop-less
-    loop-again
-    upper-requires
-    slice-write-out
-    lower-requires
-    add-j
-    loop-less-2
-    loop-again-2
-    highest-requires
-    slice-write-out-2
-    same-length
-    returns
-    same-length-2
-    returns-2)
+    (tie.spec Inv-loop μ-loop loop-holds shared-slice-read-appended appended-requires add-held add-i loop-less
+    loop-again upper-requires slice-write-out lower-requires add-j loop-less-2 loop-again-2 highest-requires
+    slice-write-out-2 same-length returns same-length-2 returns-2)

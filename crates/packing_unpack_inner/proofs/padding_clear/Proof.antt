@@ -45,12 +45,4 @@ returns c =
 pub padding-clear-spec : {M : Type 1} → statement M
 padding-clear-spec =
     tie.close
-    (tie.spec
-    mul-spare
-    mul-spare-2
-    sub-spare
-    sub-lower
-    shared-slice-read-lower
-    cast-lower
-    lower-requires
-    returns)
+    (tie.spec mul-spare mul-spare-2 sub-spare sub-lower shared-slice-read-lower cast-lower lower-requires returns)

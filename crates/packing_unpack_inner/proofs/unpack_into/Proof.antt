@@ -64,21 +64,5 @@ returns c = unpacks-end _ _ _ _ _ _ _ _ (c .before .loop .inv) (omega arith)
 pub unpack-into-spec : {M : Type 1} → statement M
 unpack-into-spec =
     tie.close
-    (tie.spec
-    Inv-loop
-    μ-loop
-    loop-holds
-    shared-slice-read-appended
-    appended-requires
-    add-held
-    add-i
-    loop-less
-    loop-again
-    upper-requires
-    slice-write-out
-    lower-requires
-    add-j
-    loop-less-2
-    loop-again-2
-    same-length
-    returns)
+    (tie.spec Inv-loop μ-loop loop-holds shared-slice-read-appended appended-requires add-held add-i loop-less
+    loop-again upper-requires slice-write-out lower-requires add-j loop-less-2 loop-again-2 same-length returns)

@@ -8,14 +8,8 @@ use Rattle.program_ending_inner.proofs.say.Tie as tie
 returns : tie.Need-returns
 returns c = small (c .if1 .taken) refl refl
 
-place-ending-requires : tie.Need-place-ending-requires
-place-ending-requires c κs = search needs
-
-same-length : tie.Need-same-length
-same-length c = search needs
-
 returns-2 : tie.Need-returns-2
 returns-2 c = said (c .before .before .before .before .if1 .left) (c .before .before .place-ending .ensures)
 
 pub say-spec : {M : Type 1} → statement M
-say-spec = tie.close (tie.spec returns place-ending-requires same-length returns-2)
+say-spec = tie.close (tie.spec returns (λ c κs. search needs) (λ c. search needs) returns-2)

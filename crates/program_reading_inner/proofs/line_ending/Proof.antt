@@ -11,12 +11,6 @@ returns c = line-unwritten (c .before .args .wrote) (c .before .args .most) (not
 enum-told : tie.Need-enum-told
 enum-told c = search needs
 
-enum-told-2 : tie.Need-enum-told-2
-enum-told-2 c = search needs
-
-enum-told-3 : tie.Need-enum-told-3
-enum-told-3 c = search needs
-
 returns-2 : tie.Need-returns-2
 returns-2 c =
     let args = c .before .before .before .args in
@@ -36,4 +30,5 @@ returns-4 c =
     line-read (args .wrote) (args .most) _ (not-false _ (if1 .left)) (c .enum-told3 .given .1)
 
 pub line-ending-spec : {M : Type 1} → statement M
-line-ending-spec = tie.close (tie.spec returns enum-told enum-told-2 enum-told-3 returns-2 returns-3 returns-4)
+line-ending-spec = tie.close (tie.spec returns enum-told (λ c. search needs) (λ c. search needs) returns-2 returns-3
+    returns-4)

@@ -8,16 +8,10 @@ use borrow.Author.Needs.{needs}
 use Rattle.program_reading_inner.proofs.read_some.Statement.{statement}
 use Rattle.program_reading_inner.proofs.read_some.Tie as tie
 
-read-requires : tie.Need-read-requires
-read-requires c κs = search needs
-
 told-requires : tie.Need-told-requires
 told-requires c κs =
     let r = c .before .before .before .read in
     moved-back (r .result) _ _ _ (toZ-ofZ {w = w64} {z = r .result} (record { sfits = r .ok })) (r .kept .1 .0) (r .ensures)
-
-same-length : tie.Need-same-length
-same-length c = search needs
 
 returns : tie.Need-returns
 returns c =
@@ -27,4 +21,4 @@ returns c =
     (moved-back (r .result) _ _ _ (toZ-ofZ {w = w64} {z = r .result} (record { sfits = r .ok })) (r .kept .1 .0) (r .ensures))
 
 pub read-some-spec : {M : Type 1} → statement M
-read-some-spec = tie.close (tie.spec read-requires told-requires same-length returns)
+read-some-spec = tie.close (tie.spec (λ c κs. search needs) told-requires (λ c. search needs) returns)

@@ -11,12 +11,6 @@ returns c = stream-unwritten (c .before .args .wrote) (c .before .args .got) (no
 enum-told : tie.Need-enum-told
 enum-told c = search needs
 
-enum-told-2 : tie.Need-enum-told-2
-enum-told-2 c = search needs
-
-enum-told-3 : tie.Need-enum-told-3
-enum-told-3 c = search needs
-
 returns-2 : tie.Need-returns-2
 returns-2 c =
     let args = c .before .before .before .args in
@@ -36,4 +30,5 @@ returns-4 c =
     stream-read (args .wrote) (args .got) _ (not-false _ (if1 .left)) (c .enum-told3 .given .1)
 
 pub stream-ending-spec : {M : Type 1} → statement M
-stream-ending-spec = tie.close (tie.spec returns enum-told enum-told-2 enum-told-3 returns-2 returns-3 returns-4)
+stream-ending-spec = tie.close (tie.spec returns enum-told (λ c. search needs) (λ c. search needs) returns-2 returns-3
+    returns-4)

@@ -43,25 +43,12 @@ returns-3 : tie.Need-returns-3
 returns-3 c =
     let e = c .before .before .before .before .before .before .before .before .before .before in
     let g = rw (c .before .before .before .before .before .before .enum-told .given .1) at (c .before .before .before .before .before .before .before .before .check-counts .ensures) in
-    bytes-checked (e .args .kind) (e .args .rest .now) (e .args .start) _ g (c .before .before .before .body-length .ensures) (c .before .before .if1 .left) _ refl (c .check-bytes .result) (c .check-bytes .ensures)
+    bytes-checked (e .args .kind) (e .args .rest .now) (e .args .start) _ g (c .before .before .before .body-length .ensures)
+    (c .before .before .if1 .left) _ refl (c .check-bytes .result) (c .check-bytes .ensures)
 
 pub check-behind-spec : {M : Type 1} → statement M
 check-behind-spec =
     tie.close
-    (tie.spec
-    (λ c κs. search needs)
-    (λ c. search needs)
-    (λ c. search needs)
-    (λ c. search needs)
-    cast-n
-    (λ c. search needs)
-    cast-k
-    body-length-requires
-    add-e
-    returns
-    (λ c. search needs)
-    (λ c. search needs)
-    (λ c. search needs)
-    check-bytes-requires
-    returns-2
-    returns-3)
+    (tie.spec (λ c κs. search needs) (λ c. search needs) (λ c. search needs) (λ c. search needs) cast-n
+    (λ c. search needs) cast-k body-length-requires add-e returns (λ c. search needs) (λ c. search needs)
+    (λ c. search needs) check-bytes-requires returns-2 returns-3)

@@ -22,4 +22,5 @@ returns-2 : tie.Need-returns-2
 returns-2 c = rw (c .before .enum-told2 .given .1) (c .check-packed-body .ensures)
 
 pub check-bytes-spec : {M : Type 1} → statement M
-check-bytes-spec = tie.close (tie.spec (λ c. search needs) check-body-requires (λ c. search needs) check-packed-body-requires returns returns-2)
+check-bytes-spec = tie.close (tie.spec (λ c. search needs) check-body-requires (λ c. search needs)
+    check-packed-body-requires returns returns-2)

@@ -32,14 +32,22 @@ show-requires c κs =
     show-asks (e .args .kind) (e .args .rest .now) (e .args .start) _ (e .pre .2 .0) (c .before .before .body-length .ensures) _ _ refl (sym (slice-aggregate-show c))
 
 add-t11 : tie.Need-add-t11
-add-t11 c = let e = c .before .before .before .before .before .before .before .before .before .before in omega (arith, e .pre .0, whole (e .args .kind) (e .args .rest .now) (e .args .start) _ (e .pre .2 .0) (c .before .before .before .before .before .body-length .ensures))
+add-t11 c =
+    let e = c .before .before .before .before .before .before .before .before .before .before in
+    omega (
+      arith,
+      e .pre .0,
+      whole (e .args .kind) (e .args .rest .now) (e .args .start) _ (e .pre .2 .0)
+          (c .before .before .before .before .before .body-length .ensures),
+    )
 
 returns : tie.Need-returns
 returns c =
     let e = c .before .before .before .before .before .before .before .before .before .before in
     let t = e .args .rest .now in
     let told = c .before .before .before .before .before .body-length .ensures in
-    let ring = shown-ring (e .args .kind) (e .args .rest .now) (e .args .start) _ (e .pre .2 .0) told _ _ refl (sym (slice-aggregate-show (c .before .before .before))) _ (c .before .before .show .ensures) in
+    let ring = shown-ring (e .args .kind) (e .args .rest .now) (e .args .start) _ (e .pre .2 .0) told _ _ refl
+    (sym (slice-aggregate-show (c .before .before .before))) _ (c .before .before .show .ensures) in
     record {
       good = e .pre .2;
       marked = e .pre .3;
@@ -52,19 +60,6 @@ returns c =
 pub read-good-spec : {M : Type 1} → statement M
 read-good-spec =
     tie.close
-    (tie.spec
-    (λ c. search needs)
-    (λ c. search needs)
-    (λ c. search needs)
-    (λ c. search needs)
-    body-length-requires
-    add-e
-    (λ c. search needs)
-    (λ c. search needs)
-    part-show-end
-    slice-relend-prefix-show
-    slice-aggregate-show
-    show-requires
-    add-t11
-    (λ c. search needs)
-    returns)
+    (tie.spec (λ c. search needs) (λ c. search needs) (λ c. search needs) (λ c. search needs) body-length-requires
+    add-e (λ c. search needs) (λ c. search needs) part-show-end slice-relend-prefix-show slice-aggregate-show
+    show-requires add-t11 (λ c. search needs) returns)

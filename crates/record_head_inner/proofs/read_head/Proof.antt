@@ -22,24 +22,22 @@ returns-3 c =
 
 returns-6 : tie.Need-returns-6
 returns-6 c =
-    let t = c .before .before .before .before .before .before .before .before .before .before .before .args .rest .now in
-    (inl (inl (inr (search needs, (refl, ⊎-elim (not-known t (c .before .before .if4 .left) (c .if5 .left)) (other-byte t (c .before .before .before .before .before .is-retired .result) (c .before .before .before .before .before .is-retired .ensures) (c .before .before .before .before .if3 .left)))))), refl)
+    let t = c .before .before .before .before .before .before .before .before .before .before .before .args .rest .now in (
+      inl (inl (inr (
+        search needs,
+        (
+          refl,
+          ⊎-elim (not-known t (c .before .before .if4 .left) (c .if5 .left))
+              (other-byte t (c .before .before .before .before .before .is-retired .result) (c .before .before .before .before .before .is-retired .ensures)
+              (c .before .before .before .before .if3 .left)),
+        ),
+      ))),
+      refl,
+    )
 
 pub read-head-spec : {M : Type 1} → statement M
 read-head-spec =
     tie.close
-    (tie.spec
-    returns
-    (λ c. search needs)
-    returns-2
-    (λ c κs. search needs)
-    returns-3
-    (λ c. search needs)
-    (λ c κs. search needs)
-    (λ c. search needs)
-    (λ c. search needs)
-    (λ c. search needs)
-    (λ c κs. search needs)
-    (λ c. search needs)
-    (λ c. search needs)
-    returns-6)
+    (tie.spec returns (λ c. search needs) returns-2 (λ c κs. search needs) returns-3 (λ c. search needs)
+    (λ c κs. search needs) (λ c. search needs) (λ c. search needs) (λ c. search needs) (λ c κs. search needs)
+    (λ c. search needs) (λ c. search needs) returns-6)

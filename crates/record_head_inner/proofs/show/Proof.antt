@@ -28,13 +28,5 @@ returns-2 c = rw (c .before .before .before .before .before .enum-told2 .given .
 pub show-spec : {M : Type 1} → statement M
 show-spec =
     tie.close
-    (tie.spec
-    (λ c. search needs)
-    copy-requires
-    (λ c. search needs)
-    (λ c κs. search needs)
-    unpack-into-requires
-    (λ c. search needs)
-    returns
-    (λ c. search needs)
-    returns-2)
+    (tie.spec (λ c. search needs) copy-requires (λ c. search needs) (λ c κs. search needs) unpack-into-requires
+    (λ c. search needs) returns (λ c. search needs) returns-2)

@@ -5,39 +5,17 @@ use borrow.Author.Needs.{needs}
 use Rattle.record_put_inner.proofs.put_head.Statement.{statement}
 use Rattle.record_put_inner.proofs.put_head.Tie as tie
 
-slice-write-rest : tie.Need-slice-write-rest
-slice-write-rest c = search needs
-
 slice-write-rest-2 : tie.Need-slice-write-rest-2
 slice-write-rest-2 c = let h = c .pre .0 in simp length-set (omega arith)
-
-cast-rest : tie.Need-cast-rest
-cast-rest c = search needs
 
 slice-write-rest-3 : tie.Need-slice-write-rest-3
 slice-write-rest-3 c = let h = c .pre .0 in simp length-set (omega arith)
 
-cast-rest-2 : tie.Need-cast-rest-2
-cast-rest-2 c = search needs
-
 slice-write-rest-4 : tie.Need-slice-write-rest-4
 slice-write-rest-4 c = let h = c .pre .0 in simp length-set (omega arith)
-
-same-length : tie.Need-same-length
-same-length c = search needs
-
-returns : tie.Need-returns
-returns c = search needs
 
 pub put-head-spec : {M : Type 1} → statement M
 put-head-spec =
     tie.close
-    (tie.spec
-    slice-write-rest
-    slice-write-rest-2
-    cast-rest
-    slice-write-rest-3
-    cast-rest-2
-    slice-write-rest-4
-    same-length
-    returns)
+    (tie.spec (λ c. search needs) slice-write-rest-2 (λ c. search needs) slice-write-rest-3 (λ c. search needs)
+    slice-write-rest-4 (λ c. search needs) (λ c. search needs))

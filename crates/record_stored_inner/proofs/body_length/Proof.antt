@@ -15,10 +15,5 @@ returns-2 c = let a = c .before .before .before .before .args in rw (c .before .
 pub body-length-spec : {M : Type 1} → statement M
 body-length-spec =
     tie.close
-    (tie.spec
-    (λ c. search needs)
-    (λ c. search needs)
-    (λ c κs. search needs)
-    packed-length-requires
-    (λ c. search needs)
-    returns-2)
+    (tie.spec (λ c. search needs) (λ c. search needs) (λ c κs. search needs) packed-length-requires
+    (λ c. search needs) returns-2)

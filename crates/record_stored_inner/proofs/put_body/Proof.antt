@@ -18,12 +18,5 @@ returns-2 c = rw (c .before .before .before .before .enum-told2 .given .1) (c .b
 pub put-body-spec : {M : Type 1} → statement M
 put-body-spec =
     tie.close
-    (tie.spec
-    (λ c. search needs)
-    put-home-requires
-    (λ c. search needs)
-    put-packed-requires
-    (λ c. search needs)
-    returns
-    (λ c. search needs)
-    returns-2)
+    (tie.spec (λ c. search needs) put-home-requires (λ c. search needs) put-packed-requires (λ c. search needs)
+    returns (λ c. search needs) returns-2)

@@ -21,33 +21,31 @@ put-home-requires : tie.Need-put-home-requires
 put-home-requires c κs = let e = c .before .before .before in (e .pre .0 .0 .0 .0 .0 .0 .0 .0, sym (slice-aggregate-put-home c))
 
 array-share-prefix-ring : tie.Need-array-share-prefix-ring
-array-share-prefix-ring c = let e = c .before .before .before .before .before in let a = e .args in let w = a .reading .now in let x = c .before .put-home in let y = ap (λ (v : List ℕ). length v) (x .ensures) ∙ length-home w (e .pre .0 .0 .0 .0 .0 .0 .0 .0) in simp (length-append, length-drop) (omega (arith, y))
+array-share-prefix-ring c =
+    let e = c .before .before .before .before .before in let a = e .args in let w = a .reading .now in let x = c .before .put-home in
+    let y = ap (λ (v : List ℕ). length v) (x .ensures) ∙ length-home w (e .pre .0 .0 .0 .0 .0 .0 .0 .0) in
+    simp (length-append, length-drop) (omega (arith, y))
 
 slice-aggregate-pack-into : tie.Need-slice-aggregate-pack-into
 slice-aggregate-pack-into c = let h = array-share-prefix-ring (c .before) in simp length-take (omega (arith, h))
 
-width-of-requires : tie.Need-width-of-requires
-width-of-requires c κs = search needs
-
 pack-into-requires : tie.Need-pack-into-requires
-pack-into-requires c κs = let e = c .before .before .before .before .before .before .before .before in let a = e .args in let w = a .reading .now in let x = c .before .before .before .before .put-home in let y = ap (λ (v : List ℕ). length v) (x .ensures) ∙ length-home w (e .pre .0 .0 .0 .0 .0 .0 .0 .0) in pack-asks w (a .k) _ _ _ (e .pre .0) (c .before .width-of .ensures) (take-at _ _ (length w) y ∙ x .ensures) (e .pre .1)
-
-same-length : tie.Need-same-length
-same-length c = search needs
+pack-into-requires c κs =
+    let e = c .before .before .before .before .before .before .before .before in let a = e .args in let w = a .reading .now in
+    let x = c .before .before .before .before .put-home in
+    let y = ap (λ (v : List ℕ). length v) (x .ensures) ∙ length-home w (e .pre .0 .0 .0 .0 .0 .0 .0 .0) in
+    pack-asks w (a .k) _ _ _ (e .pre .0) (c .before .width-of .ensures) (take-at _ _ (length w) y ∙ x .ensures) (e .pre .1)
 
 returns : tie.Need-returns
-returns c = let e = c .before .before .before .before .before .before .before .before .before .before .before in let a = e .args in let w = a .reading .now in let x = c .before .before .before .before .before .before .before .put-home in let y = ap (λ (v : List ℕ). length v) (x .ensures) ∙ length-home w (e .pre .0 .0 .0 .0 .0 .0 .0 .0) in pack-told w (a .k) _ _ _ (c .before .before .before .before .width-of .ensures) (take-at _ _ (length w) y ∙ x .ensures) (c .before .before .pack-into .ensures)
+returns c =
+    let e = c .before .before .before .before .before .before .before .before .before .before .before in let a = e .args in let w = a .reading .now in
+    let x = c .before .before .before .before .before .before .before .put-home in
+    let y = ap (λ (v : List ℕ). length v) (x .ensures) ∙ length-home w (e .pre .0 .0 .0 .0 .0 .0 .0 .0) in
+    pack-told w (a .k) _ _ _ (c .before .before .before .before .width-of .ensures) (take-at _ _ (length w) y ∙ x .ensures)
+    (c .before .before .pack-into .ensures)
 
 pub put-packed-spec : {M : Type 1} → statement M
 put-packed-spec =
     tie.close
-    (tie.spec
-    array-borrow-prefix-ring
-    slice-aggregate-put-home
-    put-home-requires
-    array-share-prefix-ring
-    slice-aggregate-pack-into
-    width-of-requires
-    pack-into-requires
-    same-length
-    returns)
+    (tie.spec array-borrow-prefix-ring slice-aggregate-put-home put-home-requires array-share-prefix-ring
+    slice-aggregate-pack-into (λ c κs. search needs) pack-into-requires (λ c. search needs) returns)

@@ -10,32 +10,20 @@ use Rattle.set_checks_inner.proofs.check_set.Tie as tie
 returns : tie.Need-returns
 returns c = inl (inl (refl, λ h. omega (arith, c .if1 .taken)))
 
-plan-numbers-requires : tie.Need-plan-numbers-requires
-plan-numbers-requires c κs = search needs
-
-enum-known-r : tie.Need-enum-known-r
-enum-known-r c = search needs
-
 enum-told : tie.Need-enum-told
 enum-told c = search needs
-
-check-distance-requires : tie.Need-check-distance-requires
-check-distance-requires c κs = search needs
 
 returns-2 : tie.Need-returns-2
 returns-2 c = inl (inr (omega (arith, c .before .before .before .before .if1 .left), rw (c .before .r .given .1) at (c .before .before .before .plan-numbers .ensures)))
 
 returns-3 : tie.Need-returns-3
-returns-3 c = let a = c .before .before .before .before .before .args in let g = c .before .enum-told .given in distance-says (a .n) (a .k) (a .d) (a .wanted) (g .0 .0) (g .0 .1 .0) (c .check-distance .result) (omega (arith, c .before .before .before .before .if1 .left)) (rw (g .1) at (c .before .before .before .plan-numbers .ensures)) (c .check-distance .ensures)
+returns-3 c =
+    let a = c .before .before .before .before .before .args in let g = c .before .enum-told .given in
+    distance-says (a .n) (a .k) (a .d) (a .wanted) (g .0 .0) (g .0 .1 .0) (c .check-distance .result)
+    (omega (arith, c .before .before .before .before .if1 .left)) (rw (g .1) at (c .before .before .before .plan-numbers .ensures))
+    (c .check-distance .ensures)
 
 pub check-set-spec : {M : Type 1} → statement M
 check-set-spec =
     tie.close
-    (tie.spec
-    returns
-    plan-numbers-requires
-    enum-known-r
-    enum-told
-    check-distance-requires
-    returns-2
-    returns-3)
+    (tie.spec returns (λ c κs. search needs) (λ c. search needs) enum-told (λ c κs. search needs) returns-2 returns-3)

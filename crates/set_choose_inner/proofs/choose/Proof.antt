@@ -25,17 +25,8 @@ array-share-prefix-zeros c = omega (arith, c .pre .short)
 slice-aggregate-start : tie.Need-slice-aggregate-start Inv-loop μ-loop
 slice-aggregate-start c = simp length-take (omega (arith, c .before .pre .short))
 
-start-requires : tie.Need-start-requires Inv-loop μ-loop
-start-requires c κs = search needs
-
-zero-taken-requires : tie.Need-zero-taken-requires Inv-loop μ-loop
-zero-taken-requires c κs = search needs
-
 cast-tallies : tie.Need-cast-tallies Inv-loop μ-loop
 cast-tallies c = omega (arith, taken-few (c .before .before .before .before .args .rule) (c .before .before .before .before .args .n) (c .zero-taken .result) (c .zero-taken .ensures))
-
-array-write-tallies : tie.Need-array-write-tallies Inv-loop μ-loop
-array-write-tallies c = search needs
 
 loop-holds : tie.Need-loop-holds Inv-loop μ-loop
 loop-holds c =
@@ -45,9 +36,6 @@ loop-holds c =
     along-start (a .n) (a .k) (a .d) (a .wanted) _ (c .zero-taken .result) q
     (started (a .n) (a .k) (omega (arith, q .numbers .sized)) (q .numbers .shaded) _ (st .result .walk) (st .result .answer)
     (zeros-part (a .n) 64 (omega (arith, q .short))) (st .ensures)) (a .rule) (c .zero-taken .ensures)
-
-next-word-requires : tie.Need-next-word-requires Inv-loop μ-loop
-next-word-requires c κs = search needs
 
 enum-told : tie.Need-enum-told Inv-loop μ-loop
 enum-told c = search needs
@@ -98,9 +86,6 @@ slice-aggregate-offer-3 c =
     (rw (o .1) at (r .ensures)) in
     sym (length-take-le (a .n) (r .result .walk .ring) (came-size (a .rule) (a .n) (a .k) (a .d) (a .wanted) q (l .w) (l .places) (l .tallies) (l .taken) (l .inv)
     (r .result .walk) cm))
-
-slice-aggregate-offer-4 : tie.Need-slice-aggregate-offer-4 Inv-loop μ-loop
-slice-aggregate-offer-4 c = search needs
 
 offer-requires : tie.Need-offer-requires Inv-loop μ-loop
 offer-requires c κs =
@@ -162,6 +147,7 @@ returns-2 c =
 
 pub choose-spec : {M : Type 1} → statement M
 choose-spec =
-    tie.close (tie.spec Inv-loop μ-loop array-share-prefix-zeros slice-aggregate-start start-requires zero-taken-requires cast-tallies array-write-tallies
-    loop-holds next-word-requires enum-told returns slice-aggregate-offer slice-aggregate-offer-2 array-share-prefix-ring slice-aggregate-offer-3
-    slice-aggregate-offer-4 offer-requires loop-less loop-again returns-2)
+    tie.close (tie.spec Inv-loop μ-loop array-share-prefix-zeros slice-aggregate-start (λ c κs. search needs)
+    (λ c κs. search needs) cast-tallies (λ c. search needs) loop-holds (λ c κs. search needs) enum-told returns
+    slice-aggregate-offer slice-aggregate-offer-2 array-share-prefix-ring slice-aggregate-offer-3 (λ c. search needs)
+    offer-requires loop-less loop-again returns-2)

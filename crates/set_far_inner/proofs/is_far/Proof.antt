@@ -18,17 +18,8 @@ returns c =
     far-counts (a .d) (a .a .now) (a .b .now) (a .ca .now) (a .cb .now) (passed-pair (a .a .now) (a .b .now) (a .k) (q .0)) (q .1 .0) (q .1 .1)
     (c .before .surplus-of .result) (c .before .surplus-of .ensures) (c .if1 .taken)
 
-nearer-requires : tie.Need-nearer-requires
-nearer-requires c κs = search needs
-
 enum-told : tie.Need-enum-told
 enum-told c = search needs
-
-enum-told-2 : tie.Need-enum-told-2
-enum-told-2 c = search needs
-
-enum-told-3 : tie.Need-enum-told-3
-enum-told-3 c = search needs
 
 returns-2 : tie.Need-returns-2
 returns-2 c =
@@ -50,4 +41,5 @@ returns-4 c =
     (rw (c .enum-told3 .given .1) at (c .before .before .nearer .ensures)))
 
 pub is-far-spec : {M : Type 1} → statement M
-is-far-spec = tie.close (tie.spec surplus-of-requires returns nearer-requires enum-told enum-told-2 enum-told-3 returns-2 returns-3 returns-4)
+is-far-spec = tie.close (tie.spec surplus-of-requires returns (λ c κs. search needs) enum-told (λ c. search needs)
+    (λ c. search needs) returns-2 returns-3 returns-4)

@@ -19,26 +19,11 @@ loop-holds : tie.Need-loop-holds Inv-loop μ-loop
 unfolding surplus
 loop-holds c = (omega arith, omega arith, refl)
 
-shared-slice-read-above : tie.Need-shared-slice-read-above Inv-loop μ-loop
-shared-slice-read-above c = search needs
-
-shared-slice-read-above-2 : tie.Need-shared-slice-read-above-2 Inv-loop μ-loop
-shared-slice-read-above-2 c = search needs
-
-above-requires : tie.Need-above-requires Inv-loop μ-loop
-above-requires c κs = search needs
-
 add-more : tie.Need-add-more Inv-loop μ-loop
 add-more c =
     let l = c .before .before .before .before .loop in
     let x = c .above .ensures in
     omega (arith, l .inv .1, c .before .before .shared-slice-known3 .given (l .s))
-
-add-s : tie.Need-add-s Inv-loop μ-loop
-add-s c = search needs
-
-loop-less : tie.Need-loop-less Inv-loop μ-loop
-loop-less c = search needs
 
 loop-again : tie.Need-loop-again Inv-loop μ-loop
 loop-again c =
@@ -53,4 +38,5 @@ returns c = let a = c .before .before .before .before .args in let l = c .before
 
 pub surplus-of-spec : {M : Type 1} → statement M
 surplus-of-spec =
-    tie.close (tie.spec Inv-loop μ-loop loop-holds shared-slice-read-above shared-slice-read-above-2 above-requires add-more add-s loop-less loop-again returns)
+    tie.close (tie.spec Inv-loop μ-loop loop-holds (λ c. search needs) (λ c. search needs) (λ c κs. search needs)
+    add-more (λ c. search needs) (λ c. search needs) loop-again returns)

@@ -19,44 +19,99 @@ loop-holds c = (omega arith, c .before .before .pre .3, laid-start (c .before .b
 
 mul-from : tie.Need-mul-from Inv-loop μ-loop
 mul-from c =
-    omega (arith, c .before .before .before .before .pre, c .before .loop .inv .1, c .loop-test .taken, ring-room (c .before .before .before .before .args .n) (c .before .loop .j) (c .before .before .before .before .args .taken) (c .loop-test .taken))
+    omega (
+      arith,
+      c .before .before .before .before .pre,
+      c .before .loop .inv .1,
+      c .loop-test .taken,
+      ring-room
+          (c .before .before .before .before .args .n) (c .before .loop .j) (c .before .before .before .before .args .taken) (c .loop-test .taken),
+    )
 
 add-past : tie.Need-add-past Inv-loop μ-loop
 add-past c =
-    omega (arith, c .before .before .before .before .pre, c .before .loop .inv .1, c .loop-test .taken, ring-room (c .before .before .before .before .args .n) (c .before .loop .j) (c .before .before .before .before .args .taken) (c .loop-test .taken))
+    omega (
+      arith,
+      c .before .before .before .before .pre,
+      c .before .loop .inv .1,
+      c .loop-test .taken,
+      ring-room
+          (c .before .before .before .before .args .n) (c .before .loop .j) (c .before .before .before .before .args .taken) (c .loop-test .taken),
+    )
 
 mul-at : tie.Need-mul-at Inv-loop μ-loop
 mul-at c =
-    omega (arith, c .before .before .before .before .pre, c .before .loop .inv .1, c .loop-test .taken, ring-room (c .before .before .before .before .args .n) (c .before .loop .j) (c .before .before .before .before .args .taken) (c .loop-test .taken))
+    omega (
+      arith,
+      c .before .before .before .before .pre,
+      c .before .loop .inv .1,
+      c .loop-test .taken,
+      ring-room
+          (c .before .before .before .before .args .n) (c .before .loop .j) (c .before .before .before .before .args .taken) (c .loop-test .taken),
+    )
 
 add-end : tie.Need-add-end Inv-loop μ-loop
 add-end c =
-    omega (arith, c .before .before .before .before .pre, c .before .loop .inv .1, c .loop-test .taken, ring-room (c .before .before .before .before .args .n) (c .before .loop .j) (c .before .before .before .before .args .taken) (c .loop-test .taken))
+    omega (
+      arith,
+      c .before .before .before .before .pre,
+      c .before .loop .inv .1,
+      c .loop-test .taken,
+      ring-room
+          (c .before .before .before .before .args .n) (c .before .loop .j) (c .before .before .before .before .args .taken) (c .loop-test .taken),
+    )
 
 sub-copy : tie.Need-sub-copy Inv-loop μ-loop
 sub-copy c = omega arith
 
 part-copy-start : tie.Need-part-copy-start Inv-loop μ-loop
 part-copy-start c =
-    omega (arith, c .before .before .before .before .pre, c .before .loop .inv .1, c .loop-test .taken, ring-room (c .before .before .before .before .args .n) (c .before .loop .j) (c .before .before .before .before .args .taken) (c .loop-test .taken))
+    omega (
+      arith,
+      c .before .before .before .before .pre,
+      c .before .loop .inv .1,
+      c .loop-test .taken,
+      ring-room
+          (c .before .before .before .before .args .n) (c .before .loop .j) (c .before .before .before .before .args .taken) (c .loop-test .taken),
+    )
 
 part-copy-end : tie.Need-part-copy-end Inv-loop μ-loop
 part-copy-end c =
-    omega (arith, c .before .before .before .before .pre, c .before .loop .inv .1, c .loop-test .taken, ring-room (c .before .before .before .before .args .n) (c .before .loop .j) (c .before .before .before .before .args .taken) (c .loop-test .taken))
+    omega (
+      arith,
+      c .before .before .before .before .pre,
+      c .before .loop .inv .1,
+      c .loop-test .taken,
+      ring-room
+          (c .before .before .before .before .args .n) (c .before .loop .j) (c .before .before .before .before .args .taken) (c .loop-test .taken),
+    )
 
 sub-copy-2 : tie.Need-sub-copy-2 Inv-loop μ-loop
 sub-copy-2 c = omega arith
 
 part-copy-start-2 : tie.Need-part-copy-start-2 Inv-loop μ-loop
 part-copy-start-2 c =
-    omega (arith, c .before .before .before .before .before .pre, c .before .before .loop .inv .1, c .before .loop-test .taken, ring-room (c .before .before .before .before .before .args .n) (c .before .before .loop .j) (c .before .before .before .before .before .args .taken) (c .before .loop-test .taken))
+    omega (
+      arith,
+      c .before .before .before .before .before .pre,
+      c .before .before .loop .inv .1,
+      c .before .loop-test .taken,
+      ring-room
+          (c .before .before .before .before .before .args .n) (c .before .before .loop .j) (c .before .before .before .before .before .args .taken)
+          (c .before .loop-test .taken),
+    )
 
 part-copy-end-2 : tie.Need-part-copy-end-2 Inv-loop μ-loop
 part-copy-end-2 c =
-    omega (arith, c .before .before .before .before .before .pre, c .before .before .loop .inv .1, c .before .loop-test .taken, ring-room (c .before .before .before .before .before .args .n) (c .before .before .loop .j) (c .before .before .before .before .before .args .taken) (c .before .loop-test .taken))
-
-copy-requires : tie.Need-copy-requires Inv-loop μ-loop
-copy-requires c κs = search needs
+    omega (
+      arith,
+      c .before .before .before .before .before .pre,
+      c .before .before .loop .inv .1,
+      c .before .loop-test .taken,
+      ring-room
+          (c .before .before .before .before .before .args .n) (c .before .before .loop .j) (c .before .before .before .before .before .args .taken)
+          (c .before .loop-test .taken),
+    )
 
 add-j : tie.Need-add-j Inv-loop μ-loop
 add-j c = omega (arith, c .before .before .before .before .before .loop-test .taken, c .before .before .before .before .before .before .before .before .before .pre)
@@ -65,16 +120,73 @@ loop-less : tie.Need-loop-less Inv-loop μ-loop
 loop-less c = omega (arith, c .before .before .before .before .before .loop-test .taken)
 
 loop-again : tie.Need-loop-again Inv-loop μ-loop
-loop-again c =
-    (omega (arith, c .before .before .before .before .before .loop-test .taken), laid-long (c .before .before .before .before .before .before .before .before .before .args .n) (c .before .before .before .before .before .before .before .before .before .args .places .now) (c .before .before .before .before .before .before .loop .out) (c .before .before .before .before .before .before .loop .j) (24 * c .before .before .before .before .before .before .loop .j) (24 * c .before .before .before .before .before .before .loop .j + c .before .before .before .before .before .before .before .before .before .args .n) (c .before .before .before .before .before .before .before .before .before .args .n * c .before .before .before .before .before .before .loop .j) (c .before .before .before .before .before .before .before .before .before .args .n * c .before .before .before .before .before .before .loop .j + c .before .before .before .before .before .before .before .before .before .args .n) refl refl refl refl (omega (arith, c .before .before .before .before .before .before .before .before .before .pre, c .before .before .before .before .before .loop-test .taken)) (omega (arith, c .before .before .before .before .before .before .loop .inv .1, ring-room (c .before .before .before .before .before .before .before .before .before .args .n) (c .before .before .before .before .before .before .loop .j) (c .before .before .before .before .before .before .before .before .before .args .taken) (c .before .before .before .before .before .loop-test .taken))) _ (c .before .before .copy .ensures .1) ∙ c .before .before .before .before .before .before .loop .inv .1, laid-on (c .before .before .before .before .before .before .before .before .before .args .n) (c .before .before .before .before .before .before .before .before .before .args .places .now) (c .before .before .before .before .before .before .loop .out) (c .before .before .before .before .before .before .loop .j) (24 * c .before .before .before .before .before .before .loop .j) (24 * c .before .before .before .before .before .before .loop .j + c .before .before .before .before .before .before .before .before .before .args .n) (c .before .before .before .before .before .before .before .before .before .args .n * c .before .before .before .before .before .before .loop .j) (c .before .before .before .before .before .before .before .before .before .args .n * c .before .before .before .before .before .before .loop .j + c .before .before .before .before .before .before .before .before .before .args .n) refl refl refl refl (omega (arith, c .before .before .before .before .before .before .before .before .before .pre, c .before .before .before .before .before .loop-test .taken)) (omega (arith, c .before .before .before .before .before .before .loop .inv .1, ring-room (c .before .before .before .before .before .before .before .before .before .args .n) (c .before .before .before .before .before .before .loop .j) (c .before .before .before .before .before .before .before .before .before .args .taken) (c .before .before .before .before .before .loop-test .taken))) (c .before .before .before .before .before .before .loop .inv .2) _ (c .before .before .copy .ensures .1))
+loop-again c = (
+  omega (arith, c .before .before .before .before .before .loop-test .taken),
+  laid-long
+      (c .before .before .before .before .before .before .before .before .before .args .n)
+      (c .before .before .before .before .before .before .before .before .before .args .places .now)
+      (c .before .before .before .before .before .before .loop .out) (c .before .before .before .before .before .before .loop .j)
+      (24 * c .before .before .before .before .before .before .loop .j)
+      (24 * c .before .before .before .before .before .before .loop .j +
+      c .before .before .before .before .before .before .before .before .before .args .n)
+      (c .before .before .before .before .before .before .before .before .before .args .n *
+      c .before .before .before .before .before .before .loop .j)
+      (c .before .before .before .before .before .before .before .before .before .args .n *
+      c .before .before .before .before .before .before .loop .j +
+      c .before .before .before .before .before .before .before .before .before .args .n) refl refl refl refl
+      (omega (
+        arith,
+        c .before .before .before .before .before .before .before .before .before .pre,
+        c .before .before .before .before .before .loop-test .taken,
+      )) (omega (
+        arith,
+        c .before .before .before .before .before .before .loop .inv .1,
+        ring-room
+            (c .before .before .before .before .before .before .before .before .before .args .n)
+            (c .before .before .before .before .before .before .loop .j)
+            (c .before .before .before .before .before .before .before .before .before .args .taken)
+            (c .before .before .before .before .before .loop-test .taken),
+      )) _ (c .before .before .copy .ensures .1) ∙
+      c .before .before .before .before .before .before .loop .inv .1,
+  laid-on
+      (c .before .before .before .before .before .before .before .before .before .args .n)
+      (c .before .before .before .before .before .before .before .before .before .args .places .now)
+      (c .before .before .before .before .before .before .loop .out) (c .before .before .before .before .before .before .loop .j)
+      (24 * c .before .before .before .before .before .before .loop .j)
+      (24 * c .before .before .before .before .before .before .loop .j +
+      c .before .before .before .before .before .before .before .before .before .args .n)
+      (c .before .before .before .before .before .before .before .before .before .args .n *
+      c .before .before .before .before .before .before .loop .j)
+      (c .before .before .before .before .before .before .before .before .before .args .n *
+      c .before .before .before .before .before .before .loop .j +
+      c .before .before .before .before .before .before .before .before .before .args .n) refl refl refl refl
+      (omega (
+        arith,
+        c .before .before .before .before .before .before .before .before .before .pre,
+        c .before .before .before .before .before .loop-test .taken,
+      )) (omega (
+        arith,
+        c .before .before .before .before .before .before .loop .inv .1,
+        ring-room
+            (c .before .before .before .before .before .before .before .before .before .args .n)
+            (c .before .before .before .before .before .before .loop .j)
+            (c .before .before .before .before .before .before .before .before .before .args .taken)
+            (c .before .before .before .before .before .loop-test .taken),
+      )) (c .before .before .before .before .before .before .loop .inv .2) _
+      (c .before .before .copy .ensures .1),
+)
 
 same-length : tie.Need-same-length Inv-loop μ-loop
 same-length c = c .before .loop .inv .1 ∙ sym (c .before .before .before .before .pre .3)
 
 returns : tie.Need-returns Inv-loop μ-loop
 returns c =
-    laid-all (c .before .before .before .before .args .n) (c .before .before .before .before .args .places .now) (c .before .loop .out) (c .before .before .before .before .args .taken) (c .before .loop .j) (c .before .loop .inv .2) (c .before .loop .inv .1) (omega (arith, c .before .loop .inv .0, c .loop-test .left))
+    laid-all (c .before .before .before .before .args .n) (c .before .before .before .before .args .places .now) (c .before .loop .out)
+    (c .before .before .before .before .args .taken) (c .before .loop .j) (c .before .loop .inv .2) (c .before .loop .inv .1)
+    (omega (arith, c .before .loop .inv .0, c .loop-test .left))
 
 pub write-rings-spec : {M : Type 1} → statement M
 write-rings-spec =
-    tie.close (tie.spec Inv-loop μ-loop loop-holds mul-from add-past mul-at add-end sub-copy part-copy-start part-copy-end sub-copy-2 part-copy-start-2 part-copy-end-2 copy-requires add-j loop-less loop-again same-length returns)
+    tie.close (tie.spec Inv-loop μ-loop loop-holds mul-from add-past mul-at add-end sub-copy part-copy-start
+    part-copy-end sub-copy-2 part-copy-start-2 part-copy-end-2 (λ c κs. search needs) add-j loop-less loop-again
+    same-length returns)

@@ -9,20 +9,13 @@ use Rattle.set_line.proofs.parse_set.Tie as tie
 returns : tie.Need-returns
 returns c = λ n k d want p. omega (arith, set-line-some (c .before .before .args .s .now) n k d want p, c .if1 .taken)
 
-shared-slice-read-if2 : tie.Need-shared-slice-read-if2
-shared-slice-read-if2 c = search needs
-
 slice-aggregate-parse-four : tie.Need-slice-aggregate-parse-four
 slice-aggregate-parse-four c = simp length-take (omega arith)
 
-parse-four-requires : tie.Need-parse-four-requires
-parse-four-requires c κs = search needs
-
 returns-2 : tie.Need-returns-2
-returns-2 c = ended-four (c .before .before .before .before .before .before .args .s .now) (c .parse-four .result) (c .before .before .before .before .if1 .left) (c .before .before .if2 .taken) (c .parse-four .ensures)
-
-parse-four-requires-2 : tie.Need-parse-four-requires-2
-parse-four-requires-2 c κs = search needs
+returns-2 c =
+    ended-four (c .before .before .before .before .before .before .args .s .now) (c .parse-four .result)
+    (c .before .before .before .before .if1 .left) (c .before .before .if2 .taken) (c .parse-four .ensures)
 
 returns-3 : tie.Need-returns-3
 returns-3 c = bare-four (c .before .before .before .before .before .args .s .now) (c .parse-four2 .result) (c .before .if2 .left) (c .parse-four2 .ensures)
@@ -30,11 +23,5 @@ returns-3 c = bare-four (c .before .before .before .before .before .args .s .now
 pub parse-set-spec : {M : Type 1} → statement M
 parse-set-spec =
     tie.close
-    (tie.spec
-    returns
-    shared-slice-read-if2
-    slice-aggregate-parse-four
-    parse-four-requires
-    returns-2
-    parse-four-requires-2
-    returns-3)
+    (tie.spec returns (λ c. search needs) slice-aggregate-parse-four (λ c κs. search needs) returns-2
+    (λ c κs. search needs) returns-3)

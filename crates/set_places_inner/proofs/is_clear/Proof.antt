@@ -19,21 +19,6 @@ abbrev μ-loop : tie.MeasureT-loop
 loop-holds : tie.Need-loop-holds Inv-loop μ-loop
 loop-holds c = let a = c .before .before .before .before .args in (omega arith, clear-start (a .d) (a .places .now) (a .taken) (a .ring .now))
 
-sub-j : tie.Need-sub-j Inv-loop μ-loop
-sub-j c = search needs
-
-mul-at : tie.Need-mul-at Inv-loop μ-loop
-mul-at c = search needs
-
-add-end : tie.Need-add-end Inv-loop μ-loop
-add-end c = search needs
-
-mul-first : tie.Need-mul-first Inv-loop μ-loop
-mul-first c = search needs
-
-add-past : tie.Need-add-past Inv-loop μ-loop
-add-past c = search needs
-
 sub-is-far : tie.Need-sub-is-far Inv-loop μ-loop
 sub-is-far c = omega arith
 
@@ -98,9 +83,6 @@ returns c =
     (c .before .is-far .result) (c .before .is-far .ensures) in
     clear-ends (a .d) (a .places .now) (a .taken) (a .ring .now) (l .left - 1) (c .before .is-far .result) e b (not-true _ (c .if1 .taken))
 
-loop-less : tie.Need-loop-less Inv-loop μ-loop
-loop-less c = search needs
-
 loop-again : tie.Need-loop-again Inv-loop μ-loop
 loop-again c =
     let a = c .before .before .before .before .before .before .before .before .before .before .args in
@@ -123,5 +105,6 @@ returns-2 c =
 
 pub is-clear-spec : {M : Type 1} → statement M
 is-clear-spec =
-    tie.close (tie.spec Inv-loop μ-loop loop-holds sub-j mul-at add-end mul-first add-past sub-is-far part-is-far-start part-is-far-end sub-is-far-2
-    part-is-far-start-2 part-is-far-end-2 is-far-requires returns loop-less loop-again returns-2)
+    tie.close (tie.spec Inv-loop μ-loop loop-holds (λ c. search needs) (λ c. search needs) (λ c. search needs)
+    (λ c. search needs) (λ c. search needs) sub-is-far part-is-far-start part-is-far-end sub-is-far-2
+    part-is-far-start-2 part-is-far-end-2 is-far-requires returns (λ c. search needs) loop-again returns-2)

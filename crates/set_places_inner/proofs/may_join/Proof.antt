@@ -11,21 +11,15 @@ use borrow.Author.Needs.{needs}
 use Rattle.set_places_inner.proofs.may_join.Statement.{statement}
 use Rattle.set_places_inner.proofs.may_join.Tie as tie
 
-is-clear-requires : tie.Need-is-clear-requires
-is-clear-requires c κs = search needs
-
 returns : tie.Need-returns
 returns c =
-    not-clear-in (length (c .before .before .before .before .before .before .args .ring .now)) (c .before .before .before .before .before .before .args .d) (c .before .before .before .before .before .before .args .places .now) (c .before .before .before .before .before .before .args .taken) (c .before .before .before .before .before .before .args .ring .now) (c .before .before .before .before .before .before .args .rule) (sym (c .before .is-clear .ensures) ∙ not-true _ (c .if1 .taken))
+    not-clear-in (length (c .before .before .before .before .before .before .args .ring .now))
+    (c .before .before .before .before .before .before .args .d) (c .before .before .before .before .before .before .args .places .now)
+    (c .before .before .before .before .before .before .args .taken) (c .before .before .before .before .before .before .args .ring .now)
+    (c .before .before .before .before .before .before .args .rule) (sym (c .before .is-clear .ensures) ∙ not-true _ (c .if1 .taken))
 
 enum-told : tie.Need-enum-told
 enum-told c = search needs
-
-enum-told-2 : tie.Need-enum-told-2
-enum-told-2 c = search needs
-
-array-borrow-prefix-back : tie.Need-array-borrow-prefix-back
-array-borrow-prefix-back c = search needs
 
 slice-aggregate-write-reversed : tie.Need-slice-aggregate-write-reversed
 slice-aggregate-write-reversed c = simp length-take (omega (arith, c .before .before .before .before .before .before .before .before .before .pre .0 .short))
@@ -55,8 +49,11 @@ returns-2 c = rw (c .enum-told .given .1) (sym (sym (c .before .before .before .
 
 returns-3 : tie.Need-returns-3
 returns-3 c =
-    rw (c .before .before .before .before .before .enum-told2 .given .1) (may-guarded (length (c .before .before .before .before .before .before .before .before .before .before .before .before .before .args .ring .now)) (c .before .before .before .before .before .before .before .before .before .before .before .before .before .args .d) (c .before .before .before .before .before .before .before .before .before .before .before .before .before .args .places .now) (c .before .before .before .before .before .before .before .before .before .before .before .before .before .args .taken) (c .before .before .before .before .before .before .before .before .before .before .before .before .before .args .ring .now) (c .is-guarded .result) (sym (c .before .before .before .before .before .before .before .before .is-clear .ensures) ∙ not-false _ (c .before .before .before .before .before .before .before .if1 .left)) (c .is-guarded .ensures))
+    rw (c .before .before .before .before .before .enum-told2 .given .1)
+    (may-guarded (length (c .before .before .before .before .before .before .before .before .before .before .before .before .before .args .ring .now)) (c .before .before .before .before .before .before .before .before .before .before .before .before .before .args .d) (c .before .before .before .before .before .before .before .before .before .before .before .before .before .args .places .now) (c .before .before .before .before .before .before .before .before .before .before .before .before .before .args .taken) (c .before .before .before .before .before .before .before .before .before .before .before .before .before .args .ring .now) (c .is-guarded .result) (sym (c .before .before .before .before .before .before .before .before .is-clear .ensures) ∙ not-false _ (c .before .before .before .before .before .before .before .if1 .left)) (c .is-guarded .ensures))
 
 pub may-join-spec : {M : Type 1} → statement M
 may-join-spec =
-    tie.close (tie.spec is-clear-requires returns enum-told enum-told-2 array-borrow-prefix-back slice-aggregate-write-reversed write-reversed-requires array-share-prefix-back slice-aggregate-is-guarded is-guarded-requires returns-2 returns-3)
+    tie.close (tie.spec (λ c κs. search needs) returns enum-told (λ c. search needs) (λ c. search needs)
+    slice-aggregate-write-reversed write-reversed-requires array-share-prefix-back slice-aggregate-is-guarded
+    is-guarded-requires returns-2 returns-3)

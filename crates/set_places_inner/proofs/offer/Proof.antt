@@ -16,27 +16,12 @@ may-join-requires c κs =
     let q = c .before .before .before .before .before .before .pre in
     (q .0, (q .1 .0, (q .1 .1 .0, (q .1 .1 .1 .0, omega (arith, q .1 .1 .1 .1)))))
 
-same-length : tie.Need-same-length
-same-length c = search needs
-
-same-length-2 : tie.Need-same-length-2
-same-length-2 c = search needs
-
 returns : tie.Need-returns
 returns c =
     let a = c .before .before .before .before .before .before .before .before .args in
     let q = c .before .before .before .before .before .before .before .before .pre in
     offer-no (a .rule) (a .k) (a .d) (a .places .now) (a .tallies .now) (a .ring .now) (a .taken) (q .0 .short) (q .1 .1 .1 .1)
     (sym (c .before .may-join .ensures) ∙ not-true _ (c .if1 .taken))
-
-mul-at : tie.Need-mul-at
-mul-at c = search needs
-
-add-end : tie.Need-add-end
-add-end c = search needs
-
-sub-copy : tie.Need-sub-copy
-sub-copy c = search needs
 
 part-copy-start : tie.Need-part-copy-start
 part-copy-start c =
@@ -51,18 +36,6 @@ part-copy-end c =
     let q = c .before .before .before .before .before .before .before .before .pre in
     let z = stock-length (length (a .ring .now)) (a .k) (a .places .now) (a .tallies .now) (a .taken) (q .1 .1 .1 .0) in
     omega (arith, z, q .0 .short, q .1 .1 .1 .1)
-
-copy-requires : tie.Need-copy-requires
-copy-requires c κs = search needs
-
-mul-first : tie.Need-mul-first
-mul-first c = search needs
-
-add-past : tie.Need-add-past
-add-past c = search needs
-
-sub-copy-2 : tie.Need-sub-copy-2
-sub-copy-2 c = search needs
 
 part-copy-start-2 : tie.Need-part-copy-start-2
 part-copy-start-2 c =
@@ -82,15 +55,6 @@ copy-requires-2 c κs =
     let q = c .before .before .before .before .before .before .before .before .before .before .before .before .before .pre in
     omega (arith, counts-sixteen (a .ring .now) (a .counts .now) (q .1 .1 .0), c .copy-arg2 .given)
 
-add-result : tie.Need-add-result
-add-result c = search needs
-
-same-length-3 : tie.Need-same-length-3
-same-length-3 c = search needs
-
-same-length-4 : tie.Need-same-length-4
-same-length-4 c = search needs
-
 returns-2 : tie.Need-returns-2
 returns-2 c =
     let a = c .before .before .before .before .before .before .before .before .before .before .before .before .before .before .before .before .args in
@@ -107,5 +71,7 @@ returns-2 c =
 
 pub offer-spec : {M : Type 1} → statement M
 offer-spec =
-    tie.close (tie.spec may-join-requires same-length same-length-2 returns mul-at add-end sub-copy part-copy-start part-copy-end copy-requires mul-first
-    add-past sub-copy-2 part-copy-start-2 part-copy-end-2 copy-requires-2 add-result same-length-3 same-length-4 returns-2)
+    tie.close (tie.spec may-join-requires (λ c. search needs) (λ c. search needs) returns (λ c. search needs)
+    (λ c. search needs) (λ c. search needs) part-copy-start part-copy-end (λ c κs. search needs) (λ c. search needs)
+    (λ c. search needs) (λ c. search needs) part-copy-start-2 part-copy-end-2 copy-requires-2 (λ c. search needs)
+    (λ c. search needs) (λ c. search needs) returns-2)

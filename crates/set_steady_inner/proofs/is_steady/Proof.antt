@@ -9,17 +9,8 @@ use borrow.Author.Needs.{needs}
 use Rattle.set_steady_inner.proofs.is_steady.Statement.{statement}
 use Rattle.set_steady_inner.proofs.is_steady.Tie as tie
 
-steady-requires : tie.Need-steady-requires
-steady-requires c κs = search needs
-
 enum-told : tie.Need-enum-told
 enum-told c = search needs
-
-enum-told-2 : tie.Need-enum-told-2
-enum-told-2 c = search needs
-
-enum-told-3 : tie.Need-enum-told-3
-enum-told-3 c = search needs
 
 returns : tie.Need-returns
 returns c =
@@ -39,4 +30,5 @@ returns-3 c =
     absurd (never-both (oneReading (a .s .now) (a .k)) _ (rw (c .enum-told3 .given .1) at (c .before .before .steady .ensures)) (c .before .before .before .before .pre))
 
 pub is-steady-spec : {M : Type 1} → statement M
-is-steady-spec = tie.close (tie.spec steady-requires enum-told enum-told-2 enum-told-3 returns returns-2 returns-3)
+is-steady-spec = tie.close (tie.spec (λ c κs. search needs) enum-told (λ c. search needs) (λ c. search needs) returns
+    returns-2 returns-3)

@@ -9,24 +9,18 @@ use Rattle.set_text_inner.proofs.place_ring.Tie as tie
 place-sectors-requires : tie.Need-place-sectors-requires
 place-sectors-requires c κs = let g = c .before .before .before in omega (arith, g .pre, length-ring-text (g .args .ring .now))
 
-slice-aggregate-place-text : tie.Need-slice-aggregate-place-text
-slice-aggregate-place-text c = search needs
-
 place-text-requires : tie.Need-place-text-requires
-place-text-requires c κs = let g = c .before .before .before .before .before .before .before .before in let a = g .args in ring-room (a .buf .now) (a .at) (a .ring .now) (g .pre) _ _ (c .before .before .before .before .place-sectors .ensures)
-
-same-length : tie.Need-same-length
-same-length c = search needs
+place-text-requires c κs =
+    let g = c .before .before .before .before .before .before .before .before in let a = g .args in
+    ring-room (a .buf .now) (a .at) (a .ring .now) (g .pre) _ _ (c .before .before .before .before .place-sectors .ensures)
 
 returns : tie.Need-returns
-returns c = let g = c .before .before .before .before .before .before .before .before .before .before .before in let a = g .args in placed-ring-text (a .buf .now) (a .at) (a .ring .now) (g .pre) _ _ (c .before .before .before .before .before .before .before .place-sectors .ensures) _ _ (c .before .before .place-text .ensures)
+returns c =
+    let g = c .before .before .before .before .before .before .before .before .before .before .before in let a = g .args in
+    placed-ring-text (a .buf .now) (a .at) (a .ring .now) (g .pre) _ _
+    (c .before .before .before .before .before .before .before .place-sectors .ensures) _ _ (c .before .before .place-text .ensures)
 
 pub place-ring-spec : {M : Type 1} → statement M
 place-ring-spec =
     tie.close
-    (tie.spec
-    place-sectors-requires
-    slice-aggregate-place-text
-    place-text-requires
-    same-length
-    returns)
+    (tie.spec place-sectors-requires (λ c. search needs) place-text-requires (λ c. search needs) returns)

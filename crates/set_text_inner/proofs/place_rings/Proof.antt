@@ -21,54 +21,48 @@ abbrev μ-loop : tie.MeasureT-loop
 loop-holds : tie.Need-loop-holds Inv-loop μ-loop
 loop-holds c = let a = c .before .before .args in let q = c .before .before .pre in (omega arith, lines-start (a .buf .now) (a .places .now) (a .n) (a .taken) (q .0) (q .1))
 
-mul-from : tie.Need-mul-from Inv-loop μ-loop
-mul-from c = search needs
-
-add-to : tie.Need-add-to Inv-loop μ-loop
-add-to c = search needs
-
 sub-place-ring : tie.Need-sub-place-ring Inv-loop μ-loop
 sub-place-ring c = omega arith
 
 part-place-ring-start : tie.Need-part-place-ring-start Inv-loop μ-loop
-part-place-ring-start c = let a = c .before .before .before .before .before .args in let q = c .before .before .before .before .before .pre in let l = c .before .before .loop in omega (arith, q .0 .size, q .0 .short, q .0 .most, c .before .loop-test .taken)
+part-place-ring-start c =
+    let a = c .before .before .before .before .before .args in let q = c .before .before .before .before .before .pre in
+    let l = c .before .before .loop in omega (arith, q .0 .size, q .0 .short, q .0 .most, c .before .loop-test .taken)
 
 part-place-ring-end : tie.Need-part-place-ring-end Inv-loop μ-loop
-part-place-ring-end c = let a = c .before .before .before .before .before .args in let q = c .before .before .before .before .before .pre in let l = c .before .before .loop in omega (arith, q .0 .size, q .0 .short, q .0 .most, c .before .loop-test .taken)
+part-place-ring-end c =
+    let a = c .before .before .before .before .before .args in let q = c .before .before .before .before .before .pre in
+    let l = c .before .before .loop in omega (arith, q .0 .size, q .0 .short, q .0 .most, c .before .loop-test .taken)
 
 place-ring-requires : tie.Need-place-ring-requires Inv-loop μ-loop
-place-ring-requires c κs = let a = c .before .before .before .before .before .before .args in let q = c .before .before .before .before .before .before .pre in let l = c .before .before .before .loop in lines-room (a .buf .now) (a .places .now) (a .n) (a .taken) (q .0) (q .1) (l .j) (l .at) (l .buf) (l .inv .1) (c .before .before .loop-test .taken) _ (simp length-take (omega arith))
-
-add-j : tie.Need-add-j Inv-loop μ-loop
-add-j c = search needs
-
-loop-less : tie.Need-loop-less Inv-loop μ-loop
-loop-less c = search needs
+place-ring-requires c κs =
+    let a = c .before .before .before .before .before .before .args in let q = c .before .before .before .before .before .before .pre in
+    let l = c .before .before .before .loop in
+    lines-room (a .buf .now) (a .places .now) (a .n) (a .taken) (q .0) (q .1) (l .j) (l .at) (l .buf) (l .inv .1)
+    (c .before .before .loop-test .taken) _ (simp length-take (omega arith))
 
 loop-again : tie.Need-loop-again Inv-loop μ-loop
-loop-again c = let a = c .before .before .before .before .before .before .before .before .before .args in let q = c .before .before .before .before .before .before .before .before .before .pre in let l = c .before .before .before .before .before .before .loop in (omega (arith, c .before .before .before .before .before .loop-test .taken), lines-on (a .buf .now) (a .places .now) (a .n) (a .taken) (q .0) (q .1) (l .j) (l .at) (l .buf) (l .inv .1) _ _ (c .before .before .place-ring .ensures))
+loop-again c =
+    let a = c .before .before .before .before .before .before .before .before .before .args in
+    let q = c .before .before .before .before .before .before .before .before .before .pre in
+    let l = c .before .before .before .before .before .before .loop in (
+      omega (arith, c .before .before .before .before .before .loop-test .taken),
+      lines-on (a .buf .now) (a .places .now) (a .n) (a .taken) (q .0)
+          (q .1) (l .j) (l .at) (l .buf) (l .inv .1) _ _ (c .before .before .place-ring .ensures),
+    )
 
 same-length : tie.Need-same-length Inv-loop μ-loop
-same-length c = let a = c .before .before .before .before .args in let q = c .before .before .before .before .pre in let l = c .before .loop in placed-length (a .buf .now) 0 _ (l .at) (l .buf) (l .inv .1)
+same-length c =
+    let a = c .before .before .before .before .args in let q = c .before .before .before .before .pre in let l = c .before .loop in
+    placed-length (a .buf .now) 0 _ (l .at) (l .buf) (l .inv .1)
 
 returns : tie.Need-returns Inv-loop μ-loop
-returns c = let a = c .before .before .before .before .args in let q = c .before .before .before .before .pre in let l = c .before .loop in let e : l .j ≡ a .taken = omega (arith, l .inv .0, c .loop-test .left) in rw e at (l .inv .1)
+returns c =
+    let a = c .before .before .before .before .args in let q = c .before .before .before .before .pre in let l = c .before .loop in
+    let e : l .j ≡ a .taken = omega (arith, l .inv .0, c .loop-test .left) in rw e at (l .inv .1)
 
 pub place-rings-spec : {M : Type 1} → statement M
 place-rings-spec =
     tie.close
-    (tie.spec
-    Inv-loop
-    μ-loop
-    loop-holds
-    mul-from
-    add-to
-    sub-place-ring
-    part-place-ring-start
-    part-place-ring-end
-    place-ring-requires
-    add-j
-    loop-less
-    loop-again
-    same-length
-    returns)
+    (tie.spec Inv-loop μ-loop loop-holds (λ c. search needs) (λ c. search needs) sub-place-ring part-place-ring-start
+    part-place-ring-end place-ring-requires (λ c. search needs) (λ c. search needs) loop-again same-length returns)

@@ -5,11 +5,11 @@ use Rattle.set_text_inner.proofs.Lines.{taken-room}
 use Rattle.set_text_inner.proofs.place_set.Statement.{statement}
 use Rattle.set_text_inner.proofs.place_set.Tie as tie
 
-place-rings-requires : tie.Need-place-rings-requires
-place-rings-requires c κs = search needs
-
 place-taken-requires : tie.Need-place-taken-requires
-place-taken-requires c κs = let a = c .before .before .before .before .before .before .before .args in let q = c .before .before .before .before .before .before .before .pre in taken-room (a .buf .now) (a .places .now) (a .n) (a .taken) (q .0) (q .1) _ _ (a .full) (c .before .before .before .place-rings .ensures)
+place-taken-requires c κs =
+    let a = c .before .before .before .before .before .before .before .args in
+    let q = c .before .before .before .before .before .before .before .pre in
+    taken-room (a .buf .now) (a .places .now) (a .n) (a .taken) (q .0) (q .1) _ _ (a .full) (c .before .before .before .place-rings .ensures)
 
 same-length : tie.Need-same-length
 same-length c = placed-length _ _ _ _ _ (placed-append _ _ _ _ _ _ _ _ (c .before .before .before .before .before .before .place-rings .ensures) (c .before .before .place-taken .ensures))
@@ -20,4 +20,4 @@ returns c = placed-append _ _ _ _ _ _ _ _ (c .before .before .before .before .be
 pub place-set-spec : {M : Type 1} → statement M
 place-set-spec =
     tie.close
-    (tie.spec place-rings-requires place-taken-requires same-length returns)
+    (tie.spec (λ c κs. search needs) place-taken-requires same-length returns)

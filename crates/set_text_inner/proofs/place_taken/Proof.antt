@@ -4,51 +4,51 @@ use borrow.Author.Needs.{needs}
 use Rattle.set_text_inner.proofs.place_taken.Statement.{statement}
 use Rattle.set_text_inner.proofs.place_taken.Tie as tie
 
-slice-aggregate-place-text : tie.Need-slice-aggregate-place-text
-slice-aggregate-place-text c = search needs
-
 place-text-requires : tie.Need-place-text-requires
 place-text-requires c κs = let a = c .before .before .before .args in let q = c .before .before .before .pre in word-room (a .buf .now) (a .at) (a .taken) (a .full) q
 
 place-decimal-requires : tie.Need-place-decimal-requires
-place-decimal-requires c κs = let a = c .before .before .before .before .before .before .before .args in let q = c .before .before .before .before .before .before .before .pre in number-room (a .buf .now) (a .at) (a .taken) (a .full) q _ _ (c .before .before .before .place-text .ensures)
-
-slice-aggregate-place-text-2 : tie.Need-slice-aggregate-place-text-2
-slice-aggregate-place-text-2 c = search needs
+place-decimal-requires c κs =
+    let a = c .before .before .before .before .before .before .before .args in
+    let q = c .before .before .before .before .before .before .before .pre in
+    number-room (a .buf .now) (a .at) (a .taken) (a .full) q _ _ (c .before .before .before .place-text .ensures)
 
 place-text-requires-2 : tie.Need-place-text-requires-2
-place-text-requires-2 c κs = let a = c .before .before .before .before .before .before .before .before .before .before .before .before .before .args in let q = c .before .before .before .before .before .before .before .before .before .before .before .before .before .pre in full-room (a .buf .now) (a .at) (a .taken) (a .full) q _ _ (c .before .before .before .before .before .before .before .before .before .place-text .ensures) _ _ (c .before .before .before .before .before .place-decimal .ensures) (c .before .before .if1 .taken)
-
-same-length : tie.Need-same-length
-same-length c = search needs
+place-text-requires-2 c κs =
+    let a = c .before .before .before .before .before .before .before .before .before .before .before .before .before .args in
+    let q = c .before .before .before .before .before .before .before .before .before .before .before .before .before .pre in
+    full-room (a .buf .now) (a .at) (a .taken) (a .full) q _ _
+    (c .before .before .before .before .before .before .before .before .before .place-text .ensures) _ _
+    (c .before .before .before .before .before .place-decimal .ensures) (c .before .before .if1 .taken)
 
 returns : tie.Need-returns
-returns c = let a = c .before .before .before .before .before .before .before .before .before .before .before .before .before .before .before .before .args in let q = c .before .before .before .before .before .before .before .before .before .before .before .before .before .before .before .before .pre in placed-full (a .buf .now) (a .at) (a .taken) (a .full) q _ _ (c .before .before .before .before .before .before .before .before .before .before .before .before .place-text .ensures) _ _ (c .before .before .before .before .before .before .before .before .place-decimal .ensures) (c .before .before .before .before .before .if1 .taken) _ _ (c .before .before .place-text2 .ensures)
-
-slice-aggregate-place-text-3 : tie.Need-slice-aggregate-place-text-3
-slice-aggregate-place-text-3 c = search needs
+returns c =
+    let a = c .before .before .before .before .before .before .before .before .before .before .before .before .before .before .before .before .args in
+    let q = c .before .before .before .before .before .before .before .before .before .before .before .before .before .before .before .before .pre in
+    placed-full (a .buf .now) (a .at) (a .taken) (a .full) q _ _
+    (c .before .before .before .before .before .before .before .before .before .before .before .before .place-text .ensures) _ _
+    (c .before .before .before .before .before .before .before .before .place-decimal .ensures)
+    (c .before .before .before .before .before .if1 .taken) _ _ (c .before .before .place-text2 .ensures)
 
 place-text-requires-3 : tie.Need-place-text-requires-3
-place-text-requires-3 c κs = let a = c .before .before .before .before .before .before .before .before .before .before .before .before .before .args in let q = c .before .before .before .before .before .before .before .before .before .before .before .before .before .pre in short-room (a .buf .now) (a .at) (a .taken) (a .full) q _ _ (c .before .before .before .before .before .before .before .before .before .place-text .ensures) _ _ (c .before .before .before .before .before .place-decimal .ensures) (c .before .before .if1 .left)
-
-same-length-2 : tie.Need-same-length-2
-same-length-2 c = search needs
+place-text-requires-3 c κs =
+    let a = c .before .before .before .before .before .before .before .before .before .before .before .before .before .args in
+    let q = c .before .before .before .before .before .before .before .before .before .before .before .before .before .pre in
+    short-room (a .buf .now) (a .at) (a .taken) (a .full) q _ _
+    (c .before .before .before .before .before .before .before .before .before .place-text .ensures) _ _
+    (c .before .before .before .before .before .place-decimal .ensures) (c .before .before .if1 .left)
 
 returns-2 : tie.Need-returns-2
-returns-2 c = let a = c .before .before .before .before .before .before .before .before .before .before .before .before .before .before .before .before .args in let q = c .before .before .before .before .before .before .before .before .before .before .before .before .before .before .before .before .pre in placed-short-of (a .buf .now) (a .at) (a .taken) (a .full) q _ _ (c .before .before .before .before .before .before .before .before .before .before .before .before .place-text .ensures) _ _ (c .before .before .before .before .before .before .before .before .place-decimal .ensures) (c .before .before .before .before .before .if1 .left) _ _ (c .before .before .place-text3 .ensures)
+returns-2 c =
+    let a = c .before .before .before .before .before .before .before .before .before .before .before .before .before .before .before .before .args in
+    let q = c .before .before .before .before .before .before .before .before .before .before .before .before .before .before .before .before .pre in
+    placed-short-of (a .buf .now) (a .at) (a .taken) (a .full) q _ _
+    (c .before .before .before .before .before .before .before .before .before .before .before .before .place-text .ensures) _ _
+    (c .before .before .before .before .before .before .before .before .place-decimal .ensures) (c .before .before .before .before .before .if1 .left)
+    _ _ (c .before .before .place-text3 .ensures)
 
 pub place-taken-spec : {M : Type 1} → statement M
 place-taken-spec =
     tie.close
-    (tie.spec
-    slice-aggregate-place-text
-    place-text-requires
-    place-decimal-requires
-    slice-aggregate-place-text-2
-    place-text-requires-2
-    same-length
-    returns
-    slice-aggregate-place-text-3
-    place-text-requires-3
-    same-length-2
-    returns-2)
+    (tie.spec (λ c. search needs) place-text-requires place-decimal-requires (λ c. search needs) place-text-requires-2
+    (λ c. search needs) returns (λ c. search needs) place-text-requires-3 (λ c. search needs) returns-2)

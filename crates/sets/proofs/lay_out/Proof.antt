@@ -24,20 +24,28 @@ mul-if4 c =
 returns-4 : tie.Need-returns-4
 returns-4 c = (inr (((omega (arith, c .before .before .before .if1 .left), omega (arith, c .before .before .if2 .left)), omega (arith, c .before .if3 .left)), (refl, c .if4 .taken)), refl)
 
-slice-aggregate-write-rings : tie.Need-slice-aggregate-write-rings
-slice-aggregate-write-rings c = search needs
-
 write-rings-requires : tie.Need-write-rings-requires
 write-rings-requires c κs =
     let l : length (c .before .before .before .before .before .before .before .before .args .p .places) ≡ 768 = search needs in
     (l, omega (arith, c .before .before .before .before .before .if2 .left), omega (arith, c .before .before .before .before .if3 .left), c .before .before .before .if4 .left)
 
-same-length : tie.Need-same-length
-same-length c = search needs
-
 returns-5 : tie.Need-returns-5
-returns-5 c =
-    ((((omega (arith, c .before .before .before .before .before .before .before .before .before .if1 .left), omega (arith, c .before .before .before .before .before .before .before .before .if2 .left)), omega (arith, c .before .before .before .before .before .before .before .if3 .left)), c .before .before .before .before .before .before .if4 .left), c .before .before .write-rings .ensures)
+returns-5 c = (
+  (
+    (
+      (
+        omega (arith, c .before .before .before .before .before .before .before .before .before .if1 .left),
+        omega
+            (arith, c .before .before .before .before .before .before .before .before .if2 .left),
+      ),
+      omega
+          (arith, c .before .before .before .before .before .before .before .if3 .left),
+    ),
+    c .before .before .before .before .before .before .if4 .left,
+  ),
+  c .before .before .write-rings .ensures,
+)
 
 pub lay-out-spec : {M : Type 1} → statement M
-lay-out-spec = tie.close (tie.spec returns returns-2 returns-3 mul-if4 returns-4 slice-aggregate-write-rings write-rings-requires same-length returns-5)
+lay-out-spec = tie.close (tie.spec returns returns-2 returns-3 mul-if4 returns-4 (λ c. search needs)
+    write-rings-requires (λ c. search needs) returns-5)

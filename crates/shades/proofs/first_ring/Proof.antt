@@ -6,35 +6,30 @@ use Rattle.shades.proofs.Asking.{first-asks, first-found}
 use Rattle.shades.proofs.first_ring.Statement.{statement}
 use Rattle.shades.proofs.first_ring.Tie as tie
 
-check-first-requires : tie.Need-check-first-requires
-check-first-requires c κs = search needs
-
-enum-known-r : tie.Need-enum-known-r
-enum-known-r c = search needs
-
 enum-told : tie.Need-enum-told
 enum-told c = search needs
 
 fill-requires : tie.Need-fill-requires
-fill-requires c κs = let a = c .before .before .before .before .before .before .args in first-asks (length (a .out .now)) (a .k) (a .counts .now) (rw (c .before .enum-told .given .1) at (c .before .before .before .check-first .ensures)) (a .out .now) refl
+fill-requires c κs =
+    let a = c .before .before .before .before .before .before .args in
+    first-asks (length (a .out .now)) (a .k) (a .counts .now) (rw (c .before .enum-told .given .1) at
+    (c .before .before .before .check-first .ensures)) (a .out .now) refl
 
 returns : tie.Need-returns
 returns c = (rw (c .before .r .given .1) at (c .before .before .before .check-first .ensures), refl)
 
-same-length : tie.Need-same-length
-same-length c = search needs
-
 returns-2 : tie.Need-returns-2
-returns-2 c = let a = c .before .before .before .before .before .before .before .before .before .args in let p = (rw (c .before .before .before .before .enum-told .given .1) at (c .before .before .before .before .before .before .check-first .ensures)) in (p, first-found (length (a .out .now)) (a .k) (a .counts .now) p _ _ (search needs) (c .before .before .fill .ensures .0) (c .before .before .fill .ensures .1))
+returns-2 c =
+    let a = c .before .before .before .before .before .before .before .before .before .args in
+    let p = (rw (c .before .before .before .before .enum-told .given .1) at (c .before .before .before .before .before .before .check-first .ensures))
+    in (
+      p,
+      first-found (length (a .out .now)) (a .k) (a .counts .now) p _ _ (search needs) (c .before .before .fill .ensures .0)
+          (c .before .before .fill .ensures .1),
+    )
 
 pub first-ring-spec : {M : Type 1} → statement M
 first-ring-spec =
     tie.close
-    (tie.spec
-    check-first-requires
-    enum-known-r
-    enum-told
-    fill-requires
-    returns
-    same-length
+    (tie.spec (λ c κs. search needs) (λ c. search needs) enum-told fill-requires returns (λ c. search needs)
     returns-2)

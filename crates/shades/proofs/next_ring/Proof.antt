@@ -10,17 +10,8 @@ use Rattle.shades.proofs.Asking.{cap-asks, next-asks, next-found, next-
 use Rattle.shades.proofs.next_ring.Statement.{statement}
 use Rattle.shades.proofs.next_ring.Tie as tie
 
-check-next-requires : tie.Need-check-next-requires
-check-next-requires c κs = search needs
-
-enum-known-r : tie.Need-enum-known-r
-enum-known-r c = search needs
-
 enum-told : tie.Need-enum-told
 enum-told c = search needs
-
-counted-to-requires : tie.Need-counted-to-requires
-counted-to-requires c κs = search needs
 
 cap-requires : tie.Need-cap-requires
 cap-requires c κs =
@@ -78,9 +69,6 @@ copy-requires c κs =
 returns-2 : tie.Need-returns-2
 returns-2 c = (rw (c .before .r .given .1) at (c .before .before .before .check-next .ensures), refl)
 
-same-length : tie.Need-same-length
-same-length c = search needs
-
 returns-3 : tie.Need-returns-3
 returns-3 c =
     let a = c .before .before .before .before .before .before .before .before .before .before .before .before .before .before .before .before .before .before .args in
@@ -102,5 +90,6 @@ returns-3 c =
 pub next-ring-spec : {M : Type 1} → statement M
 next-ring-spec =
     tie.close
-    (tie.spec check-next-requires enum-known-r enum-told counted-to-requires cap-requires slice-aggregate-above above-requires returns array-share-prefix-ring slice-aggregate-copy
-    copy-requires returns-2 same-length returns-3)
+    (tie.spec (λ c κs. search needs) (λ c. search needs) enum-told (λ c κs. search needs) cap-requires
+    slice-aggregate-above above-requires returns array-share-prefix-ring slice-aggregate-copy copy-requires returns-2
+    (λ c. search needs) returns-3)

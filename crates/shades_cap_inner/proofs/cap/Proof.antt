@@ -14,9 +14,6 @@ Inv-loop s k out₀ top i₀ out i = Filled s k i₀ out i
 abbrev μ-loop : tie.MeasureT-loop
 μ-loop s k out₀ top i₀ out i = length s - i
 
-slice-aggregate-copy : tie.Need-slice-aggregate-copy Inv-loop μ-loop
-slice-aggregate-copy c = search needs
-
 copy-requires : tie.Need-copy-requires Inv-loop μ-loop
 copy-requires c κs = c .before .before .pre .size
 
@@ -25,9 +22,6 @@ sub-top c = omega (arith, c .before .before .before .before .pre .some)
 
 cast-top : tie.Need-cast-top Inv-loop μ-loop
 cast-top c = omega (arith, c .before .before .before .before .pre .shades)
-
-first-bad-requires : tie.Need-first-bad-requires Inv-loop μ-loop
-first-bad-requires c κs = search needs
 
 loop-holds : tie.Need-loop-holds Inv-loop μ-loop
 loop-holds c = fill-start _ _ _ (c .before .before .before .before .before .pre .size) _ (c .first-bad .ensures .within) (c .before .before .copy .ensures .1)
@@ -38,9 +32,6 @@ array-write-out c = omega (arith, c .before .before .before .before .before .bef
 add-i : tie.Need-add-i Inv-loop μ-loop
 add-i c = omega (arith, c .before .before .before .before .before .before .before .pre .size)
 
-loop-less : tie.Need-loop-less Inv-loop μ-loop
-loop-less c = search needs
-
 loop-again : tie.Need-loop-again Inv-loop μ-loop
 loop-again c = fill-more _ _ _ (c .before .before .before .before .before .before .before .pre .size) _ (c .before .loop .i) _ (c .before .loop .inv) (c .loop-test .taken) refl
 
@@ -48,4 +39,5 @@ returns : tie.Need-returns Inv-loop μ-loop
 returns c = fill-end _ _ _ (c .before .before .before .before .before .before .before .pre .size) _ (c .before .loop .i) (c .before .loop .inv) (omega arith) (c .before .before .first-bad .ensures)
 
 pub cap-spec : {M : Type 1} → statement M
-cap-spec = tie.close (tie.spec Inv-loop μ-loop slice-aggregate-copy copy-requires sub-top cast-top first-bad-requires loop-holds array-write-out add-i loop-less loop-again returns)
+cap-spec = tie.close (tie.spec Inv-loop μ-loop (λ c. search needs) copy-requires sub-top cast-top
+    (λ c κs. search needs) loop-holds array-write-out add-i (λ c. search needs) loop-again returns)

@@ -7,9 +7,6 @@ use Rattle.shades_completable_inner.proofs.Testing.{test-none, test-low
 use Rattle.shades_completable_inner.proofs.completable.Statement.{statement}
 use Rattle.shades_completable_inner.proofs.completable.Tie as tie
 
-least-left-requires : tie.Need-least-left-requires
-least-left-requires c κs = search needs
-
 returns : tie.Need-returns
 returns c = let a = c .before .before .before .before .args in test-none (a .al .now) (a .rem .now) (c .before .before .before .before .pre) _ (c .before .least-left .ensures) (c .if1 .taken)
 
@@ -48,19 +45,8 @@ decide-requires c κs =
     (omega (arith, c .before .before .before .before .before .least-left .ensures .within, c .before .before .before .before .if1 .left))
     (λ k. omega (arith, c .before .before .if2 .left)) (λ k. omega (arith, c .before .if3 .left)) (c .if4 .left)
 
-returns-5 : tie.Need-returns-5
-returns-5 c = search needs
-
 pub completable-spec : {M : Type 1} → statement M
 completable-spec =
     tie.close
-    (tie.spec
-    least-left-requires
-    returns
-    shared-slice-read-x
-    cast-x
-    returns-2
-    returns-3
-    returns-4
-    decide-requires
-    returns-5)
+    (tie.spec (λ c κs. search needs) returns shared-slice-read-x cast-x returns-2 returns-3 returns-4 decide-requires
+    (λ c. search needs))

@@ -128,6 +128,7 @@ loop-again-3 c =
 pub decide-spec : {M : Type 1} → statement M
 decide-spec =
     tie.close
-    (tie.spec Inv-loop μ-loop numbers-requires add-first mul-q shared-slice-read-q add-e loop-holds returns sub-g array-read-x cast-x loop-less
-    loop-again sub-f cast-num array-write-num cast-pre array-write-pre cast-next array-write-next sub-q loop-less-2 loop-again-2 cast-num-2
-    array-write-num-2 slice-aggregate-against slice-aggregate-against-2 against-requires returns-2 returns-3 loop-less-3 loop-again-3)
+    (tie.spec Inv-loop μ-loop numbers-requires add-first mul-q shared-slice-read-q add-e loop-holds returns sub-g
+    array-read-x cast-x loop-less loop-again sub-f cast-num array-write-num cast-pre array-write-pre cast-next
+    array-write-next sub-q loop-less-2 loop-again-2 cast-num-2 array-write-num-2 slice-aggregate-against
+    slice-aggregate-against-2 against-requires returns-2 returns-3 loop-less-3 loop-again-3)

@@ -16,26 +16,8 @@ abbrev μ-loop : tie.MeasureT-loop
 loop-holds : tie.Need-loop-holds Inv-loop μ-loop
 loop-holds c = count-start _ _ (search needs)
 
-mul-num : tie.Need-mul-num Inv-loop μ-loop
-mul-num c = search needs
-
-shared-slice-read-num : tie.Need-shared-slice-read-num Inv-loop μ-loop
-shared-slice-read-num c = search needs
-
 cast-num : tie.Need-cast-num Inv-loop μ-loop
 cast-num c = omega (arith, c .before .before .before .pre .1, count-le (c .before .before .before .args .rem .now) (c .before .before .loop .b))
-
-add-num : tie.Need-add-num Inv-loop μ-loop
-add-num c = search needs
-
-array-write-num : tie.Need-array-write-num Inv-loop μ-loop
-array-write-num c = search needs
-
-add-b : tie.Need-add-b Inv-loop μ-loop
-add-b c = search needs
-
-loop-less : tie.Need-loop-less Inv-loop μ-loop
-loop-less c = search needs
 
 loop-again : tie.Need-loop-again Inv-loop μ-loop
 loop-again c = count-more _ _ _ (c .before .before .loop .inv) (omega (arith, c .before .loop-test .taken, c .before .before .before .pre .0))
@@ -46,16 +28,5 @@ returns c = λ b h. c .before .loop .inv .done b (omega (arith, c .loop-test .le
 pub numbers-spec : {M : Type 1} → statement M
 numbers-spec =
     tie.close
-    (tie.spec
-    Inv-loop
-    μ-loop
-    loop-holds
-    mul-num
-    shared-slice-read-num
-    cast-num
-    add-num
-    array-write-num
-    add-b
-    loop-less
-    loop-again
-    returns)
+    (tie.spec Inv-loop μ-loop loop-holds (λ c. search needs) (λ c. search needs) cast-num (λ c. search needs)
+    (λ c. search needs) (λ c. search needs) (λ c. search needs) loop-again returns)

@@ -16,12 +16,6 @@ abbrev μ-loop : tie.MeasureT-loop
 loop-holds : tie.Need-loop-holds Inv-loop μ-loop
 loop-holds c = fill-start _ _
 
-mul-e : tie.Need-mul-e Inv-loop μ-loop
-mul-e c = search needs
-
-shared-slice-read-e : tie.Need-shared-slice-read-e Inv-loop μ-loop
-shared-slice-read-e c = search needs
-
 add-e : tie.Need-add-e Inv-loop μ-loop
 add-e c =
     let l = c .before .before .loop in
@@ -52,12 +46,6 @@ put-requires c κs =
       fill-room (a .w .now) (a .counts .now) (l .w) (l .l) (l .b) (l .inv) (c .before .before .loop-test .taken) (c .before .before .before .before .before .before .pre .room),
     )
 
-add-b : tie.Need-add-b Inv-loop μ-loop
-add-b c = search needs
-
-loop-less : tie.Need-loop-less Inv-loop μ-loop
-loop-less c = search needs
-
 loop-again : tie.Need-loop-again Inv-loop μ-loop
 loop-again c =
     let l = c .before .before .before .before .before .before .loop in
@@ -74,17 +62,5 @@ returns c = fill-end _ _ _ _ _ (c .before .loop .inv) (c .loop-test .left)
 pub fill-spec : {M : Type 1} → statement M
 fill-spec =
     tie.close
-    (tie.spec
-    Inv-loop
-    μ-loop
-    loop-holds
-    mul-e
-    shared-slice-read-e
-    add-e
-    cast-put
-    put-requires
-    add-b
-    loop-less
-    loop-again
-    same-length
-    returns)
+    (tie.spec Inv-loop μ-loop loop-holds (λ c. search needs) (λ c. search needs) add-e cast-put put-requires
+    (λ c. search needs) (λ c. search needs) loop-again same-length returns)

@@ -18,12 +18,6 @@ loop-holds c = put-start _ _ _ _ (c .pre .0)
 slice-write-w : tie.Need-slice-write-w Inv-loop μ-loop
 slice-write-w c = omega (arith, c .before .loop .inv .long)
 
-add-j : tie.Need-add-j Inv-loop μ-loop
-add-j c = search needs
-
-loop-less : tie.Need-loop-less Inv-loop μ-loop
-loop-less c = search needs
-
 loop-again : tie.Need-loop-again Inv-loop μ-loop
 loop-again c = put-more _ _ _ _ _ _ (c .before .before .pre .1) (c .before .loop .inv) (c .loop-test .taken)
 
@@ -36,13 +30,5 @@ returns c = put-end _ _ _ _ _ _ (c .before .loop .inv) (c .loop-test .left)
 pub put-spec : {M : Type 1} → statement M
 put-spec =
     tie.close
-    (tie.spec
-    Inv-loop
-    μ-loop
-    loop-holds
-    slice-write-w
-    add-j
-    loop-less
-    loop-again
-    same-length
+    (tie.spec Inv-loop μ-loop loop-holds slice-write-w (λ c. search needs) (λ c. search needs) loop-again same-length
     returns)

@@ -8,9 +8,6 @@ use Rattle.shades_next_inner.proofs.Seeking.{above-opening, above-asks,
 use Rattle.shades_next_inner.proofs.above.Statement.{statement}
 use Rattle.shades_next_inner.proofs.above.Tie as tie
 
-array-share-prefix-start : tie.Need-array-share-prefix-start
-array-share-prefix-start c = search needs
-
 slice-aggregate-scan : tie.Need-slice-aggregate-scan
 slice-aggregate-scan c = sym (c .before .before .pre .reading .long)
 
@@ -26,9 +23,6 @@ seek-requires c κs =
 
 returns : tie.Need-returns
 returns c = c .seek .ensures
-
-array-borrow-prefix-ring : tie.Need-array-borrow-prefix-ring
-array-borrow-prefix-ring c = search needs
 
 slice-aggregate-repeat : tie.Need-slice-aggregate-repeat
 slice-aggregate-repeat c = sym (c .before .before .before .before .before .before .pre .reading .long)
@@ -112,18 +106,6 @@ returns-3 c =
 pub above-spec : {M : Type 1} → statement M
 above-spec =
     tie.close
-    (tie.spec
-    array-share-prefix-start
-    slice-aggregate-scan
-    scan-requires
-    seek-requires
-    returns
-    array-borrow-prefix-ring
-    slice-aggregate-repeat
-    repeat-requires
-    array-share-prefix-ring
-    slice-aggregate-is-counted
-    is-counted-requires
-    returns-2
-    seek-requires-2
-    returns-3)
+    (tie.spec (λ c. search needs) slice-aggregate-scan scan-requires seek-requires returns (λ c. search needs)
+    slice-aggregate-repeat repeat-requires array-share-prefix-ring slice-aggregate-is-counted is-counted-requires
+    returns-2 seek-requires-2 returns-3)

@@ -22,12 +22,6 @@ sub-s c = c .before .loop .inv .run .fits
 slice-read-s : tie.Need-slice-read-s Inv-loop μ-loop
 slice-read-s c = omega (arith, c .before .before .loop .inv .run .pos)
 
-slice-write-s : tie.Need-slice-write-s Inv-loop μ-loop
-slice-write-s c = search needs
-
-add-m : tie.Need-add-m Inv-loop μ-loop
-add-m c = search needs
-
 loop-less : tie.Need-loop-less Inv-loop μ-loop
 loop-less c = omega (arith, c .before .before .loop .inv .long)
 
@@ -43,15 +37,5 @@ returns c = repeat-end _ _ _ _ (c .before .loop .inv) (c .loop-test .left)
 pub repeat-spec : {M : Type 1} → statement M
 repeat-spec =
     tie.close
-    (tie.spec
-    Inv-loop
-    μ-loop
-    loop-holds
-    sub-s
-    slice-read-s
-    slice-write-s
-    add-m
-    loop-less
-    loop-again
-    same-length
-    returns)
+    (tie.spec Inv-loop μ-loop loop-holds sub-s slice-read-s (λ c. search needs) (λ c. search needs) loop-less
+    loop-again same-length returns)

@@ -158,22 +158,6 @@ loop-again c =
 pub seek-spec : {M : Type 1} → statement M
 seek-spec =
     tie.close
-    (tie.spec
-    Inv-loop
-    μ-loop
-    loop-holds
-    find-requires
-    returns
-    cast-ring
-    sub-ring
-    array-write-ring
-    array-borrow-prefix-ring
-    slice-aggregate-repeat
-    repeat-requires
-    add-raised
-    array-share-prefix-ring
-    slice-aggregate-is-counted
-    is-counted-requires
-    returns-2
-    loop-less
-    loop-again)
+    (tie.spec Inv-loop μ-loop loop-holds find-requires returns cast-ring sub-ring array-write-ring
+    array-borrow-prefix-ring slice-aggregate-repeat repeat-requires add-raised array-share-prefix-ring
+    slice-aggregate-is-counted is-counted-requires returns-2 loop-less loop-again)

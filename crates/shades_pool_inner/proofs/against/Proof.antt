@@ -17,9 +17,6 @@ abbrev μ-loop : tie.MeasureT-loop
 loop-holds : tie.Need-loop-holds Inv-loop μ-loop
 loop-holds c = follow-start _ _ _ _ _ _ (c .before .before .before .pre)
 
-shared-slice-read-p : tie.Need-shared-slice-read-p Inv-loop μ-loop
-shared-slice-read-p c = search needs
-
 cast-p : tie.Need-cast-p Inv-loop μ-loop
 cast-p c = omega (arith, c .shared-slice-known4 .given (c .before .before .loop .i))
 
@@ -30,21 +27,6 @@ slice-aggregate-agree c =
     (c .before .before .before .before .before .before .before .pre .spelled .short (c .before .before .before .loop .i)
     (c .before .before .before .loop .inv .from) (c .before .before .loop-test .taken)))
 
-sub-agree : tie.Need-sub-agree Inv-loop μ-loop
-sub-agree c = search needs
-
-part-agree-start : tie.Need-part-agree-start Inv-loop μ-loop
-part-agree-start c = search needs
-
-part-agree-end : tie.Need-part-agree-end Inv-loop μ-loop
-part-agree-end c = search needs
-
-agree-requires : tie.Need-agree-requires Inv-loop μ-loop
-agree-requires c κs = search needs
-
-sub-if1 : tie.Need-sub-if1 Inv-loop μ-loop
-sub-if1 c = search needs
-
 returns : tie.Need-returns Inv-loop μ-loop
 returns c =
     let l = c .before .before .before .before .before .before .loop in
@@ -53,15 +35,6 @@ returns c =
     (c .before .before .before .before .before .before .before .before .before .before .pre .spelled .short (l .i) (l .inv .from)
     (c .before .before .before .before .before .loop-test .taken))
     (c .before .before .before .before .before .loop-test .taken) _ (c .before .agree .ensures) (c .if1 .taken)
-
-shared-slice-read-if3 : tie.Need-shared-slice-read-if3 Inv-loop μ-loop
-shared-slice-read-if3 c = search needs
-
-add-if3 : tie.Need-add-if3 Inv-loop μ-loop
-add-if3 c = search needs
-
-shared-slice-read-if3-2 : tie.Need-shared-slice-read-if3-2 Inv-loop μ-loop
-shared-slice-read-if3-2 c = search needs
 
 returns-2 : tie.Need-returns-2 Inv-loop μ-loop
 returns-2 c =
@@ -84,12 +57,6 @@ returns-3 c =
     (c .before .before .before .before .before .before .before .before .before .loop-test .taken) _
     (c .before .before .before .before .before .agree .ensures) (c .before .before .before .before .if1 .left) (c .before .before .before .if2 .taken)
     (λ k. omega (arith, c .if3 .left))
-
-add-c : tie.Need-add-c Inv-loop μ-loop
-add-c c = search needs
-
-shared-slice-read-i : tie.Need-shared-slice-read-i Inv-loop μ-loop
-shared-slice-read-i c = search needs
 
 cast-i : tie.Need-cast-i Inv-loop μ-loop
 cast-i c = omega (arith, c .shared-slice-known7 .given (c .before .before .before .before .before .before .before .before .loop .i))
@@ -119,9 +86,6 @@ loop-again c =
 sub-x : tie.Need-sub-x Inv-loop μ-loop
 sub-x c = omega (arith, c .loop-test .left, c .before .before .before .before .before .pre .low)
 
-shared-slice-read-y : tie.Need-shared-slice-read-y Inv-loop μ-loop
-shared-slice-read-y c = search needs
-
 cast-y : tie.Need-cast-y Inv-loop μ-loop
 cast-y c = omega (arith, c .shared-slice-known8 .given (c .before .before .loop .c))
 
@@ -139,9 +103,6 @@ returns-5 c =
     letter-over (a .al .now) (a .pre .now) (a .next .now) (a .first) (a .g) (a .a) (l .i) (l .c) (l .inv)
     (omega (arith, c .before .before .before .loop-test .left)) (c .if5 .taken)
 
-add-result : tie.Need-add-result Inv-loop μ-loop
-add-result c = search needs
-
 returns-6 : tie.Need-returns-6 Inv-loop μ-loop
 returns-6 c =
     let l = c .before .before .before .before .loop in
@@ -152,33 +113,7 @@ returns-6 c =
 pub against-spec : {M : Type 1} → statement M
 against-spec =
     tie.close
-    (tie.spec
-    Inv-loop
-    μ-loop
-    loop-holds
-    shared-slice-read-p
-    cast-p
-    slice-aggregate-agree
-    sub-agree
-    part-agree-start
-    part-agree-end
-    agree-requires
-    sub-if1
-    returns
-    shared-slice-read-if3
-    add-if3
-    shared-slice-read-if3-2
-    returns-2
-    returns-3
-    add-c
-    shared-slice-read-i
-    cast-i
-    loop-less
-    loop-again
-    sub-x
-    shared-slice-read-y
-    cast-y
-    returns-4
-    returns-5
-    add-result
-    returns-6)
+    (tie.spec Inv-loop μ-loop loop-holds (λ c. search needs) cast-p slice-aggregate-agree (λ c. search needs)
+    (λ c. search needs) (λ c. search needs) (λ c κs. search needs) (λ c. search needs) returns (λ c. search needs)
+    (λ c. search needs) (λ c. search needs) returns-2 returns-3 (λ c. search needs) (λ c. search needs) cast-i
+    loop-less loop-again sub-x (λ c. search needs) cast-y returns-4 returns-5 (λ c. search needs) returns-6)

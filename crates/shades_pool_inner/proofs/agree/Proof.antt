@@ -19,20 +19,8 @@ loop-holds c = agree-start _ _
 returns : tie.Need-returns Inv-loop μ-loop
 returns c = agree-end _ _ _ (c .before .before .loop .inv) (λ h k. absurd (omega (arith, c .if1 .taken)))
 
-shared-slice-read-if2 : tie.Need-shared-slice-read-if2 Inv-loop μ-loop
-shared-slice-read-if2 c = search needs
-
-shared-slice-read-if2-2 : tie.Need-shared-slice-read-if2-2 Inv-loop μ-loop
-shared-slice-read-if2-2 c = search needs
-
 returns-2 : tie.Need-returns-2 Inv-loop μ-loop
 returns-2 c = agree-end _ _ _ (c .before .before .before .before .before .loop .inv) (λ h k e. c .if2 .taken e)
-
-add-j : tie.Need-add-j Inv-loop μ-loop
-add-j c = search needs
-
-loop-less : tie.Need-loop-less Inv-loop μ-loop
-loop-less c = search needs
 
 loop-again : tie.Need-loop-again Inv-loop μ-loop
 loop-again c = agree-more _ _ _ (c .before .before .before .before .before .loop .inv) (c .before .before .before .before .loop-test .taken) (c .before .before .before .if1 .left) (c .if2 .left)
@@ -43,15 +31,5 @@ returns-3 c = agree-end _ _ _ (c .before .loop .inv) (λ h. absurd (omega (arith
 pub agree-spec : {M : Type 1} → statement M
 agree-spec =
     tie.close
-    (tie.spec
-    Inv-loop
-    μ-loop
-    loop-holds
-    returns
-    shared-slice-read-if2
-    shared-slice-read-if2-2
-    returns-2
-    add-j
-    loop-less
-    loop-again
-    returns-3)
+    (tie.spec Inv-loop μ-loop loop-holds returns (λ c. search needs) (λ c. search needs) returns-2 (λ c. search needs)
+    (λ c. search needs) loop-again returns-3)

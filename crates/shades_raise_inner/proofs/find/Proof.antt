@@ -27,9 +27,6 @@ slice-aggregate-lift c =
     let z : length (c .before .before .before .before .before .args .t1) ≡ 64 = search needs in
     sym (ap length (c .before .loop .inv .1) ∙ z)
 
-slice-aggregate-lift-2 : tie.Need-slice-aggregate-lift-2 Inv-loop μ-loop
-slice-aggregate-lift-2 c = search needs
-
 lift-requires : tie.Need-lift-requires Inv-loop μ-loop
 lift-requires c κs = let l = c .before .before .loop in rw (l .inv .1) (find-asks _ _ _ _ (search needs) (c .before .before .before .before .before .before .pre .0) _ _ (l .inv .0))
 
@@ -52,9 +49,6 @@ returns-2 c =
     let o = c .before .before .before .before .before .before .before .before .before .before .before .pre .0 in
     let e = c .before .before .before .before .lift .ensures in
     find-end _ _ _ _ (search needs) o _ _ (l .inv .0) _ (rw (l .inv .1) at (e .0)) (λ h. omega (arith, c .before .if1 .left)) (c .if2 .taken)
-
-sub-i : tie.Need-sub-i Inv-loop μ-loop
-sub-i c = search needs
 
 array-read-x : tie.Need-array-read-x Inv-loop μ-loop
 array-read-x c =
@@ -98,9 +92,6 @@ array-write-rem c =
     let e = c .before .before .before .before .lift .ensures in
     omega (arith, find-shade _ _ _ _ (search needs) o _ _ (l .inv .0) _ (rw (l .inv .1) at (e .0)) (c .if2 .left), l .inv .0 .remains .size)
 
-loop-less : tie.Need-loop-less Inv-loop μ-loop
-loop-less c = search needs
-
 loop-again : tie.Need-loop-again Inv-loop μ-loop
 loop-again c =
     let l = c .before .before .before .before .before .before .before .loop in
@@ -111,5 +102,6 @@ loop-again c =
 pub find-spec : {M : Type 1} → statement M
 find-spec =
     tie.close
-    (tie.spec Inv-loop μ-loop reach-requires loop-holds slice-aggregate-lift slice-aggregate-lift-2 lift-requires add-t19 returns returns-2 sub-i
-    array-read-x cast-x mul-rem array-read-rem add-rem array-write-rem loop-less loop-again)
+    (tie.spec Inv-loop μ-loop reach-requires loop-holds slice-aggregate-lift (λ c. search needs) lift-requires add-t19
+    returns returns-2 (λ c. search needs) array-read-x cast-x mul-rem array-read-rem add-rem array-write-rem
+    (λ c. search needs) loop-again)

@@ -15,20 +15,11 @@ abbrev μ-loop : tie.MeasureT-loop
 loop-holds : tie.Need-loop-holds Inv-loop μ-loop
 loop-holds c = left-start _ _ _ (c .pre .0)
 
-mul-if1 : tie.Need-mul-if1 Inv-loop μ-loop
-mul-if1 c = search needs
-
 shared-slice-read-if1 : tie.Need-shared-slice-read-if1 Inv-loop μ-loop
 shared-slice-read-if1 c = omega (arith, c .before .loop-test .taken, c .before .before .before .pre .1)
 
 returns : tie.Need-returns Inv-loop μ-loop
 returns c = left-end _ _ _ _ (c .before .before .before .loop .inv) (λ h e. c .if1 .taken e)
-
-add-x : tie.Need-add-x Inv-loop μ-loop
-add-x c = search needs
-
-loop-less : tie.Need-loop-less Inv-loop μ-loop
-loop-less c = search needs
 
 loop-again : tie.Need-loop-again Inv-loop μ-loop
 loop-again c = left-more _ _ _ _ (c .before .before .before .loop .inv) (c .before .before .loop-test .taken) (c .if1 .left)
@@ -37,4 +28,5 @@ returns-2 : tie.Need-returns-2 Inv-loop μ-loop
 returns-2 c = left-end _ _ _ _ (c .before .loop .inv) (λ h. absurd (omega (arith, c .loop-test .left)))
 
 pub left-from-spec : {M : Type 1} → statement M
-left-from-spec = tie.close (tie.spec Inv-loop μ-loop loop-holds mul-if1 shared-slice-read-if1 returns add-x loop-less loop-again returns-2)
+left-from-spec = tie.close (tie.spec Inv-loop μ-loop loop-holds (λ c. search needs) shared-slice-read-if1 returns
+    (λ c. search needs) (λ c. search needs) loop-again returns-2)

@@ -9,17 +9,8 @@ use Rattle.shades_raise_inner.proofs.lift.Tie as tie
 slice-read-left-from : tie.Need-slice-read-left-from
 slice-read-left-from c = let p = c .before .before .before .before .pre in omega (arith, p .inside, p .size)
 
-cast-left-from : tie.Need-cast-left-from
-cast-left-from c = search needs
-
-add-left-from : tie.Need-add-left-from
-add-left-from c = search needs
-
 left-from-requires : tie.Need-left-from-requires
 left-from-requires c κs = let p = c .before .before .before .before .pre in (omega (arith, p .low), omega (arith, p .shades, p .slots))
-
-same-length : tie.Need-same-length
-same-length c = search needs
 
 returns : tie.Need-returns
 returns c = (lift-none _ _ _ _ _ (c .before .before .before .before .before .before .pre) (c .before .left-from .ensures) (c .if1 .taken), (refl, refl))
@@ -27,24 +18,12 @@ returns c = (lift-none _ _ _ _ _ (c .before .before .before .before .before .bef
 possible-requires : tie.Need-possible-requires
 possible-requires c κs = lift-asks _ _ _ _ _ (c .before .before .before .before .before .before .before .before .pre) (c .before .before .before .left-from .ensures) (c .before .before .if1 .left)
 
-same-length-2 : tie.Need-same-length-2
-same-length-2 c = search needs
-
-same-length-3 : tie.Need-same-length-3
-same-length-3 c = search needs
-
 returns-2 : tie.Need-returns-2
 returns-2 c =
     let e = c .before .before .before .before .before .possible .ensures in
     let f = c .before .before .before .before .before .before .before .before .before .left-from .ensures in
     let h = c .before .before .before .before .before .before .before .before .if1 .left in
     (lift-found _ _ _ _ _ (c .before .before .before .before .before .before .before .before .before .before .before .before .before .before .pre) f h (e .0 .yes (c .if2 .taken)), e .1)
-
-same-length-4 : tie.Need-same-length-4
-same-length-4 c = search needs
-
-same-length-5 : tie.Need-same-length-5
-same-length-5 c = search needs
 
 returns-3 : tie.Need-returns-3
 returns-3 c =
@@ -56,4 +35,6 @@ returns-3 c =
 pub lift-spec : {M : Type 1} → statement M
 lift-spec =
     tie.close
-    (tie.spec slice-read-left-from cast-left-from add-left-from left-from-requires same-length returns possible-requires same-length-2 same-length-3 returns-2 same-length-4 same-length-5 returns-3)
+    (tie.spec slice-read-left-from (λ c. search needs) (λ c. search needs) left-from-requires (λ c. search needs)
+    returns possible-requires (λ c. search needs) (λ c. search needs) returns-2 (λ c. search needs)
+    (λ c. search needs) returns-3)

@@ -28,9 +28,6 @@ cast-w c = let p = c .before .before .before .before .before .pre in omega (arit
 slice-write-w : tie.Need-slice-write-w
 slice-write-w c = let p = c .before .before .before .before .before .pre in omega (arith, p .inside, p .size)
 
-sub-rem : tie.Need-sub-rem
-sub-rem c = search needs
-
 mul-rem : tie.Need-mul-rem
 mul-rem c = let p = c .before .before .before .before .before .pre in omega (arith, p .shade, p .shades)
 
@@ -64,12 +61,6 @@ mul-rem-2 c = let p = c .before .before .before .before .before .before .before 
 slice-write-rem-2 : tie.Need-slice-write-rem-2
 slice-write-rem-2 c = let p = c .before .before .before .before .before .before .before .before .pre in simp length-set (omega (arith, p .shade, p .shades, p .slots))
 
-same-length : tie.Need-same-length
-same-length c = search needs
-
-same-length-2 : tie.Need-same-length-2
-same-length-2 c = search needs
-
 returns-2 : tie.Need-returns-2
 returns-2 c =
     let a = c .before .before .before .before .before .before .before .before .args in
@@ -85,5 +76,7 @@ returns-2 c =
 pub possible-spec : {M : Type 1} → statement M
 possible-spec =
     tie.close
-    (tie.spec mul-many slice-read-many returns slice-read-shade cast-w slice-write-w sub-rem mul-rem slice-write-rem add-completable slice-reshare-prefix-completable
-    slice-aggregate-completable slice-reshare-prefix-completable-2 slice-aggregate-completable-2 completable-requires slice-write-w-2 mul-rem-2 slice-write-rem-2 same-length same-length-2 returns-2)
+    (tie.spec mul-many slice-read-many returns slice-read-shade cast-w slice-write-w (λ c. search needs) mul-rem
+    slice-write-rem add-completable slice-reshare-prefix-completable slice-aggregate-completable
+    slice-reshare-prefix-completable-2 slice-aggregate-completable-2 completable-requires slice-write-w-2 mul-rem-2
+    slice-write-rem-2 (λ c. search needs) (λ c. search needs) returns-2)

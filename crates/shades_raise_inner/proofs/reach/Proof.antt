@@ -92,9 +92,6 @@ mul-rem c = omega (arith, reach-shade (c .before .before .loop .inv))
 array-read-rem : tie.Need-array-read-rem Inv-loop μ-loop
 array-read-rem c = omega (arith, reach-shade (c .before .before .loop .inv), c .before .before .loop .inv .left .size)
 
-sub-rem : tie.Need-sub-rem Inv-loop μ-loop
-sub-rem c = search needs
-
 array-write-rem : tie.Need-array-write-rem Inv-loop μ-loop
 array-write-rem c = omega (arith, reach-shade (c .before .before .loop .inv), c .before .before .loop .inv .left .size)
 
@@ -191,8 +188,9 @@ returns-5 c = reach-end (c .before .loop .inv) (λ h. omega (arith, c .loop-test
 pub reach-spec : {M : Type 1} → statement M
 reach-spec =
     tie.close
-    (tie.spec Inv-loop μ-loop sub-w array-share-prefix-w slice-aggregate-fitting fitting-requires returns array-share-prefix-w-2
-    slice-aggregate-fitting-2 fitting-requires-2 returns-2 loop-holds add-loop array-read-x cast-x mul-if3 array-read-if3 returns-3 mul-rem
-    array-read-rem sub-rem array-write-rem add-i loop-less loop-again array-share-prefix-w-3 slice-aggregate-completable array-share-prefix-rem
-    slice-aggregate-completable-2 completable-requires mul-rem-2 array-read-rem-2 add-rem array-write-rem-2 returns-4 add-i-2 loop-less-2 loop-again-2
-    returns-5)
+    (tie.spec Inv-loop μ-loop sub-w array-share-prefix-w slice-aggregate-fitting fitting-requires returns
+    array-share-prefix-w-2 slice-aggregate-fitting-2 fitting-requires-2 returns-2 loop-holds add-loop array-read-x
+    cast-x mul-if3 array-read-if3 returns-3 mul-rem array-read-rem (λ c. search needs) array-write-rem add-i loop-less
+    loop-again array-share-prefix-w-3 slice-aggregate-completable array-share-prefix-rem slice-aggregate-completable-2
+    completable-requires mul-rem-2 array-read-rem-2 add-rem array-write-rem-2 returns-4 add-i-2 loop-less-2
+    loop-again-2 returns-5)

@@ -20,9 +20,6 @@ untouched-requires c κs = c .before .before .pre .few
 loop-holds : tie.Need-loop-holds Inv-loop μ-loop
 loop-holds c = (omega arith, c .untouched .ensures)
 
-shared-slice-read-x : tie.Need-shared-slice-read-x Inv-loop μ-loop
-shared-slice-read-x c = search needs
-
 cast-x : tie.Need-cast-x Inv-loop μ-loop
 cast-x c = omega (arith, c .shared-slice-known3 .given (c .before .before .loop .i))
 
@@ -54,7 +51,8 @@ returns c =
       exceeds =
           λ h. exceeds-one (a .counts .now) (a .s .now) (l .rem) (l .i)
           (c .before .before .loop-test .taken)
-          (c .before .before .before .before .before .before .before .pre .known (l .i) (c .before .before .loop-test .taken)) (c .before .before .before .before .before .before .before .pre .few) (l .inv .1) (c .if1 .taken);
+          (c .before .before .before .before .before .before .before .pre .known (l .i) (c .before .before .loop-test .taken))
+          (c .before .before .before .before .before .before .before .pre .few) (l .inv .1) (c .if1 .taken);
     }
 
 mul-rem : tie.Need-mul-rem Inv-loop μ-loop
@@ -75,9 +73,6 @@ array-read-rem c =
       c .before .before .before .loop .inv .1 .size,
     )
 
-sub-rem : tie.Need-sub-rem Inv-loop μ-loop
-sub-rem c = search needs
-
 array-write-rem : tie.Need-array-write-rem Inv-loop μ-loop
 array-write-rem c =
     omega (
@@ -86,12 +81,6 @@ array-write-rem c =
       c .before .before .before .before .before .before .before .pre .few,
       c .before .before .before .loop .inv .1 .size,
     )
-
-add-i : tie.Need-add-i Inv-loop μ-loop
-add-i c = search needs
-
-loop-less : tie.Need-loop-less Inv-loop μ-loop
-loop-less c = search needs
 
 loop-again : tie.Need-loop-again Inv-loop μ-loop
 loop-again c =
@@ -109,21 +98,6 @@ returns-2 c = record { within = c .before .loop .inv .0; remains = c .before .lo
 pub fitting-spec : {M : Type 1} → statement M
 fitting-spec =
     tie.close
-    (tie.spec
-    Inv-loop
-    μ-loop
-    untouched-requires
-    loop-holds
-    shared-slice-read-x
-    cast-x
-    mul-if1
-    array-read-if1
-    returns
-    mul-rem
-    array-read-rem
-    sub-rem
-    array-write-rem
-    add-i
-    loop-less
-    loop-again
+    (tie.spec Inv-loop μ-loop untouched-requires loop-holds (λ c. search needs) cast-x mul-if1 array-read-if1 returns
+    mul-rem array-read-rem (λ c. search needs) array-write-rem (λ c. search needs) (λ c. search needs) loop-again
     returns-2)

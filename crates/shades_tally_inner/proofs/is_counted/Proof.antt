@@ -4,14 +4,8 @@ use Rattle.shades_tally_inner.proofs.Tallying.{counted-not, counted-is}
 use Rattle.shades_tally_inner.proofs.is_counted.Statement.{statement}
 use Rattle.shades_tally_inner.proofs.is_counted.Tie as tie
 
-rem-if1 : tie.Need-rem-if1
-rem-if1 c = search needs
-
 returns : tie.Need-returns
 returns c = let a = c .before .before .before .args in counted-not (a .counts .now) (a .s .now) (a .p) (c .before .before .before .pre) (c .if1 .taken)
-
-has-counts-requires : tie.Need-has-counts-requires
-has-counts-requires c κs = search needs
 
 returns-2 : tie.Need-returns-2
 returns-2 c =
@@ -19,4 +13,4 @@ returns-2 c =
     counted-is (a .counts .now) (a .s .now) (a .p) (c .before .before .before .before .pre) (c .before .if1 .left) _ (c .has-counts .ensures)
 
 pub is-counted-spec : {M : Type 1} → statement M
-is-counted-spec = tie.close (tie.spec rem-if1 returns has-counts-requires returns-2)
+is-counted-spec = tie.close (tie.spec (λ c. search needs) returns (λ c κs. search needs) returns-2)

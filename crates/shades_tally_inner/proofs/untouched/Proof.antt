@@ -16,24 +16,6 @@ abbrev μ-loop : tie.MeasureT-loop
 loop-holds : tie.Need-loop-holds Inv-loop μ-loop
 loop-holds c = leave-start _ _
 
-mul-rem : tie.Need-mul-rem Inv-loop μ-loop
-mul-rem c = search needs
-
-shared-slice-read-rem : tie.Need-shared-slice-read-rem Inv-loop μ-loop
-shared-slice-read-rem c = search needs
-
-mul-rem-2 : tie.Need-mul-rem-2 Inv-loop μ-loop
-mul-rem-2 c = search needs
-
-array-write-rem : tie.Need-array-write-rem Inv-loop μ-loop
-array-write-rem c = search needs
-
-add-b : tie.Need-add-b Inv-loop μ-loop
-add-b c = search needs
-
-loop-less : tie.Need-loop-less Inv-loop μ-loop
-loop-less c = search needs
-
 loop-again : tie.Need-loop-again Inv-loop μ-loop
 loop-again c = leave-untouched _ _ _ (c .before .before .before .pre) (c .before .before .loop .inv) (c .before .loop-test .taken)
 
@@ -43,15 +25,5 @@ returns c = leave-end _ _ _ _ (c .before .loop .inv) (c .loop-test .left)
 pub untouched-spec : {M : Type 1} → statement M
 untouched-spec =
     tie.close
-    (tie.spec
-    Inv-loop
-    μ-loop
-    loop-holds
-    mul-rem
-    shared-slice-read-rem
-    mul-rem-2
-    array-write-rem
-    add-b
-    loop-less
-    loop-again
-    returns)
+    (tie.spec Inv-loop μ-loop loop-holds (λ c. search needs) (λ c. search needs) (λ c. search needs)
+    (λ c. search needs) (λ c. search needs) (λ c. search needs) loop-again returns)

@@ -4,12 +4,9 @@ use Rattle.stock.proofs.Table.{homes, entry}
 use Rattle.stock.proofs.stock_home.Statement.{statement}
 use Rattle.stock.proofs.stock_home.Tie as tie
 
-array-read-result : tie.Need-array-read-result
-array-read-result c = search needs
-
 returns : tie.Need-returns
 unfolding homes
 returns c = entry (c .args .b) (search needs)
 
 pub stock-home-spec : {M : Type 1} → statement M
-stock-home-spec = tie.close (tie.spec array-read-result returns)
+stock-home-spec = tie.close (tie.spec (λ c. search needs) returns)

@@ -10,9 +10,6 @@ use Rattle.strip.proofs.Telling.{passed-listable}
 use Rattle.strip.proofs.place_good.Statement.{statement}
 use Rattle.strip.proofs.place_good.Tie as tie
 
-power-above-requires : tie.Need-power-above-requires
-power-above-requires c κs = search needs
-
 returns : tie.Need-returns
 returns c =
     let g = c .before .before .before in
@@ -32,7 +29,12 @@ array-borrow-prefix-sectors c =
 slice-aggregate-place-on : tie.Need-slice-aggregate-place-on
 slice-aggregate-place-on c =
     let g = c .before .before .before .before .before in
-    simp length-take (omega (arith, c .before .power .ensures, passed-listable (g .args .reading .now) (g .args .k) (g .pre) (sym (c .before .before .if1 .left) ∙ c .before .before .before .power-above .ensures) .few))
+    simp length-take (omega (
+      arith,
+      c .before .power .ensures,
+      passed-listable (g .args .reading .now) (g .args .k) (g .pre)
+          (sym (c .before .before .if1 .left) ∙ c .before .before .before .power-above .ensures) .few,
+    ))
 
 place-on-requires : tie.Need-place-on-requires
 place-on-requires c κs =
@@ -42,17 +44,15 @@ place-on-requires c κs =
 
 returns-2 : tie.Need-returns-2
 returns-2 c =
-    let g = c .before .before .before .before .before .before .before in
-    (g .pre, passed-listable (g .args .reading .now) (g .args .k) (g .pre) (sym (c .before .before .before .before .if1 .left) ∙ c .before .before .before .before .before .power-above .ensures) .few, c .before .place-on .ensures)
+    let g = c .before .before .before .before .before .before .before in (
+      g .pre,
+      passed-listable (g .args .reading .now) (g .args .k) (g .pre)
+          (sym (c .before .before .before .before .if1 .left) ∙ c .before .before .before .before .before .power-above .ensures) .few,
+      c .before .place-on .ensures,
+    )
 
 pub place-good-spec : {M : Type 1} → statement M
 place-good-spec =
     tie.close
-    (tie.spec
-    power-above-requires
-    returns
-    power-requires
-    array-borrow-prefix-sectors
-    slice-aggregate-place-on
-    place-on-requires
-    returns-2)
+    (tie.spec (λ c κs. search needs) returns power-requires array-borrow-prefix-sectors slice-aggregate-place-on
+    place-on-requires returns-2)

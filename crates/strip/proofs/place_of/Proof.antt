@@ -4,12 +4,6 @@ use mathlib.Core.Logic.{inl}
 use Rattle.strip.proofs.place_of.Statement.{statement}
 use Rattle.strip.proofs.place_of.Tie as tie
 
-check-reading-requires : tie.Need-check-reading-requires
-check-reading-requires c κs = search needs
-
-enum-known-r : tie.Need-enum-known-r
-enum-known-r c = search needs
-
 enum-told : tie.Need-enum-told
 enum-told c = search needs
 
@@ -25,4 +19,4 @@ returns-2 c = c .place-good .ensures
 pub place-of-spec : {M : Type 1} → statement M
 place-of-spec =
     tie.close
-    (tie.spec check-reading-requires enum-known-r enum-told place-good-requires returns returns-2)
+    (tie.spec (λ c κs. search needs) (λ c. search needs) enum-told place-good-requires returns returns-2)

@@ -5,19 +5,13 @@ use Rattle.strip.proofs.Telling.{place-asked}
 use Rattle.strip.proofs.place_on.Statement.{statement}
 use Rattle.strip.proofs.place_on.Tie as tie
 
-write-whole-requires : tie.Need-write-whole-requires
-write-whole-requires c κs = search needs
-
 place-in-requires : tie.Need-place-in-requires
 place-in-requires c κs =
     let g = c .before .before .before .before .before .before .before in
     place-asked (g .args .reading .now) (g .args .k) (g .pre .0) _ (g .pre .1 .0) (c .before .before .before .write-whole .ensures)
 
-same-length : tie.Need-same-length
-same-length c = search needs
-
 returns : tie.Need-returns
 returns c = rw (c .before .before .before .before .write-whole .ensures) at (c .place-in .ensures)
 
 pub place-on-spec : {M : Type 1} → statement M
-place-on-spec = tie.close (tie.spec write-whole-requires place-in-requires same-length returns)
+place-on-spec = tie.close (tie.spec (λ c κs. search needs) place-in-requires (λ c. search needs) returns)

@@ -16,12 +16,13 @@ returns c = (inr (listable-passed _ _ _ (c .before .before .before .pre), (refl,
 write-whole-requires : tie.Need-write-whole-requires
 write-whole-requires c κs = (c .before .before .before .before .pre, c .before .if1 .left ∙ c .before .before .power .ensures)
 
-same-length : tie.Need-same-length
-same-length c = search needs
-
 returns-2 : tie.Need-returns-2
-returns-2 c =
-    (c .before .before .before .before .before .before .before .pre, c .before .before .before .before .if1 .left ∙ c .before .before .before .before .before .power .ensures, c .before .before .write-whole .ensures)
+returns-2 c = (
+  c .before .before .before .before .before .before .before .pre,
+  c .before .before .before .before .if1 .left ∙
+      c .before .before .before .before .before .power .ensures,
+  c .before .before .write-whole .ensures,
+)
 
 pub write-listable-spec : {M : Type 1} → statement M
-write-listable-spec = tie.close (tie.spec power-requires returns write-whole-requires same-length returns-2)
+write-listable-spec = tie.close (tie.spec power-requires returns write-whole-requires (λ c. search needs) returns-2)

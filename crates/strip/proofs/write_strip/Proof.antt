@@ -5,12 +5,6 @@ use mathlib.Core.Logic.{inl}
 use Rattle.strip.proofs.write_strip.Statement.{statement}
 use Rattle.strip.proofs.write_strip.Tie as tie
 
-plan-numbers-requires : tie.Need-plan-numbers-requires
-plan-numbers-requires c κs = search needs
-
-enum-known-r : tie.Need-enum-known-r
-enum-known-r c = search needs
-
 enum-told : tie.Need-enum-told
 enum-told c = search needs
 
@@ -20,13 +14,11 @@ write-listable-requires c κs = (rw (c .before .enum-told .given .1) at (c .befo
 returns : tie.Need-returns
 returns c = (inl (rw (c .before .r .given .1) at (c .before .before .before .plan-numbers .ensures)), refl)
 
-same-length : tie.Need-same-length
-same-length c = search needs
-
 returns-2 : tie.Need-returns-2
 returns-2 c = c .before .before .write-listable .ensures
 
 pub write-strip-spec : {M : Type 1} → statement M
 write-strip-spec =
     tie.close
-    (tie.spec plan-numbers-requires enum-known-r enum-told write-listable-requires returns same-length returns-2)
+    (tie.spec (λ c κs. search needs) (λ c. search needs) enum-told write-listable-requires returns (λ c. search needs)
+    returns-2)

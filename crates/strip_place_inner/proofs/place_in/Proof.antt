@@ -25,12 +25,6 @@ returns c =
     let g = c .before .before .before .before .before .before in
     passed-hit (g .args .s .now) (g .args .reading .now) (c .before .before .before .loop .p) (g .pre .1 .1) (c .before .before .loop-test .taken) (sym (c .if1 .taken) ∙ c .before .stands .ensures)
 
-add-p : tie.Need-add-p Inv-loop μ-loop
-add-p c = search needs
-
-loop-less : tie.Need-loop-less Inv-loop μ-loop
-loop-less c = search needs
-
 loop-again : tie.Need-loop-again Inv-loop μ-loop
 loop-again c =
     let g = c .before .before .before .before .before .before in
@@ -44,4 +38,5 @@ returns-2 c =
     absurd (passed-all (g .args .s .now) (g .args .reading .now) (l .p) (g .pre .1 .1) (c .loop-test .left) (l .inv))
 
 pub place-in-spec : {M : Type 1} → statement M
-place-in-spec = tie.close (tie.spec Inv-loop μ-loop loop-holds stands-requires returns add-p loop-less loop-again returns-2)
+place-in-spec = tie.close (tie.spec Inv-loop μ-loop loop-holds stands-requires returns (λ c. search needs)
+    (λ c. search needs) loop-again returns-2)

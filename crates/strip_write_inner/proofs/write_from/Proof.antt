@@ -27,16 +27,11 @@ add-at c = omega (arith, writing-room _ _ _ _ _ _ (c .before .before .before .be
 advance-requires : tie.Need-advance-requires Inv-loop μ-loop
 advance-requires c κs = c .before .before .before .before .before .before .loop .inv .0 .ready
 
-same-length : tie.Need-same-length Inv-loop μ-loop
-same-length c = search needs
-
-same-length-2 : tie.Need-same-length-2 Inv-loop μ-loop
-same-length-2 c = search needs
-
 returns : tie.Need-returns Inv-loop μ-loop
 returns c =
     let l = c .before .before .before .before .before .before .before .before .before .before .before .loop in
-    writing-end _ _ _ _ _ _ (l .inv .0) _ (c .before .before .before .before .before .before .before .before .lay .ensures) (c .before .before .before .before .advance .ensures .done (c .if1 .taken) .0)
+    writing-end _ _ _ _ _ _ (l .inv .0) _ (c .before .before .before .before .before .before .before .before .lay .ensures)
+    (c .before .before .before .before .advance .ensures .done (c .if1 .taken) .0)
 
 loop-less : tie.Need-loop-less Inv-loop μ-loop
 loop-less c =
@@ -47,21 +42,14 @@ loop-again : tie.Need-loop-again Inv-loop μ-loop
 loop-again c =
     let l = c .before .before .before .before .before .before .before .before .before .before .before .loop in
     let a = c .before .before .before .before .advance in
-    let z : 0 < a .result .lyn = omega (arith, c .if1 .left) in
-    (writing-on _ _ _ _ _ _ (l .inv .0) _ (c .before .before .before .before .before .before .before .before .lay .ensures) _ _ (a .ensures .next z) (a .ensures .lyn-of z), c .before .before .before .before .before .before .before .before .lay .ensures .long ∙ l .inv .1)
+    let z : 0 < a .result .lyn = omega (arith, c .if1 .left) in (
+      writing-on _ _ _ _ _ _ (l .inv .0) _ (c .before .before .before .before .before .before .before .before .lay .ensures) _ _ (a .ensures .next z)
+          (a .ensures .lyn-of z),
+      c .before .before .before .before .before .before .before .before .lay .ensures .long ∙ l .inv .1,
+    )
 
 pub write-from-spec : {M : Type 1} → statement M
 write-from-spec =
     tie.close
-    (tie.spec
-    Inv-loop
-    μ-loop
-    loop-holds
-    lay-requires
-    add-at
-    advance-requires
-    same-length
-    same-length-2
-    returns
-    loop-less
-    loop-again)
+    (tie.spec Inv-loop μ-loop loop-holds lay-requires add-at advance-requires (λ c. search needs) (λ c. search needs)
+    returns loop-less loop-again)

@@ -8,17 +8,11 @@ use Rattle.strip_write_inner.proofs.Writing.{zeros-asked, zeros-long}
 use Rattle.strip_write_inner.proofs.write_whole.Statement.{statement}
 use Rattle.strip_write_inner.proofs.write_whole.Tie as tie
 
-array-borrow-prefix-ring : tie.Need-array-borrow-prefix-ring
-array-borrow-prefix-ring c = search needs
-
 slice-aggregate-write-from : tie.Need-slice-aggregate-write-from
 slice-aggregate-write-from c = let g = c .before .before in simp length-take (omega (arith, g .pre .0 .sized .1))
 
 write-from-requires : tie.Need-write-from-requires
 write-from-requires c κs = let g = c .before .before .before in zeros-asked 4096 (g .args .n) (g .args .k) (g .args .out .now) (g .pre .0) (g .pre .1)
-
-same-length : tie.Need-same-length
-same-length c = search needs
 
 returns : tie.Need-returns
 returns c =
@@ -28,9 +22,4 @@ returns c =
 pub write-whole-spec : {M : Type 1} → statement M
 write-whole-spec =
     tie.close
-    (tie.spec
-    array-borrow-prefix-ring
-    slice-aggregate-write-from
-    write-from-requires
-    same-length
-    returns)
+    (tie.spec (λ c. search needs) slice-aggregate-write-from write-from-requires (λ c. search needs) returns)

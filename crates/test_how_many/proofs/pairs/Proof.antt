@@ -10,41 +10,8 @@ Inv-loop k n₀ n = n ≤ 17
 abbrev μ-loop : tie.MeasureT-loop
 μ-loop k n₀ n = 17 - n
 
-loop-holds : tie.Need-loop-holds Inv-loop μ-loop
-loop-holds c = search needs
-
-power-above-requires : tie.Need-power-above-requires Inv-loop μ-loop
-power-above-requires c κs = search needs
-
-returns : tie.Need-returns Inv-loop μ-loop
-returns c = search needs
-
-compare-requires : tie.Need-compare-requires Inv-loop μ-loop
-compare-requires c κs = search needs
-
-add-n : tie.Need-add-n Inv-loop μ-loop
-add-n c = search needs
-
-loop-less : tie.Need-loop-less Inv-loop μ-loop
-loop-less c = search needs
-
-loop-again : tie.Need-loop-again Inv-loop μ-loop
-loop-again c = search needs
-
-returns-2 : tie.Need-returns-2 Inv-loop μ-loop
-returns-2 c = search needs
-
 pub pairs-spec : {M : Type 1} → statement M
 pairs-spec =
     tie.close
-    (tie.spec
-    Inv-loop
-    μ-loop
-    loop-holds
-    power-above-requires
-    returns
-    compare-requires
-    add-n
-    loop-less
-    loop-again
-    returns-2)
+    (tie.spec Inv-loop μ-loop (λ c. search needs) (λ c κs. search needs) (λ c. search needs) (λ c κs. search needs)
+    (λ c. search needs) (λ c. search needs) (λ c. search needs) (λ c. search needs))

@@ -5,39 +5,6 @@ use borrow.Author.Needs.{needs}
 use Rattle.test_pictures.proofs.picture.Statement.{statement}
 use Rattle.test_pictures.proofs.picture.Tie as tie
 
-slice-aggregate-sectors : tie.Need-slice-aggregate-sectors
-slice-aggregate-sectors c = search needs
-
-sectors-requires : tie.Need-sectors-requires
-sectors-requires c κs = search needs
-
-number-requires : tie.Need-number-requires
-number-requires c κs = search needs
-
-number-requires-2 : tie.Need-number-requires-2
-number-requires-2 c κs = search needs
-
-tone-of-requires : tie.Need-tone-of-requires
-tone-of-requires c κs = search needs
-
-large-buffer-requires : tie.Need-large-buffer-requires
-large-buffer-requires c κs = search needs
-
-array-share-prefix-reading : tie.Need-array-share-prefix-reading
-array-share-prefix-reading c = search needs
-
-slice-aggregate-draw : tie.Need-slice-aggregate-draw
-slice-aggregate-draw c = search needs
-
-slice-aggregate-draw-2 : tie.Need-slice-aggregate-draw-2
-slice-aggregate-draw-2 c = search needs
-
-draw-requires : tie.Need-draw-requires
-draw-requires c κs = search needs
-
-enum-known-m : tie.Need-enum-known-m
-enum-known-m c = search needs
-
 array-share-prefix-buf : tie.Need-array-share-prefix-buf
 array-share-prefix-buf c =
     let f = rw (c .before .m .given .1) at (c .before .before .before .before .draw .ensures) in
@@ -48,40 +15,10 @@ slice-aggregate-text c =
     let f = rw (c .before .before .m .given .1) at (c .before .before .before .before .before .draw .ensures) in
     simp length-take (omega (arith, f .2))
 
-text-requires : tie.Need-text-requires
-text-requires c κs = search needs
-
-enum-known-r : tie.Need-enum-known-r
-enum-known-r c = search needs
-
-refuse-requires : tie.Need-refuse-requires
-refuse-requires c κs = search needs
-
-returns : tie.Need-returns
-returns c = search needs
-
-returns-2 : tie.Need-returns-2
-returns-2 c = search needs
-
 pub picture-spec : {M : Type 1} → statement M
 picture-spec =
     tie.close
-    (tie.spec
-    slice-aggregate-sectors
-    sectors-requires
-    number-requires
-    number-requires-2
-    tone-of-requires
-    large-buffer-requires
-    array-share-prefix-reading
-    slice-aggregate-draw
-    slice-aggregate-draw-2
-    draw-requires
-    enum-known-m
-    array-share-prefix-buf
-    slice-aggregate-text
-    text-requires
-    enum-known-r
-    refuse-requires
-    returns
-    returns-2)
+    (tie.spec (λ c. search needs) (λ c κs. search needs) (λ c κs. search needs) (λ c κs. search needs)
+    (λ c κs. search needs) (λ c κs. search needs) (λ c. search needs) (λ c. search needs) (λ c. search needs)
+    (λ c κs. search needs) (λ c. search needs) array-share-prefix-buf slice-aggregate-text (λ c κs. search needs)
+    (λ c. search needs) (λ c κs. search needs) (λ c. search needs) (λ c. search needs))

@@ -8,14 +8,6 @@ use Rattle.test_report.proofs.print_first.Tie as tie
 slice-aggregate-text : tie.Need-slice-aggregate-text
 slice-aggregate-text c = simp length-take (omega arith)
 
-text-requires : tie.Need-text-requires
-text-requires c κs = search needs
-
-returns : tie.Need-returns
-returns c = search needs
-
-returns-2 : tie.Need-returns-2
-returns-2 c = search needs
-
 pub print-first-spec : {M : Type 1} → statement M
-print-first-spec = tie.close (tie.spec slice-aggregate-text text-requires returns returns-2)
+print-first-spec = tie.close (tie.spec slice-aggregate-text (λ c κs. search needs) (λ c. search needs)
+    (λ c. search needs))

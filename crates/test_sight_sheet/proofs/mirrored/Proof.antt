@@ -10,23 +10,6 @@ Inv-loop rings n k most m j₀ j = j ≤ m
 abbrev μ-loop : tie.MeasureT-loop
 μ-loop rings n k most m j₀ j = m - j
 
-loop-holds : tie.Need-loop-holds Inv-loop μ-loop
-loop-holds c = search needs
-
-behind-requires : tie.Need-behind-requires Inv-loop μ-loop
-behind-requires c κs = search needs
-
-add-j : tie.Need-add-j Inv-loop μ-loop
-add-j c = search needs
-
-loop-less : tie.Need-loop-less Inv-loop μ-loop
-loop-less c = search needs
-
-loop-again : tie.Need-loop-again Inv-loop μ-loop
-loop-again c = search needs
-
-returns : tie.Need-returns Inv-loop μ-loop
-returns c = search needs
-
 pub mirrored-spec : {M : Type 1} → statement M
-mirrored-spec = tie.close (tie.spec Inv-loop μ-loop loop-holds behind-requires add-j loop-less loop-again returns)
+mirrored-spec = tie.close (tie.spec Inv-loop μ-loop (λ c. search needs) (λ c κs. search needs) (λ c. search needs)
+    (λ c. search needs) (λ c. search needs) (λ c. search needs))

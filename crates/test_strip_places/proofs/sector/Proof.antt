@@ -5,17 +5,9 @@ use borrow.Author.Needs.{needs}
 use Rattle.test_strip_places.proofs.sector.Statement.{statement}
 use Rattle.test_strip_places.proofs.sector.Tie as tie
 
-returns : tie.Need-returns
-returns c = search needs
-
-rem-result : tie.Need-rem-result
-rem-result c = search needs
-
 shared-slice-read-result : tie.Need-shared-slice-read-result
 shared-slice-read-result c = mod-lt (c .before .before .args .p) (omega arith)
 
-returns-2 : tie.Need-returns-2
-returns-2 c = search needs
-
 pub sector-spec : {M : Type 1} → statement M
-sector-spec = tie.close (tie.spec returns rem-result shared-slice-read-result returns-2)
+sector-spec = tie.close (tie.spec (λ c. search needs) (λ c. search needs) shared-slice-read-result
+    (λ c. search needs))

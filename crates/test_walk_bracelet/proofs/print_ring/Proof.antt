@@ -12,16 +12,8 @@ array-share-prefix-ring c = let l : length (c .before .before .args .w .ring) �
 slice-aggregate-sectors : tie.Need-slice-aggregate-sectors
 slice-aggregate-sectors c = let l : length (c .before .before .before .args .w .ring) ≡ 64 = search needs in simp length-take (omega arith)
 
-sectors-requires : tie.Need-sectors-requires
-sectors-requires c κs = search needs
-
-returns : tie.Need-returns
-returns c = search needs
-
-returns-2 : tie.Need-returns-2
-returns-2 c = search needs
-
 pub print-ring-spec : {M : Type 1} → statement M
 print-ring-spec =
     tie.close
-    (tie.spec array-share-prefix-ring slice-aggregate-sectors sectors-requires returns returns-2)
+    (tie.spec array-share-prefix-ring slice-aggregate-sectors (λ c κs. search needs) (λ c. search needs)
+    (λ c. search needs))

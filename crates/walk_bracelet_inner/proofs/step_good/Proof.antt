@@ -78,12 +78,5 @@ returns-2 c =
 pub step-good-spec : {M : Type 1} → statement M
 step-good-spec =
     tie.close
-    (tie.spec
-    array-borrow-prefix-ahead
-    slice-aggregate-next
-    next-requires
-    array-share-prefix-ahead
-    slice-aggregate-start-good
-    start-good-requires
-    returns
-    returns-2)
+    (tie.spec array-borrow-prefix-ahead slice-aggregate-next next-requires array-share-prefix-ahead
+    slice-aggregate-start-good start-good-requires returns returns-2)

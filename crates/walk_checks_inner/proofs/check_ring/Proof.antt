@@ -13,12 +13,6 @@ use Rattle.refusal.proofs.More.{numbers-refused, numbers-passed}
 use Rattle.walk_checks_inner.proofs.check_ring.Statement.{statement}
 use Rattle.walk_checks_inner.proofs.check_ring.Tie as tie
 
-check-numbers-requires : tie.Need-check-numbers-requires
-check-numbers-requires c κs = search needs
-
-enum-known-r : tie.Need-enum-known-r
-enum-known-r c = search needs
-
 enum-told : tie.Need-enum-told
 enum-told c = search needs
 
@@ -37,9 +31,6 @@ slice-aggregate-first-bad c =
     let g = numbers-passed (a .n) (a .n) (a .k) Unit (λ q. tt) (rw (c .before .enum-told .given .1) at (c .before .before .before .check-numbers .ensures)) in
     let h = g .0 .0 .1 in
     simp length-take (omega arith)
-
-first-bad-requires : tie.Need-first-bad-requires
-first-bad-requires c κs = search needs
 
 returns : tie.Need-returns
 returns c =
@@ -61,7 +52,8 @@ part-first-bad-start : tie.Need-part-first-bad-start
 part-first-bad-start c =
     let a = c .before .before .before .before .before .before .before .args in
     let l : length (a .t3) ≡ 64 = search needs in
-    let g = numbers-passed (a .n) (a .n) (a .k) Unit (λ q. tt) (rw (c .before .before .before .before .enum-told .given .1) at (c .before .before .before .before .before .before .check-numbers .ensures)) in
+    let g = numbers-passed (a .n) (a .n) (a .k) Unit (λ q. tt) (rw (c .before .before .before .before .enum-told .given .1) at
+    (c .before .before .before .before .before .before .check-numbers .ensures)) in
     let h = g .0 .0 .1 in
     omega arith
 
@@ -69,29 +61,26 @@ part-first-bad-end : tie.Need-part-first-bad-end
 part-first-bad-end c =
     let a = c .before .before .before .before .before .before .before .args in
     let l : length (a .t3) ≡ 64 = search needs in
-    let g = numbers-passed (a .n) (a .n) (a .k) Unit (λ q. tt) (rw (c .before .before .before .before .enum-told .given .1) at (c .before .before .before .before .before .before .check-numbers .ensures)) in
+    let g = numbers-passed (a .n) (a .n) (a .k) Unit (λ q. tt) (rw (c .before .before .before .before .enum-told .given .1) at
+    (c .before .before .before .before .before .before .check-numbers .ensures)) in
     let h = g .0 .0 .1 in
     omega arith
-
-first-bad-requires-2 : tie.Need-first-bad-requires-2
-first-bad-requires-2 c κs = search needs
 
 sub-if2 : tie.Need-sub-if2
 sub-if2 c =
     let a = c .before .before .before .before .before .before .before .before .before .args in
     let l : length (a .t3) ≡ 64 = search needs in
-    let g = numbers-passed (a .n) (a .n) (a .k) Unit (λ q. tt) (rw (c .before .before .before .before .before .before .enum-told .given .1) at (c .before .before .before .before .before .before .before .before .check-numbers .ensures)) in
+    let g = numbers-passed (a .n) (a .n) (a .k) Unit (λ q. tt) (rw (c .before .before .before .before .before .before .enum-told .given .1) at
+    (c .before .before .before .before .before .before .before .before .check-numbers .ensures)) in
     let h = g .0 .0 .1 in
     omega arith
-
-add-t19 : tie.Need-add-t19
-add-t19 c = search needs
 
 returns-2 : tie.Need-returns-2
 returns-2 c =
     let a = c .before .before .before .before .before .before .before .before .before .before .args in
     let l : length (a .t3) ≡ 64 = search needs in
-    let g = numbers-passed (a .n) (a .n) (a .k) Unit (λ q. tt) (rw (c .before .before .before .before .before .before .before .enum-told .given .1) at (c .before .before .before .before .before .before .before .before .before .check-numbers .ensures)) in
+    let g = numbers-passed (a .n) (a .n) (a .k) Unit (λ q. tt) (rw (c .before .before .before .before .before .before .before .enum-told .given .1) at
+    (c .before .before .before .before .before .before .before .before .before .check-numbers .ensures)) in
     let h = g .0 .0 .1 in
     let low = head-good (a .n) (a .k) (a .t3) true (omega arith) _ (c .before .before .before .before .before .first-bad .ensures) (c .before .before .before .before .if1 .left) in
     let q = take-all (64 - a .n) (drop (a .n) (a .t3)) (simp length-drop (omega arith)) in
@@ -100,13 +89,15 @@ returns-2 c =
 returns-3 : tie.Need-returns-3
 returns-3 c =
     let a = c .before .before .before .before .args in
-    inl (inl (inl (inl (numbers-refused (a .n) (a .n) (a .k) Unit (λ q. refl) (λ q. tt) (c .before .r .given .0 .0) (rw (c .before .r .given .1) at (c .before .before .before .check-numbers .ensures))))))
+    inl (inl (inl (inl (numbers-refused (a .n) (a .n) (a .k) Unit (λ q. refl) (λ q. tt) (c .before .r .given .0 .0)
+    (rw (c .before .r .given .1) at (c .before .before .before .check-numbers .ensures))))))
 
 returns-4 : tie.Need-returns-4
 returns-4 c =
     let a = c .before .before .before .before .before .before .before .before .before .before .args in
     let l : length (a .t3) ≡ 64 = search needs in
-    let g = numbers-passed (a .n) (a .n) (a .k) Unit (λ q. tt) (rw (c .before .before .before .before .before .before .before .enum-told .given .1) at (c .before .before .before .before .before .before .before .before .before .check-numbers .ensures)) in
+    let g = numbers-passed (a .n) (a .n) (a .k) Unit (λ q. tt) (rw (c .before .before .before .before .before .before .before .enum-told .given .1) at
+    (c .before .before .before .before .before .before .before .before .before .check-numbers .ensures)) in
     let h = g .0 .0 .1 in
     let low = head-good (a .n) (a .k) (a .t3) true (omega arith) _ (c .before .before .before .before .before .first-bad .ensures) (c .before .before .before .before .if1 .left) in
     let q = take-all (64 - a .n) (drop (a .n) (a .t3)) (simp length-drop (omega arith)) in
@@ -115,20 +106,6 @@ returns-4 c =
 pub check-ring-spec : {M : Type 1} → statement M
 check-ring-spec =
     tie.close
-    (tie.spec
-    check-numbers-requires
-    enum-known-r
-    enum-told
-    array-share-prefix-ring
-    slice-aggregate-first-bad
-    first-bad-requires
-    returns
-    sub-first-bad
-    part-first-bad-start
-    part-first-bad-end
-    first-bad-requires-2
-    sub-if2
-    add-t19
-    returns-2
-    returns-3
-    returns-4)
+    (tie.spec (λ c κs. search needs) (λ c. search needs) enum-told array-share-prefix-ring slice-aggregate-first-bad
+    (λ c κs. search needs) returns sub-first-bad part-first-bad-start part-first-bad-end (λ c κs. search needs)
+    sub-if2 (λ c. search needs) returns-2 returns-3 returns-4)

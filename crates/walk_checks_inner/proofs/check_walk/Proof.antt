@@ -8,12 +8,6 @@ use Rattle.walk_record_laws.proofs.Good.{on-record, off-class, off-counts}
 use Rattle.walk_checks_inner.proofs.check_walk.Statement.{statement}
 use Rattle.walk_checks_inner.proofs.check_walk.Tie as tie
 
-check-ring-requires : tie.Need-check-ring-requires
-check-ring-requires c κs = search needs
-
-enum-known-v : tie.Need-enum-known-v
-enum-known-v c = search needs
-
 enum-told : tie.Need-enum-told
 enum-told c = search needs
 
@@ -24,13 +18,11 @@ returns : tie.Need-returns
 returns c =
     let w = c .before .before .before .before .before .before .before .before .args .w in
     let f = c .before .before .on-walk in
-    off-class w (rw (c .before .before .before .enum-told .given .1) at (c .before .before .before .before .before .check-ring .ensures)) (f .result .on) (f .result .at) (f .ensures .0) (f .ensures .1) (not-true _ (c .if1 .taken))
+    off-class w (rw (c .before .before .before .enum-told .given .1) at (c .before .before .before .before .before .check-ring .ensures))
+    (f .result .on) (f .result .at) (f .ensures .0) (f .ensures .1) (not-true _ (c .if1 .taken))
 
 counts-of-requires : tie.Need-counts-of-requires
 counts-of-requires c κs = (rw (c .before .before .before .enum-told .given .1) at (c .before .before .before .before .before .check-ring .ensures)) .0 .0 .0 .0 .0 .0 .1
-
-same-counts-requires : tie.Need-same-counts-requires
-same-counts-requires c κs = search needs
 
 returns-2 : tie.Need-returns-2
 returns-2 c =
@@ -38,7 +30,9 @@ returns-2 c =
     let own = c .before .before .counts-of in
     let same = c .before .same-counts in
     let f = c .before .before .before .before .before .on-walk in
-    on-record w (rw (c .before .before .before .before .before .before .enum-told .given .1) at (c .before .before .before .before .before .before .before .before .check-ring .ensures)) (f .result .on) (f .ensures .0) (not-false _ (c .before .before .before .if1 .left)) (own .result) (same .result) (own .ensures) (same .ensures) (c .if2 .taken)
+    on-record w (rw (c .before .before .before .before .before .before .enum-told .given .1) at
+    (c .before .before .before .before .before .before .before .before .check-ring .ensures)) (f .result .on) (f .ensures .0)
+    (not-false _ (c .before .before .before .if1 .left)) (own .result) (same .result) (own .ensures) (same .ensures) (c .if2 .taken)
 
 returns-3 : tie.Need-returns-3
 returns-3 c =
@@ -51,19 +45,12 @@ returns-4 c =
     let own = c .before .before .counts-of in
     let same = c .before .same-counts in
     let f = c .before .before .before .before .before .on-walk in
-    off-counts w (rw (c .before .before .before .before .before .before .enum-told .given .1) at (c .before .before .before .before .before .before .before .before .check-ring .ensures)) (f .result .on) (f .ensures .0) (not-false _ (c .before .before .before .if1 .left)) (own .result) (same .result) (own .ensures) (same .ensures) (c .if2 .left)
+    off-counts w (rw (c .before .before .before .before .before .before .enum-told .given .1) at
+    (c .before .before .before .before .before .before .before .before .check-ring .ensures)) (f .result .on) (f .ensures .0)
+    (not-false _ (c .before .before .before .if1 .left)) (own .result) (same .result) (own .ensures) (same .ensures) (c .if2 .left)
 
 pub check-walk-spec : {M : Type 1} → statement M
 check-walk-spec =
     tie.close
-    (tie.spec
-    check-ring-requires
-    enum-known-v
-    enum-told
-    on-walk-requires
-    returns
-    counts-of-requires
-    same-counts-requires
-    returns-2
-    returns-3
-    returns-4)
+    (tie.spec (λ c κs. search needs) (λ c. search needs) enum-told on-walk-requires returns counts-of-requires
+    (λ c κs. search needs) returns-2 returns-3 returns-4)

@@ -9,20 +9,8 @@ use Rattle.walk_record_laws.proofs.Good.{off-loose, off-tag, off-value, on-clas
 use Rattle.walk_class_inner.proofs.on_walk.Statement.{statement}
 use Rattle.walk_class_inner.proofs.on_walk.Tie as tie
 
-array-share-prefix-ring : tie.Need-array-share-prefix-ring
-array-share-prefix-ring c = search needs
-
 slice-aggregate-class-of : tie.Need-slice-aggregate-class-of
 slice-aggregate-class-of c = let l : length (c .before .args .t1) ≡ 64 = search needs in simp length-take (omega arith)
-
-class-of-requires : tie.Need-class-of-requires
-class-of-requires c κs = search needs
-
-loose-place-requires : tie.Need-loose-place-requires
-loose-place-requires c κs = search needs
-
-is-loose-requires : tie.Need-is-loose-requires
-is-loose-requires c κs = search needs
 
 returns : tie.Need-returns
 unfolding lookAt
@@ -31,31 +19,25 @@ returns c =
     let f = c .before .before .before .class-of in
     (off-loose (take (a .n) (a .t1)) (a .class) (f .result) (f .ensures) (sym (c .before .is-loose .ensures) ∙ c .if1 .taken), c .before .before .loose-place .ensures ∙ ap loosePlace (f .ensures))
 
-tag-requires : tie.Need-tag-requires
-tag-requires c κs = search needs
-
-tag-requires-2 : tie.Need-tag-requires-2
-tag-requires-2 c κs = search needs
-
 returns-2 : tie.Need-returns-2
 unfolding lookAt
 returns-2 c =
     let a = c .before .before .before .before .before .before .before .before .args in
-    let f = c .before .before .before .before .before .before .class-of in
-    (off-tag (take (a .n) (a .t1)) (a .class) (f .result) (f .ensures) (λ e. c .if2 .taken (c .before .before .tag .ensures ∙ e ∙ sym (c .before .tag2 .ensures))), c .before .before .before .before .before .loose-place .ensures ∙ ap loosePlace (f .ensures))
-
-value-requires : tie.Need-value-requires
-value-requires c κs = search needs
-
-value-requires-2 : tie.Need-value-requires-2
-value-requires-2 c κs = search needs
+    let f = c .before .before .before .before .before .before .class-of in (
+      off-tag (take (a .n) (a .t1)) (a .class) (f .result) (f .ensures)
+          (λ e. c .if2 .taken (c .before .before .tag .ensures ∙ e ∙ sym (c .before .tag2 .ensures))),
+      c .before .before .before .before .before .loose-place .ensures ∙ ap loosePlace (f .ensures),
+    )
 
 returns-3 : tie.Need-returns-3
 unfolding lookAt
 returns-3 c =
     let a = c .before .before .before .before .before .before .before .before .before .before .before .args in
-    let f = c .before .before .before .before .before .before .before .before .before .class-of in
-    (off-value (take (a .n) (a .t1)) (a .class) (f .result) (f .ensures) (λ e. c .if3 .taken (c .before .before .value .ensures ∙ e ∙ sym (c .before .value2 .ensures))), c .before .before .before .before .before .before .before .before .loose-place .ensures ∙ ap loosePlace (f .ensures))
+    let f = c .before .before .before .before .before .before .before .before .before .class-of in (
+      off-value (take (a .n) (a .t1)) (a .class) (f .result) (f .ensures)
+          (λ e. c .if3 .taken (c .before .before .value .ensures ∙ e ∙ sym (c .before .value2 .ensures))),
+      c .before .before .before .before .before .before .before .before .loose-place .ensures ∙ ap loosePlace (f .ensures),
+    )
 
 returns-4 : tie.Need-returns-4
 unfolding lookAt
@@ -72,17 +54,6 @@ returns-4 c =
 pub on-walk-spec : {M : Type 1} → statement M
 on-walk-spec =
     tie.close
-    (tie.spec
-    array-share-prefix-ring
-    slice-aggregate-class-of
-    class-of-requires
-    loose-place-requires
-    is-loose-requires
-    returns
-    tag-requires
-    tag-requires-2
-    returns-2
-    value-requires
-    value-requires-2
-    returns-3
-    returns-4)
+    (tie.spec (λ c. search needs) slice-aggregate-class-of (λ c κs. search needs) (λ c κs. search needs)
+    (λ c κs. search needs) returns (λ c κs. search needs) (λ c κs. search needs) returns-2 (λ c κs. search needs)
+    (λ c κs. search needs) returns-3 returns-4)

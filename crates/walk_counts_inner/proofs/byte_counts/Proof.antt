@@ -18,15 +18,6 @@ abbrev μ-loop : tie.MeasureT-loop
 loop-holds : tie.Need-loop-holds Inv-loop μ-loop
 loop-holds c = (omega arith, count-start 256 (c .args .t1))
 
-array-read-index : tie.Need-array-read-index Inv-loop μ-loop
-array-read-index c = search needs
-
-index-requires : tie.Need-index-requires Inv-loop μ-loop
-index-requires c κs = search needs
-
-array-read-counts : tie.Need-array-read-counts Inv-loop μ-loop
-array-read-counts c = search needs
-
 add-counts : tie.Need-add-counts Inv-loop μ-loop
 add-counts c =
     let l = c .before .before .loop in
@@ -42,15 +33,6 @@ add-counts c =
       length-take-le (l .at) ring
           (omega (arith, c .before .before .before .pre)),
     )
-
-array-write-counts : tie.Need-array-write-counts Inv-loop μ-loop
-array-write-counts c = search needs
-
-add-at : tie.Need-add-at Inv-loop μ-loop
-add-at c = search needs
-
-loop-less : tie.Need-loop-less Inv-loop μ-loop
-loop-less c = search needs
 
 loop-again : tie.Need-loop-again Inv-loop μ-loop
 loop-again c =
@@ -68,5 +50,5 @@ returns c =
 
 pub byte-counts-spec : {M : Type 1} → statement M
 byte-counts-spec =
-    tie.close (tie.spec Inv-loop μ-loop loop-holds array-read-index index-requires array-read-counts add-counts array-write-counts add-at loop-less loop-again
-    returns)
+    tie.close (tie.spec Inv-loop μ-loop loop-holds (λ c. search needs) (λ c κs. search needs) (λ c. search needs)
+    add-counts (λ c. search needs) (λ c. search needs) (λ c. search needs) loop-again returns)

@@ -13,23 +13,8 @@ Inv-loop n all counts₀ b₀ counts b = (b ≤ 16) × Copying all counts b
 abbrev μ-loop : tie.MeasureT-loop
 μ-loop n all counts₀ b₀ counts b = 16 - b
 
-byte-counts-requires : tie.Need-byte-counts-requires Inv-loop μ-loop
-byte-counts-requires c κs = search needs
-
 loop-holds : tie.Need-loop-holds Inv-loop μ-loop
 loop-holds c = (omega arith, copy-start (c .byte-counts .result))
-
-array-read-counts : tie.Need-array-read-counts Inv-loop μ-loop
-array-read-counts c = search needs
-
-array-write-counts : tie.Need-array-write-counts Inv-loop μ-loop
-array-write-counts c = search needs
-
-add-b : tie.Need-add-b Inv-loop μ-loop
-add-b c = search needs
-
-loop-less : tie.Need-loop-less Inv-loop μ-loop
-loop-less c = search needs
 
 loop-again : tie.Need-loop-again Inv-loop μ-loop
 loop-again c = let l = c .before .loop in (omega arith, copy-more (c .before .before .byte-counts .result) (l .counts) (l .b) (c .loop-test .taken) (l .inv .1))
@@ -42,4 +27,5 @@ returns c =
     (c .loop-test .left)
 
 pub counts-of-spec : {M : Type 1} → statement M
-counts-of-spec = tie.close (tie.spec Inv-loop μ-loop byte-counts-requires loop-holds array-read-counts array-write-counts add-b loop-less loop-again returns)
+counts-of-spec = tie.close (tie.spec Inv-loop μ-loop (λ c κs. search needs) loop-holds (λ c. search needs)
+    (λ c. search needs) (λ c. search needs) (λ c. search needs) loop-again returns)

@@ -19,21 +19,6 @@ loop-holds : tie.Need-loop-holds Inv-loop μ-loop
 unfolding allBelow
 loop-holds c = (omega arith, refl)
 
-array-read-still : tie.Need-array-read-still Inv-loop μ-loop
-array-read-still c = search needs
-
-array-read-still-2 : tie.Need-array-read-still-2 Inv-loop μ-loop
-array-read-still-2 c = search needs
-
-still-requires : tie.Need-still-requires Inv-loop μ-loop
-still-requires c κs = search needs
-
-add-i : tie.Need-add-i Inv-loop μ-loop
-add-i c = search needs
-
-loop-less : tie.Need-loop-less Inv-loop μ-loop
-loop-less c = search needs
-
 loop-again : tie.Need-loop-again Inv-loop μ-loop
 loop-again c =
     let a = c .before .before .before .args in
@@ -50,4 +35,5 @@ returns c =
     l .inv .1 ∙ ap (λ (j : ℕ). allBelow j (alikeAt (a .t1) (a .t2))) e ∙ same-all (a .t1) (a .t2) (x ∙ sym y)
 
 pub same-counts-spec : {M : Type 1} → statement M
-same-counts-spec = tie.close (tie.spec Inv-loop μ-loop loop-holds array-read-still array-read-still-2 still-requires add-i loop-less loop-again returns)
+same-counts-spec = tie.close (tie.spec Inv-loop μ-loop loop-holds (λ c. search needs) (λ c. search needs)
+    (λ c κs. search needs) (λ c. search needs) (λ c. search needs) loop-again returns)

@@ -17,9 +17,6 @@ abbrev μ-loop : tie.MeasureT-loop
 loop-holds : tie.Need-loop-holds Inv-loop μ-loop
 loop-holds c = stands-start _ _ _ (c .before .pre)
 
-last-low-requires : tie.Need-last-low-requires Inv-loop μ-loop
-last-low-requires c κs = search needs
-
 same-length : tie.Need-same-length Inv-loop μ-loop
 same-length c = c .before .before .before .loop .inv .walked .long
 
@@ -42,7 +39,13 @@ raise-requires c κs =
     (z, q .0, q .1)
 
 add-moves : tie.Need-add-moves Inv-loop μ-loop
-add-moves c = omega (arith, c .before .before .before .before .before .before .before .loop .inv .few, c .before .before .before .before .before .before .before .loop .inv .short, c .before .before .before .before .before .before .before .before .before .pre .fits)
+add-moves c =
+    omega (
+      arith,
+      c .before .before .before .before .before .before .before .loop .inv .few,
+      c .before .before .before .before .before .before .before .loop .inv .short,
+      c .before .before .before .before .before .before .before .before .before .pre .fits,
+    )
 
 of-kind-requires : tie.Need-of-kind-requires Inv-loop μ-loop
 of-kind-requires c κs =
@@ -51,7 +54,13 @@ of-kind-requires c κs =
     let a = g .args in
     let i = c .before .before .before .before .before .last-low in
     let z : 0 < i .result = omega (arith, c .before .before .before .before .if1 .left) in
-    omega (arith, stands-low (a .kind) (a .k) (a .ring .now) (g .pre) (l .ring) (l .lyn) (l .moves) (i .result) (l .inv) (i .ensures) z .0, moved-long (a .kind) (a .k) (a .ring .now) (g .pre) (l .ring) (l .lyn) (l .moves) (i .result) (l .inv) (i .ensures) z _ (c .before .before .raise .ensures))
+    omega (
+      arith,
+      stands-low (a .kind) (a .k) (a .ring .now) (g .pre) (l .ring) (l .lyn) (l .moves) (i .result) (l .inv) (i .ensures) z .0,
+      moved-long
+          (a .kind) (a .k) (a .ring .now) (g .pre) (l .ring) (l .lyn) (l .moves) (i .result) (l .inv) (i .ensures) z _
+          (c .before .before .raise .ensures),
+    )
 
 same-length-2 : tie.Need-same-length-2 Inv-loop μ-loop
 same-length-2 c =
@@ -69,7 +78,8 @@ returns-2 c =
     let a = g .args in
     let i = c .before .before .before .before .before .before .before .last-low in
     let z : 0 < i .result = omega (arith, c .before .before .before .before .before .before .if1 .left) in
-    stands-found (a .kind) (a .k) (a .ring .now) (g .pre) (l .ring) (l .lyn) (l .moves) (i .result) (l .inv) (i .ensures) z _ (c .before .before .before .before .raise .ensures) (sym (c .before .of-kind .ensures) ∙ c .if2 .taken)
+    stands-found (a .kind) (a .k) (a .ring .now) (g .pre) (l .ring) (l .lyn) (l .moves) (i .result) (l .inv) (i .ensures) z _
+    (c .before .before .before .before .raise .ensures) (sym (c .before .of-kind .ensures) ∙ c .if2 .taken)
 
 loop-less : tie.Need-loop-less Inv-loop μ-loop
 loop-less c =
@@ -87,22 +97,11 @@ loop-again c =
     let a = g .args in
     let i = c .before .before .before .before .before .before .before .last-low in
     let z : 0 < i .result = omega (arith, c .before .before .before .before .before .before .if1 .left) in
-    stands-on (a .kind) (a .k) (a .ring .now) (g .pre) (l .ring) (l .lyn) (l .moves) (i .result) (l .inv) (i .ensures) z _ (c .before .before .before .before .raise .ensures) (sym (c .before .of-kind .ensures) ∙ c .if2 .left)
+    stands-on (a .kind) (a .k) (a .ring .now) (g .pre) (l .ring) (l .lyn) (l .moves) (i .result) (l .inv) (i .ensures) z _
+    (c .before .before .before .before .raise .ensures) (sym (c .before .of-kind .ensures) ∙ c .if2 .left)
 
 pub advance-spec : {M : Type 1} → statement M
 advance-spec =
     tie.close
-    (tie.spec
-    Inv-loop
-    μ-loop
-    loop-holds
-    last-low-requires
-    same-length
-    returns
-    raise-requires
-    add-moves
-    of-kind-requires
-    same-length-2
-    returns-2
-    loop-less
-    loop-again)
+    (tie.spec Inv-loop μ-loop loop-holds (λ c κs. search needs) same-length returns raise-requires add-moves
+    of-kind-requires same-length-2 returns-2 loop-less loop-again)

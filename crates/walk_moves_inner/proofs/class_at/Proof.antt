@@ -7,9 +7,6 @@ use Rattle.walk_moves_inner.proofs.class_at.Tie as tie
 returns : tie.Need-returns
 returns c = at-single _ _ (c .if1 .taken)
 
-rem-if2 : tie.Need-rem-if2
-rem-if2 c = search needs
-
 returns-2 : tie.Need-returns-2
 returns-2 c = at-repeating _ _ (c .before .if1 .left) (c .if2 .taken)
 
@@ -17,4 +14,4 @@ returns-3 : tie.Need-returns-3
 returns-3 c = at-opening _ _ (c .before .if1 .left) (c .if2 .left)
 
 pub class-at-spec : {M : Type 1} → statement M
-class-at-spec = tie.close (tie.spec returns rem-if2 returns-2 returns-3)
+class-at-spec = tie.close (tie.spec returns (λ c. search needs) returns-2 returns-3)

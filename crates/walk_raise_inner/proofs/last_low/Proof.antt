@@ -20,12 +20,6 @@ returns c = over-empty (c .before .before .args .k) (c .before .before .args .s 
 returns-2 : tie.Need-returns-2 Inv-loop μ-loop
 returns-2 c = over-shadeless (c .before .before .before .args .k) (c .before .before .before .args .s .now) (c .if2 .taken)
 
-shared-slice-read-wide : tie.Need-shared-slice-read-wide Inv-loop μ-loop
-shared-slice-read-wide c = search needs
-
-wide-requires : tie.Need-wide-requires Inv-loop μ-loop
-wide-requires c κs = search needs
-
 returns-3 : tie.Need-returns-3 Inv-loop μ-loop
 returns-3 c =
     let a = c .before .before .before .before .before .before .args in
@@ -38,26 +32,11 @@ loop-holds c =
     let s = a .s .now in
     (omega arith, over-more (a .k) s (length s) (omega arith) (over-start (a .k) s) (omega (arith, c .before .wide .ensures, c .if3 .left)))
 
-sub-wide : tie.Need-sub-wide Inv-loop μ-loop
-sub-wide c = search needs
-
-shared-slice-read-wide-2 : tie.Need-shared-slice-read-wide-2 Inv-loop μ-loop
-shared-slice-read-wide-2 c = search needs
-
-wide-requires-2 : tie.Need-wide-requires-2 Inv-loop μ-loop
-wide-requires-2 c κs = search needs
-
 returns-4 : tie.Need-returns-4 Inv-loop μ-loop
 returns-4 c =
     let a = c .before .before .before .before .before .before .before .before .before .before .before .args in
     let l = c .before .before .before .before .loop in
     over-found (a .k) (a .s .now) (l .i) (c .before .before .before .loop-test .taken) (l .inv .0) (l .inv .1) (omega (arith, c .before .wide2 .ensures, c .if4 .taken))
-
-sub-i : tie.Need-sub-i Inv-loop μ-loop
-sub-i c = search needs
-
-loop-less : tie.Need-loop-less Inv-loop μ-loop
-loop-less c = search needs
 
 loop-again : tie.Need-loop-again Inv-loop μ-loop
 loop-again c =
@@ -75,20 +54,6 @@ returns-5 c =
 pub last-low-spec : {M : Type 1} → statement M
 last-low-spec =
     tie.close
-    (tie.spec
-    Inv-loop
-    μ-loop
-    returns
-    returns-2
-    shared-slice-read-wide
-    wide-requires
-    returns-3
-    loop-holds
-    sub-wide
-    shared-slice-read-wide-2
-    wide-requires-2
-    returns-4
-    sub-i
-    loop-less
-    loop-again
-    returns-5)
+    (tie.spec Inv-loop μ-loop returns returns-2 (λ c. search needs) (λ c κs. search needs) returns-3 loop-holds
+    (λ c. search needs) (λ c. search needs) (λ c κs. search needs) returns-4 (λ c. search needs) (λ c. search needs)
+    loop-again returns-5)

@@ -16,32 +16,31 @@ Inv-loop s₀ i from₀ m₀ s from m = Copied s₀ s i m × (from ≡ m % i)
 abbrev μ-loop : tie.MeasureT-loop
 μ-loop s₀ i from₀ m₀ s from m = length s₀ - m
 
-sub-s : tie.Need-sub-s Inv-loop μ-loop
-sub-s c = search needs
-
-slice-read-s : tie.Need-slice-read-s Inv-loop μ-loop
-slice-read-s c = search needs
-
-add-s : tie.Need-add-s Inv-loop μ-loop
-add-s c = search needs
-
-slice-write-s : tie.Need-slice-write-s Inv-loop μ-loop
-slice-write-s c = search needs
-
 loop-holds : tie.Need-loop-holds Inv-loop μ-loop
 loop-holds c = (copied-start _ _ (simp length-set (omega arith)), sym (mod-self (c .before .args .i)))
 
 slice-read-copy : tie.Need-slice-read-copy Inv-loop μ-loop
-slice-read-copy c = omega (arith, round-in (c .before .before .before .before .args .i) (c .before .before .loop .m) (c .before .before .loop .from) (c .before .before .before .before .pre .0) (c .before .before .loop .inv .1), c .before .before .loop .inv .0 .from)
-
-slice-write-s-2 : tie.Need-slice-write-s-2 Inv-loop μ-loop
-slice-write-s-2 c = search needs
+slice-read-copy c =
+    omega (
+      arith,
+      round-in (c .before .before .before .before .args .i) (c .before .before .loop .m) (c .before .before .loop .from)
+          (c .before .before .before .before .pre .0) (c .before .before .loop .inv .1),
+      c .before .before .loop .inv .0 .from,
+    )
 
 add-m : tie.Need-add-m Inv-loop μ-loop
 add-m c = omega (arith, simp length-set at (c .before .before .loop .inv .0 .long))
 
 add-from : tie.Need-add-from Inv-loop μ-loop
-add-from c = omega (arith, round-in (c .before .before .before .before .args .i) (c .before .before .loop .m) (c .before .before .loop .from) (c .before .before .before .before .pre .0) (c .before .before .loop .inv .1), c .before .before .loop .inv .0 .from, simp length-set at (c .before .before .loop .inv .0 .long))
+add-from c =
+    omega (
+      arith,
+      round-in (c .before .before .before .before .args .i) (c .before .before .loop .m) (c .before .before .loop .from)
+          (c .before .before .before .before .pre .0) (c .before .before .loop .inv .1),
+      c .before .before .loop .inv .0 .from,
+      simp length-set at
+          (c .before .before .loop .inv .0 .long),
+    )
 
 loop-less : tie.Need-loop-less Inv-loop μ-loop
 loop-less c = omega (arith, c .before .before .before .loop .inv .0 .long, c .before .before .loop-test .taken)
@@ -70,21 +69,6 @@ returns c = copied-end (c .before .before .before .args .s .now) _ _ _ (c .befor
 pub raise-spec : {M : Type 1} → statement M
 raise-spec =
     tie.close
-    (tie.spec
-    Inv-loop
-    μ-loop
-    sub-s
-    slice-read-s
-    add-s
-    slice-write-s
-    loop-holds
-    slice-read-copy
-    slice-write-s-2
-    add-m
-    add-from
-    loop-less
-    loop-again
-    loop-less-2
-    loop-again-2
-    same-length
-    returns)
+    (tie.spec Inv-loop μ-loop (λ c. search needs) (λ c. search needs) (λ c. search needs) (λ c. search needs)
+    loop-holds slice-read-copy (λ c. search needs) add-m add-from loop-less loop-again loop-less-2 loop-again-2
+    same-length returns)

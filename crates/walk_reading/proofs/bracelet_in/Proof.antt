@@ -6,23 +6,11 @@ use borrow.Author.Needs.{needs}
 use Rattle.walk_reading.proofs.bracelet_in.Statement.{statement}
 use Rattle.walk_reading.proofs.bracelet_in.Tie as tie
 
-copy-requires : tie.Need-copy-requires
-copy-requires c κs = search needs
-
 next-requires : tie.Need-next-requires
 next-requires c κs =
     let g = c .before .before .before .before .before .before .before .before in
     let e = copied (g .args .reading .now) (g .args .ring .now) _ (c .before .before .before .copy .ensures .1) (g .pre .1) in
     rw e (passed-bytes (g .args .reading .now) (g .args .k) (length (g .args .out .now)) (g .pre .0))
-
-copy-requires-2 : tie.Need-copy-requires-2
-copy-requires-2 c κs = search needs
-
-same-length : tie.Need-same-length
-same-length c = search needs
-
-same-length-2 : tie.Need-same-length-2
-same-length-2 c = search needs
 
 returns : tie.Need-returns
 returns c =
@@ -33,9 +21,6 @@ returns c =
     (rw (c .before .before .before .before .before .if1 .taken) at (c .before .before .before .before .before .before .before .before .next .ensures))
     (c .before .before .copy2 .ensures .1)
 
-same-length-3 : tie.Need-same-length-3
-same-length-3 c = search needs
-
 returns-2 : tie.Need-returns-2
 returns-2 c =
     let g = c .before .before .before .before .before .before .before .before .before .before .before .before in
@@ -43,4 +28,5 @@ returns-2 c =
     bracelet-done (g .args .reading .now) (g .args .k) (g .args .out .now) _ (g .pre .0) e (rw (c .if1 .left) at (c .before .before .before .next .ensures))
 
 pub bracelet-in-spec : {M : Type 1} → statement M
-bracelet-in-spec = tie.close (tie.spec copy-requires next-requires copy-requires-2 same-length same-length-2 returns same-length-3 returns-2)
+bracelet-in-spec = tie.close (tie.spec (λ c κs. search needs) next-requires (λ c κs. search needs) (λ c. search needs)
+    (λ c. search needs) returns (λ c. search needs) returns-2)

@@ -5,23 +5,8 @@ use borrow.Author.Needs.{needs}
 use Rattle.walk_reading.proofs.check_step.Statement.{statement}
 use Rattle.walk_reading.proofs.check_step.Tie as tie
 
-check-room-requires : tie.Need-check-room-requires
-check-room-requires c κs = search needs
-
-enum-known-r : tie.Need-enum-known-r
-enum-known-r c = search needs
-
 enum-told : tie.Need-enum-told
 enum-told c = search needs
-
-class-of-requires : tie.Need-class-of-requires
-class-of-requires c κs = search needs
-
-is-loose-requires : tie.Need-is-loose-requires
-is-loose-requires c κs = search needs
-
-loose-place-requires : tie.Need-loose-place-requires
-loose-place-requires c κs = search needs
 
 returns : tie.Need-returns
 returns c =
@@ -44,4 +29,5 @@ returns-3 c =
     (sym (c .before .is-loose .ensures) ∙ c .if1 .left)
 
 pub check-step-spec : {M : Type 1} → statement M
-check-step-spec = tie.close (tie.spec check-room-requires enum-known-r enum-told class-of-requires is-loose-requires loose-place-requires returns returns-2 returns-3)
+check-step-spec = tie.close (tie.spec (λ c κs. search needs) (λ c. search needs) enum-told (λ c κs. search needs)
+    (λ c κs. search needs) (λ c κs. search needs) returns returns-2 returns-3)

@@ -4,15 +4,9 @@ use borrow.Author.Needs.{needs}
 use Rattle.walk_reading.proofs.next_necklace.Statement.{statement}
 use Rattle.walk_reading.proofs.next_necklace.Tie as tie
 
-step-requires : tie.Need-step-requires
-step-requires c κs = search needs
-
-same-length : tie.Need-same-length
-same-length c = search needs
-
 returns : tie.Need-returns
 unfolding kindOf
 returns c = c .before .before .step .ensures
 
 pub next-necklace-spec : {M : Type 1} → statement M
-next-necklace-spec = tie.close (tie.spec step-requires same-length returns)
+next-necklace-spec = tie.close (tie.spec (λ c κs. search needs) (λ c. search needs) returns)

@@ -9,17 +9,11 @@ use borrow.Author.Needs.{needs}
 use Rattle.walk_reading.proofs.step_in.Statement.{statement}
 use Rattle.walk_reading.proofs.step_in.Tie as tie
 
-copy-requires : tie.Need-copy-requires
-copy-requires c κs = search needs
-
 advance-requires : tie.Need-advance-requires
 advance-requires c κs =
     let g = c .before .before .before .before .before .before .before .before in
     let e = copied (g .args .reading .now) (g .args .ring .now) _ (c .before .before .before .copy .ensures .1) (g .pre .1) in
     rw e (passed-ready (g .args .reading .now) (g .args .k) (length (g .args .out .now)) (g .pre .0))
-
-same-length : tie.Need-same-length
-same-length c = search needs
 
 returns : tie.Need-returns
 returns c =
@@ -27,15 +21,6 @@ returns c =
     let step = c .before .before .before .before .advance in
     let e = copied (g .args .reading .now) (g .args .ring .now) _ (c .before .before .before .before .before .before .before .before .copy .ensures .1) (g .pre .1) in
     step-done (g .args .reading .now) (g .args .k) (g .args .out .now) _ (g .pre .0) e (kindOf (g .args .kind)) (step .result .moves) (step .ensures .done (c .if1 .taken))
-
-copy-requires-2 : tie.Need-copy-requires-2
-copy-requires-2 c κs = search needs
-
-same-length-2 : tie.Need-same-length-2
-same-length-2 c = search needs
-
-same-length-3 : tie.Need-same-length-3
-same-length-3 c = search needs
 
 returns-2 : tie.Need-returns-2
 returns-2 c =
@@ -49,4 +34,5 @@ returns-2 c =
     (c .before .before .copy2 .ensures .1)
 
 pub step-in-spec : {M : Type 1} → statement M
-step-in-spec = tie.close (tie.spec copy-requires advance-requires same-length returns copy-requires-2 same-length-2 same-length-3 returns-2)
+step-in-spec = tie.close (tie.spec (λ c κs. search needs) advance-requires (λ c. search needs) returns
+    (λ c κs. search needs) (λ c. search needs) (λ c. search needs) returns-2)

@@ -4,14 +4,8 @@ use borrow.Author.Needs.{needs}
 use Rattle.walk_start_inner.proofs.lay_out.Statement.{statement}
 use Rattle.walk_start_inner.proofs.lay_out.Tie as tie
 
-slice-aggregate-copy : tie.Need-slice-aggregate-copy
-slice-aggregate-copy c = search needs
-
-copy-requires : tie.Need-copy-requires
-copy-requires c κs = search needs
-
 returns : tie.Need-returns
 returns c = laid (c .before .before .before .before .args .s .now) _ 64 (c .before .copy .ensures .1)
 
 pub lay-out-spec : {M : Type 1} → statement M
-lay-out-spec = tie.close (tie.spec slice-aggregate-copy copy-requires returns)
+lay-out-spec = tie.close (tie.spec (λ c. search needs) (λ c κs. search needs) returns)

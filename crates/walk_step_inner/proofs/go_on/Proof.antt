@@ -8,21 +8,12 @@ use Rattle.walk_record_laws.proofs.Good.{went-period}
 use Rattle.walk_step_inner.proofs.go_on.Statement.{statement}
 use Rattle.walk_step_inner.proofs.go_on.Tie as tie
 
-advance-requires : tie.Need-advance-requires
-advance-requires c κs = search needs
-
-same-length : tie.Need-same-length
-same-length c = search needs
-
 returns : tie.Need-returns
 unfolding kindOf
 returns c =
     let f = c .before .before .before .before .advance .ensures in
     let d = f .done (c .if1 .taken) in
     (d .0, d .1, f .kept (c .if1 .taken) refl)
-
-same-length-2 : tie.Need-same-length-2
-same-length-2 c = search needs
 
 returns-2 : tie.Need-returns-2
 unfolding kindOf
@@ -33,4 +24,4 @@ returns-2 c =
     (f .next z, f .moved z, went-period (a .k) (a .ring .now) _ _ (c .before .before .before .before .before .before .before .pre .pos) (f .next z) (f .lyn-of z))
 
 pub go-on-spec : {M : Type 1} → statement M
-go-on-spec = tie.close (tie.spec advance-requires same-length returns same-length-2 returns-2)
+go-on-spec = tie.close (tie.spec (λ c κs. search needs) (λ c. search needs) returns (λ c. search needs) returns-2)

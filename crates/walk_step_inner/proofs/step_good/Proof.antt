@@ -25,9 +25,6 @@ returns c =
     let d = c .before .before .before .before .advance .ensures .done (c .if1 .taken) in
     record { good = c .before .before .before .before .before .before .before .pre; next = d .0; handed = refl; counted = d .1 }
 
-class-at-requires : tie.Need-class-at-requires
-class-at-requires c κs = search needs
-
 returns-2 : tie.Need-returns-2
 returns-2 c =
     let g = c .before .before .before .before .before .before .before .before in
@@ -45,4 +42,5 @@ returns-2 c =
     }
 
 pub step-good-spec : {M : Type 1} → statement M
-step-good-spec = tie.close (tie.spec array-borrow-prefix-next slice-aggregate-advance advance-requires counts-of-requires returns class-at-requires returns-2)
+step-good-spec = tie.close (tie.spec array-borrow-prefix-next slice-aggregate-advance advance-requires
+    counts-of-requires returns (λ c κs. search needs) returns-2)

@@ -1,7 +1,0 @@
-// The program read itself, with a long catalogue whose damage stands behind good records, and good ones behind that.
-
-use files_spec::Job;
-
-fn main() {
-    files_program_inner::run(Job::Read);
-}
