@@ -1,7 +1,8 @@
 -- The verb of a word, name after name.
 --     named-yes, named-no              by the test of one name
 --     about-1 .. about-none, ..        each group
---     orElse-known, orElse-unknown     group after group
+--     found-here, found-later          group after group
+--     verb-about, verb-both, verb-count, verb-camera    by the group in which it is found
 use Prim.Native.Nat.{ℕ}
 use mathlib.Core.Path.{_≡_, refl, sym, ap, _∙_}
 use mathlib.Core.Bool.{Bool, true, false, false≢true}
@@ -11,10 +12,10 @@ use Rattle.text_spec.specs.Ascii.{ascii}
 use Rattle.desk_spec.specs.declared.About.the-variants.{Class, Home, Even, Place}
 use Rattle.desk_spec.specs.declared.Both.the-variants.{Same, Apart}
 use Rattle.desk_spec.specs.declared.Verb.{Verb}
-use Rattle.desk_spec.specs.declared.Verb.the-variants.{About, Both, Many, Stock}
+use Rattle.desk_spec.specs.declared.Verb.the-variants.{About, Both, Many, Stock, Sight}
 use Rattle.desk_spec.specs.declared.Found.{Found}
 use Rattle.desk_spec.specs.declared.Found.the-variants.{Known, Unknown}
-use Rattle.desk_spec.specs.Verbs.{named, orElse, isKnown, aboutOf, bothOf, countOf, verbOf}
+use Rattle.desk_spec.specs.Verbs.{named, orElse, isKnown, aboutOf, bothOf, countOf, cameraOf, verbOf}
 
 named-yes : (t name : List ℕ) (v : Verb) (next : Found) → same t name ≡ true → Known v ≡ named t name v next
 named-yes t name v next e = sym (ap (λ (b : Bool). elim b [ true ↦ Known v | false ↦ next ]) e)
@@ -74,6 +75,14 @@ module _ (t : List ℕ) where
     unfolding countOf
     count-none e = named-no t (ascii "stock") Stock Unknown e ∙ named-no t (ascii "many") Many _ a
 
+  pub camera-1 : same t (ascii "sight") ≡ true → Known Sight ≡ cameraOf t
+  unfolding cameraOf
+  camera-1 e = named-yes t (ascii "sight") Sight _ e
+
+  pub camera-none : same t (ascii "sight") ≡ false → Unknown ≡ cameraOf t
+  unfolding cameraOf
+  camera-none e = named-no t (ascii "sight") Sight Unknown e
+
 -- group after group
 or-known : (f next : Found) → isKnown f ≡ true → f ≡ orElse f next
 or-known (Known v) next e = refl
@@ -83,25 +92,28 @@ or-unknown : (f next : Found) → isKnown f ≡ false → next ≡ orElse f next
 or-unknown (Known v) next e = absurd (false≢true (sym e))
 or-unknown Unknown next e = refl
 
+-- f is what a group tells
+found-here : (group f next : Found) → f ≡ group → isKnown f ≡ true → f ≡ orElse group next
+found-here group f next e k = or-known f next k ∙ ap (λ (x : Found). orElse x next) e
+
+found-later : (group f next g : Found) → f ≡ group → isKnown f ≡ false → g ≡ next → g ≡ orElse group next
+found-later group f next g e k d = d ∙ or-unknown f next k ∙ ap (λ (x : Found). orElse x next) e
+
 module _ (t : List ℕ) (f : Found) (e : f ≡ aboutOf t) where
   pub verb-about : isKnown f ≡ true → f ≡ verbOf t
   unfolding verbOf
-  verb-about k = or-known f _ k ∙ ap (λ (x : Found). orElse x (orElse (bothOf t) (countOf t))) e
+  verb-about k = found-here (aboutOf t) f _ e k
 
   module _ (n : isKnown f ≡ false) (g : Found) (d : g ≡ bothOf t) where
     pub verb-both : isKnown g ≡ true → g ≡ verbOf t
     unfolding verbOf
-    verb-both k =
-        or-known g (countOf t) k
-        ∙ ap (λ (x : Found). orElse x (countOf t)) d
-        ∙ or-unknown f (orElse (bothOf t) (countOf t)) n
-        ∙ ap (λ (x : Found). orElse x (orElse (bothOf t) (countOf t))) e
+    verb-both k = found-later (aboutOf t) f _ g e n (found-here (bothOf t) g _ d k)
 
-    pub verb-count : isKnown g ≡ false → (h : Found) → h ≡ countOf t → h ≡ verbOf t
-    unfolding verbOf
-    verb-count k h c =
-        c
-        ∙ or-unknown g (countOf t) k
-        ∙ ap (λ (x : Found). orElse x (countOf t)) d
-        ∙ or-unknown f (orElse (bothOf t) (countOf t)) n
-        ∙ ap (λ (x : Found). orElse x (orElse (bothOf t) (countOf t))) e
+    module _ (m : isKnown g ≡ false) (h : Found) (c : h ≡ countOf t) where
+      pub verb-count : isKnown h ≡ true → h ≡ verbOf t
+      unfolding verbOf
+      verb-count k = found-later (aboutOf t) f _ h e n (found-later (bothOf t) g _ h d m (found-here (countOf t) h _ c k))
+
+      pub verb-camera : isKnown h ≡ false → (x : Found) → x ≡ cameraOf t → x ≡ verbOf t
+      unfolding verbOf
+      verb-camera k x b = found-later (aboutOf t) f _ x e n (found-later (bothOf t) g _ x d m (found-later (countOf t) h _ x c k b))

@@ -8,7 +8,7 @@ ghost use Prim.Native.Nat.{_+_, _≤_};
 ghost use mathlib.Core.Path.{_≡_};
 ghost use lib.ListN.{length};
 ghost use Rattle.stream_spec.specs.Blocks.{Puts};
-ghost use Rattle.desk_spec.specs.Verbs.{isKnown, aboutOf, bothOf, countOf, verbOf};
+ghost use Rattle.desk_spec.specs.Verbs.{isKnown, aboutOf, bothOf, countOf, cameraOf, verbOf};
 ghost use Rattle.desk_spec.specs.Answers.{VerbSays, DeskAnswers};
 ghost use Rattle.desk_texts_inner.specs.Says.{deskRoom};
 
@@ -63,6 +63,15 @@ fn count_of(t: &[u8]) -> Found
     Found::Unknown
 }
 
+fn camera_of(t: &[u8]) -> Found
+    ensures { λ r. ⌜ r ≡ cameraOf (now (t .entry)) ⌝ }
+{
+    if text_spell_inner::same_text(t, b"sight") {
+        return Found::Known(Verb::Sight);
+    }
+    Found::Unknown
+}
+
 // The verb of a word.
 fn verb_of(t: &[u8]) -> Found
     ensures { λ r. ⌜ r ≡ verbOf (now (t .entry)) ⌝ }
@@ -75,7 +84,11 @@ fn verb_of(t: &[u8]) -> Found
     if is_known(b) {
         return b;
     }
-    count_of(t)
+    let c = count_of(t);
+    if is_known(c) {
+        return c;
+    }
+    camera_of(t)
 }
 
 // What the text behind a verb prints.
@@ -89,6 +102,7 @@ fn place_verb(v: Verb, t: &[u8], buf: &mut [u8], at: usize) -> usize
         Verb::Both(x) => desk_both_inner::place_both(x, t, buf, at),
         Verb::Many => desk_count_inner::place_many(t, buf, at),
         Verb::Stock => desk_count_inner::place_stock(t, buf, at),
+        Verb::Sight => desk_sight_inner::place_sight(t, buf, at),
     }
 }
 

@@ -3,6 +3,7 @@
 --     AboutSays v k w text    what a question about one reading prints
 --     BothSays v k a b text   what a question about two readings prints
 --     ManySays k n text       how many rings there are
+--     SeenSays k e ts r text  what is seen of the rings ts in the reading r
 --     VerbSays v t text       what the text t behind a verb prints
 --     longestLine             a longer line is malformed
 --     LineReads s q           the line s is a verb's name, a space, and a text
@@ -33,8 +34,9 @@ use Rattle.desk_spec.specs.declared.Verb.{Verb}
 use Rattle.desk_spec.specs.declared.Verb.the-variants as Asks
 use Rattle.desk_spec.specs.declared.Found.the-variants.{Known}
 use Rattle.desk_spec.specs.Verbs.{verbOf}
-use Rattle.desk_spec.specs.Questions.{ReadsReading, ReadsPair, ReadsNumbers, ReadsByte, Replies}
-use Rattle.desk_spec.specs.Texts.{classText, homeText, toldText, distanceText, placeText, manyText, stockText}
+use Rattle.desk_spec.specs.Questions.{ReadsReading, ReadsPair, ReadsNumbers, ReadsByte, ReadsSight, Replies}
+use Rattle.desk_spec.specs.Texts.{classText, homeText, toldText, distanceText, placeText, manyText, stockText, sightText}
+use Rattle.desk_spec.specs.Sights.{SightedSays}
 
 -- text is what an answer prints that is promised
 pub record AnswerShows {A : Type 0} (P : A → Type 0) (print : A → List ℕ) (text : List ℕ) : Type 0 where
@@ -65,6 +67,11 @@ BothSays Apart k a b text = AnswerShows (λ r. DistanceSays a b k r) distanceTex
 abbrev pub ManySays : ℕ → ℕ → List ℕ → Type 0
 ManySays k n text = AnswerShows {A = Counted × Counted} (λ x. CountSays necklace k n (x .0) × CountSays lyndon k n (x .1)) (λ x. manyText (x .0) (x .1)) text
 
+-- ---- a reading among rings
+
+abbrev pub SeenSays : ℕ → ℕ → List (List ℕ) → List ℕ → List ℕ → Type 0
+SeenSays k e ts r text = AnswerShows (λ a. SightedSays ts r k e a) sightText text
+
 -- ---- a line
 
 abbrev pub VerbSays : Verb → List ℕ → List ℕ → Type 0
@@ -72,6 +79,7 @@ VerbSays (Asks.About v) t text = Replies (ReadsReading t) (λ q. AboutSays v (q 
 VerbSays (Asks.Both v) t text = Replies (ReadsPair t) (λ q. BothSays v (q .0) (q .1) (q .2)) text
 VerbSays Asks.Many t text = Replies (ReadsNumbers t) (λ q. ManySays (q .0) (q .1)) text
 VerbSays Asks.Stock t text = Replies (ReadsByte t) (λ b x. x ≡ stockText (homeByte b)) text
+VerbSays Asks.Sight t text = Replies (ReadsSight t) (λ q. SeenSays (q .0) (q .1) (q .2) (q .3)) text
 
 abbrev pub longestLine : ℕ
 longestLine = 4095

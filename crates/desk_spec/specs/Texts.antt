@@ -8,6 +8,7 @@
 --     placeText              place 6
 --     manyText a b           6 3: the rings, and those that look different at each turn
 --     stockText b            23
+--     sightText              front 3 turned 5 misread 1; back 3 turned 5 misread 1; several; unknown
 use Prim.Native.Nat.{ℕ}
 use mathlib.Core.List.{List, [], _∷_}
 use lib.ListN.{length}
@@ -30,6 +31,8 @@ use Rattle.strip_spec.specs.declared.Position.{Position}
 use Rattle.strip_spec.specs.declared.Position.the-variants as P
 use Rattle.how_many_spec.specs.declared.Counted.{Counted}
 use Rattle.how_many_spec.specs.declared.Counted.the-variants as C
+use Rattle.sight_spec.specs.declared.Sighting.{Sighting}
+use Rattle.sight_spec.specs.declared.Sighting.the-variants as S
 
 -- a text with numbers alone
 abbrev pub plainText : List ℕ → List ℕ → List ℕ
@@ -79,3 +82,10 @@ manyText (C.Refused r) b = refusalText r
 
 abbrev pub stockText : ℕ → List ℕ
 stockText b = plainText (ascii "%\n") (b ∷ [])
+
+abbrev pub sightText : Sighting → List ℕ
+sightText (S.Front t i x) = plainText (ascii "front % turned % misread %\n") (t ∷ i ∷ x ∷ [])
+sightText (S.Back t i x) = plainText (ascii "back % turned % misread %\n") (t ∷ i ∷ x ∷ [])
+sightText S.Several = plainText (ascii "several\n") []
+sightText S.Unknown = plainText (ascii "unknown\n") []
+sightText (S.Refused r) = refusalText r

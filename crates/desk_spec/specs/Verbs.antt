@@ -1,6 +1,6 @@
 -- The verb of a word.
 --     isKnown f     it is a verb's name
---     verbOf t      the verb whose name the word t is; each group of verbs has its own (aboutOf, bothOf, countOf)
+--     verbOf t      the verb whose name the word t is; each group of verbs has its own (aboutOf, bothOf, countOf, cameraOf)
 use Prim.Native.Nat.{ℕ}
 use mathlib.Core.Bool.{Bool, true, false}
 use mathlib.Core.List.{List}
@@ -9,7 +9,7 @@ use Rattle.text_spec.specs.Ascii.{ascii}
 use Rattle.desk_spec.specs.declared.About.the-variants.{Class, Home, Even, Place}
 use Rattle.desk_spec.specs.declared.Both.the-variants.{Same, Apart}
 use Rattle.desk_spec.specs.declared.Verb.{Verb}
-use Rattle.desk_spec.specs.declared.Verb.the-variants.{About, Both, Many, Stock}
+use Rattle.desk_spec.specs.declared.Verb.the-variants.{About, Both, Many, Stock, Sight}
 use Rattle.desk_spec.specs.declared.Found.{Found}
 use Rattle.desk_spec.specs.declared.Found.the-variants.{Known, Unknown}
 
@@ -35,5 +35,9 @@ bothOf t = named t (ascii "same") (Both Same) (named t (ascii "apart") (Both Apa
 unfoldable pub countOf : List ℕ → Found
 countOf t = named t (ascii "many") Many (named t (ascii "stock") Stock Unknown)
 
+-- what a camera asks
+unfoldable pub cameraOf : List ℕ → Found
+cameraOf t = named t (ascii "sight") Sight Unknown
+
 unfoldable pub verbOf : List ℕ → Found
-verbOf t = orElse (aboutOf t) (orElse (bothOf t) (countOf t))
+verbOf t = orElse (aboutOf t) (orElse (bothOf t) (orElse (countOf t) (cameraOf t)))

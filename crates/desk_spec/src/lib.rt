@@ -20,6 +20,7 @@ pub enum Verb {
     Both(Both),
     Many,
     Stock,
+    Sight,
 }
 
 // The verb of a word, if it is one's name.

@@ -27,6 +27,12 @@ enum-told-2 c = search needs
 place-stock-requires : tie.Need-place-stock-requires
 place-stock-requires c κs = search needs
 
+enum-told-3 : tie.Need-enum-told-3
+enum-told-3 c = search needs
+
+place-sight-requires : tie.Need-place-sight-requires
+place-sight-requires c κs = search needs
+
 same-length : tie.Need-same-length
 same-length c = search needs
 
@@ -51,6 +57,12 @@ same-length-4 c = search needs
 returns-4 : tie.Need-returns-4
 returns-4 c = rw (c .before .before .before .before .enum-told2 .given .1) (c .before .before .place-stock .ensures)
 
+same-length-5 : tie.Need-same-length-5
+same-length-5 c = search needs
+
+returns-5 : tie.Need-returns-5
+returns-5 c = rw (c .before .before .before .before .enum-told3 .given .1) (c .before .before .place-sight .ensures)
+
 pub place-verb-spec : {M : Type 1} → statement M
 place-verb-spec =
     tie.close
@@ -63,6 +75,8 @@ place-verb-spec =
     place-many-requires
     enum-told-2
     place-stock-requires
+    enum-told-3
+    place-sight-requires
     same-length
     returns
     same-length-2
@@ -70,4 +84,6 @@ place-verb-spec =
     same-length-3
     returns-3
     same-length-4
-    returns-4)
+    returns-4
+    same-length-5
+    returns-5)
