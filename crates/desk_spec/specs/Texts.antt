@@ -11,6 +11,8 @@
 --     stepText a c           next 0111 moves 3, where c is the ring; done moves 0
 --     arrivalText a c        next 001111, where c is the ring; done
 --     stripText a c          00010111, where c is the strip
+--     firstRingText a c      ring 000111, where c is the ring
+--     nextRingText a c       ring 001011, where c is the ring; done
 use Prim.Native.Nat.{ℕ}
 use mathlib.Core.List.{List, [], _∷_}
 use lib.ListN.{length}
@@ -39,6 +41,10 @@ use Rattle.walk_spec.specs.declared.Outcome.{Outcome}
 use Rattle.walk_spec.specs.declared.Outcome.the-variants as O
 use Rattle.walk_bracelet_spec.specs.declared.Arrival.{Arrival}
 use Rattle.walk_bracelet_spec.specs.declared.Arrival.the-variants as A
+use Rattle.shades_spec.specs.declared.FirstAnswer.{FirstAnswer}
+use Rattle.shades_spec.specs.declared.FirstAnswer.the-variants as F
+use Rattle.shades_spec.specs.declared.NextAnswer.{NextAnswer}
+use Rattle.shades_spec.specs.declared.NextAnswer.the-variants as N
 
 -- a text with numbers alone
 abbrev pub plainText : List ℕ → List ℕ → List ℕ
@@ -102,3 +108,12 @@ arrivalText (A.Refused r) c = refusalText r
 abbrev pub stripText : Written → List ℕ → List ℕ
 stripText W.Strip c = countedRingText (ascii "@\n") [] c
 stripText (W.Refused r) c = refusalText r
+
+abbrev pub firstRingText : FirstAnswer → List ℕ → List ℕ
+firstRingText F.Ring c = countedRingText (ascii "ring @\n") [] c
+firstRingText (F.Refused r) c = refusalText r
+
+abbrev pub nextRingText : NextAnswer → List ℕ → List ℕ
+nextRingText N.Ring c = countedRingText (ascii "ring @\n") [] c
+nextRingText N.Done c = plainText (ascii "done\n") []
+nextRingText (N.Refused r) c = refusalText r

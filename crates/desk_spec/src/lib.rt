@@ -30,6 +30,8 @@ pub enum Verb {
     Many,
     Stock,
     Strip,
+    First,
+    After,
 }
 
 // The verb of a word, if it is one's name.

@@ -18,10 +18,20 @@ returns-4 c = rw (c .before .before .before .before .enum-told2 .given .1) (c .b
 returns-5 : tie.Need-returns-5
 returns-5 c = rw (c .before .before .before .before .enum-told3 .given .1) (c .before .before .place-strip .ensures)
 
+returns-6 : tie.Need-returns-6
+returns-6 c = rw (c .before .before .before .before .enum-told4 .given .1) (c .before .before .place-first .ensures)
+
+returns-7 : tie.Need-returns-7
+returns-7 c = rw (c .before .before .before .before .enum-told5 .given .1) (c .before .before .place-after .ensures)
+
 pub place-verb-spec : {M : Type 1} → statement M
 place-verb-spec =
     tie.close
     (tie.spec
+    (λ c. search needs)
+    (λ c κs. search needs)
+    (λ c. search needs)
+    (λ c κs. search needs)
     (λ c. search needs)
     (λ c κs. search needs)
     (λ c. search needs)
@@ -41,4 +51,8 @@ place-verb-spec =
     (λ c. search needs)
     returns-4
     (λ c. search needs)
-    returns-5)
+    returns-5
+    (λ c. search needs)
+    returns-6
+    (λ c. search needs)
+    returns-7)
