@@ -9,7 +9,7 @@ ghost use Prim.Native.Nat.{_+_, _≤_};
 ghost use mathlib.Core.Path.{_≡_};
 ghost use lib.ListN.{length};
 ghost use Rattle.stream_spec.specs.Blocks.{Puts};
-ghost use Rattle.desk_spec.specs.Verbs.{named, orElse, aboutOf, bothOf, countOf, stepOf, stripOf, cameraOf, verbOf};
+ghost use Rattle.desk_spec.specs.Verbs.{named, orElse, aboutOf, bothOf, countOf, stepOf, stripOf, cameraOf, shadesOf, verbOf};
 ghost use Rattle.desk_spec.specs.Answers.{VerbSays, DeskAnswers};
 ghost use Rattle.desk_texts_inner.specs.Says.{deskRoom};
 
@@ -87,6 +87,13 @@ fn camera_of(t: &[u8]) -> Found
     or_named(t, b"sight", Verb::Sight, Found::Unknown)
 }
 
+fn shades_of(t: &[u8]) -> Found
+    ensures { λ r. ⌜ r ≡ shadesOf (now (t .entry)) ⌝ }
+{
+    let b = or_named(t, b"after", Verb::After, Found::Unknown);
+    or_named(t, b"first", Verb::First, b)
+}
+
 // The verb of a word, group after group.
 fn verb_of(t: &[u8]) -> Found
     ensures { λ r. ⌜ r ≡ verbOf (now (t .entry)) ⌝ }
@@ -97,7 +104,11 @@ fn verb_of(t: &[u8]) -> Found
     let d = step_of(t);
     let e = strip_of(t);
     let f = camera_of(t);
-    or_else(a, or_else(b, or_else(c, or_else(d, or_else(e, f)))))
+    let g = shades_of(t);
+    or_else(
+        a,
+        or_else(b, or_else(c, or_else(d, or_else(e, or_else(f, g))))),
+    )
 }
 
 // What the text behind a verb prints.
@@ -113,6 +124,8 @@ fn place_verb(v: Verb, t: &[u8], buf: &mut [u8], at: usize) -> usize
         Verb::Stock => desk_count_inner::place_stock(t, buf, at),
         Verb::Strip => desk_strip_inner::place_strip(t, buf, at),
         Verb::Sight => desk_sight_inner::place_sight(t, buf, at),
+        Verb::First => desk_first_inner::place_first(t, buf, at),
+        Verb::After => desk_after_inner::place_after(t, buf, at),
     }
 }
 

@@ -1,7 +1,8 @@
 -- A text asks one question.
 --     spelt-same                     two readings with the same digits are one
 --     words-one                      the words of rings and a reading are those of one list of rings and one reading
---     one-reading, one-pair, one-numbers, one-byte, one-sight    a text asks one question of a shape
+--     counts-same                    two lists of counts that are spelt the same are one
+--     one-reading, one-pair, one-numbers, one-byte, one-sight, one-counts, one-after    a text asks one question of a shape
 --     known-one                      a word is one verb's name
 --     place-one, one-line            a line has one verb and one text behind it
 use Prim.Native.Nat.{ℕ, suc, _+_, _<_}
@@ -9,10 +10,11 @@ use mathlib.Core.Path.{_≡_, refl, sym, ap, _∙_}
 use mathlib.Core.List.{List, [], _∷_, _++_, map}
 use native.Mathlib.Omega.{arith}
 use lib.ListN.{length, getD, take, drop}
+use Rattle.text_spec.specs.Decimal.{decimal}
 use Rattle.text_spec.specs.Text.{hexOf}
 use Rattle.text_spec.proofs.Digits.{decimal-one}
 use Rattle.words.proofs.Split.{lt, eq, gt, tri}
-use Rattle.text_words_spec.specs.Words.{PieceAt, Nibbles, Spelt}
+use Rattle.text_words_spec.specs.Words.{pieces, PieceAt, Nibbles, Spelt}
 use Rattle.line_spec.proofs.Lines.{fields-one}
 use Rattle.text_words_spec.proofs.Pieces.{first-same, behind-same, none-some}
 use Rattle.text_words_spec.proofs.Spelling.{spelt-one}
@@ -22,7 +24,7 @@ use Rattle.desk_spec.specs.declared.Found.{Found}
 use Rattle.desk_spec.specs.declared.Found.the-variants.{Known, Unknown}
 use Rattle.desk_spec.specs.Verbs.{verbOf}
 use Rattle.desk_spec.specs.Answers.{LineReads}
-use Rattle.desk_spec.specs.Questions.{ReadsReading, ReadsPair, ReadsNumbers, ReadsByte, ReadsSight, EachNibbles, wordsOf}
+use Rattle.desk_spec.specs.Questions.{ReadsReading, ReadsPair, ReadsNumbers, ReadsByte, ReadsSight, EachNibbles, wordsOf, CountsSpelt, ReadsCounts, ReadsAfter}
 
 -- the same digits
 pub spelt-same : (v w : List ℕ) → Nibbles v → Nibbles w → map hexOf v ≡ map hexOf w → v ≡ w
@@ -41,6 +43,19 @@ words-one (t ∷ ts) (u ∷ us) v w p q m n e =
     let x : t ≡ u = spelt-same t u (p 0 (omega arith)) (q 0 (omega arith)) (first-same _ _ _ _ e) in
     let y = words-one ts us v w (λ j h. p (suc j) (omega arith)) (λ j h. q (suc j) (omega arith)) m n (behind-same _ _ _ _ e) in
     (λ i. x i ∷ y .0 i, y .1)
+
+-- numbers with the same digits
+decimals-one : (cs ds : List ℕ) → map decimal cs ≡ map decimal ds → cs ≡ ds
+decimals-one [] [] e = refl
+decimals-one [] (d ∷ ds) e = absurd (none-some (decimal d) (map decimal ds) e)
+decimals-one (c ∷ cs) [] e = absurd (none-some (decimal c) (map decimal cs) (sym e))
+decimals-one (c ∷ cs) (d ∷ ds) e =
+    let x = decimal-one c d (first-same _ _ _ _ e) in
+    let y = decimals-one cs ds (behind-same _ _ _ _ e) in
+    λ i. x i ∷ y i
+
+pub counts-same : (t u cs ds : List ℕ) → t ≡ u → CountsSpelt t cs → CountsSpelt u ds → cs ≡ ds
+counts-same t u cs ds e x y = decimals-one cs ds (sym (x .numbers) ∙ ap (λ (s : List ℕ). pieces 44 s) e ∙ y .numbers)
 
 module _ (t : List ℕ) where
   pub one-reading : (p q : ℕ × List ℕ) → ReadsReading t p → ReadsReading t q → p ≡ q
@@ -75,6 +90,22 @@ module _ (t : List ℕ) where
       let y : m ≡ n = decimal-one m n (first-same _ _ _ _ f) in
       let z = words-one ts us v w (a .rings) (b .rings) (a .sectors) (b .sectors) (behind-same _ _ _ _ f) in
       λ i. (x i, y i, z .0 i, z .1 i)
+
+  pub one-counts : (p q : ℕ × List ℕ) → ReadsCounts t p → ReadsCounts t q → p ≡ q
+  one-counts (j, cs) (k, ds) a b =
+      let e = sym (a .words) ∙ b .words in
+      let x : j ≡ k = decimal-one j k (first-same _ _ _ _ e) in
+      let y : cs ≡ ds = counts-same (a .word) (b .word) cs ds (first-same _ _ _ _ (behind-same _ _ _ _ e)) (a .counts) (b .counts) in
+      λ i. (x i, y i)
+
+  pub one-after : (p q : ℕ × List ℕ × List ℕ) → ReadsAfter t p → ReadsAfter t q → p ≡ q
+  one-after (j, v, cs) (k, w, ds) a b =
+      let e = sym (a .words) ∙ b .words in
+      let f = behind-same _ _ _ _ e in
+      let x : j ≡ k = decimal-one j k (first-same _ _ _ _ e) in
+      let y : v ≡ w = spelt-same v w (a .sectors) (b .sectors) (first-same _ _ _ _ f) in
+      let z : cs ≡ ds = counts-same (a .word) (b .word) cs ds (first-same _ _ _ _ (behind-same _ _ _ _ f)) (a .counts) (b .counts) in
+      λ i. (x i, y i, z i)
 
 -- ---- a line
 

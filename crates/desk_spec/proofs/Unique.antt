@@ -1,7 +1,7 @@
 -- A line prints one text.
 --     one-shows       an answer that is promised once prints one text
 --     one-asked       where a text asks one question, and a question prints one text, the text prints one
---     one-stepped, one-step, one-about, one-both, one-many, one-strip, one-seen    a question prints one text
+--     one-stepped, one-step, one-about, one-both, one-many, one-strip, one-seen, one-first, one-after-ring    a question prints one text
 --     one-verb        and so does what stands behind a verb
 --     one-answer      and a line
 use Prim.Native.Nat.{ℕ, _^_}
@@ -23,6 +23,10 @@ use Rattle.how_many_spec.proofs.Unique.{one-count}
 use Rattle.walk_spec.specs.declared.Outcome.{Outcome}
 use Rattle.walk_bracelet_spec.specs.declared.Arrival.{Arrival}
 use Rattle.walk_reading_spec.proofs.Unique.{one-step-from, one-bracelet-from}
+use Rattle.words.specs.Sum.{sumOf}
+use Rattle.shades_spec.specs.declared.FirstAnswer.{FirstAnswer}
+use Rattle.shades_spec.specs.declared.NextAnswer.{NextAnswer}
+use Rattle.shades_spec.proofs.Unique.{one-first as one-first-ring, one-next}
 use Rattle.desk_spec.specs.declared.Step.{Step}
 use Rattle.desk_spec.specs.declared.Step.the-variants.{Necklace, Lyndon, Prenecklace, Bracelet}
 use Rattle.desk_spec.specs.declared.About.{About}
@@ -33,8 +37,8 @@ use Rattle.desk_spec.specs.declared.Both.the-variants.{Same, Apart}
 use Rattle.desk_spec.specs.declared.Verb.{Verb}
 use Rattle.desk_spec.specs.declared.Verb.the-variants as Asks
 use Rattle.desk_spec.specs.Questions.{Replies, good, bad}
-use Rattle.desk_spec.specs.Answers.{AnswerShows, KindPrints, StepPrints, AboutSays, BothSays, ManySays, StripPrints, SeenSays, VerbSays, DeskAnswers, blank}
-use Rattle.desk_spec.proofs.Questions.{one-reading, one-pair, one-numbers, one-byte, one-sight, one-line}
+use Rattle.desk_spec.specs.Answers.{AnswerShows, KindPrints, StepPrints, AboutSays, BothSays, ManySays, StripPrints, SeenSays, FirstPrints, AfterPrints, VerbSays, DeskAnswers, blank}
+use Rattle.desk_spec.proofs.Questions.{one-reading, one-pair, one-numbers, one-byte, one-sight, one-counts, one-after, one-line}
 use Rattle.desk_spec.proofs.Sights.{one-sighted}
 
 -- an answer that is promised once
@@ -90,6 +94,16 @@ one-strip k n t u x y =
 pub one-seen : (k e : ℕ) (ts : List (List ℕ)) (r t u : List ℕ) → SeenSays k e ts r t → SeenSays k e ts r u → t ≡ u
 one-seen k e ts r t u x y = one-shows _ _ (one-sighted ts r k e) t u x y
 
+-- ---- counts
+
+pub one-first : (k : ℕ) (cs t u : List ℕ) → FirstPrints k cs t → FirstPrints k cs u → t ≡ u
+one-first k cs t u x y =
+    one-shows {A = FirstAnswer × List ℕ} _ _ (λ a b p q. let e = one-first-ring k cs (blank (sumOf cs)) (a .0) (b .0) (a .1) (b .1) p q in λ i. (e .0 i, e .1 i)) t u x y
+
+pub one-after-ring : (k : ℕ) (w cs t u : List ℕ) → AfterPrints k w cs t → AfterPrints k w cs u → t ≡ u
+one-after-ring k w cs t u x y =
+    one-shows {A = NextAnswer × List ℕ} _ _ (λ a b p q. let e = one-next w k cs (blank (length w)) (a .0) (b .0) (a .1) (b .1) p q in λ i. (e .0 i, e .1 i)) t u x y
+
 -- ---- a line
 
 pub one-verb : (v : Verb) (s t u : List ℕ) → VerbSays v s t → VerbSays v s u → t ≡ u
@@ -99,6 +113,8 @@ one-verb Asks.Many s t u x y = one-asked _ _ (one-numbers s) (λ q. one-many (q 
 one-verb Asks.Stock s t u x y = one-asked _ _ (one-byte s) (λ b a c p q. p ∙ sym q) t u x y
 one-verb Asks.Strip s t u x y = one-asked _ _ (one-numbers s) (λ q. one-strip (q .0) (q .1)) t u x y
 one-verb Asks.Sight s t u x y = one-asked _ _ (one-sight s) (λ q. one-seen (q .0) (q .1) (q .2) (q .3)) t u x y
+one-verb Asks.First s t u x y = one-asked _ _ (one-counts s) (λ q. one-first (q .0) (q .1)) t u x y
+one-verb Asks.After s t u x y = one-asked _ _ (one-after s) (λ q. one-after-ring (q .0) (q .1) (q .2)) t u x y
 
 pub one-answer : (s t u : List ℕ) → DeskAnswers s t → DeskAnswers s u → t ≡ u
 one-answer s t u x y = one-asked _ _ (one-line s) (λ q. one-verb (q .0) (q .1)) t u x y

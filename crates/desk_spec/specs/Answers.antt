@@ -6,11 +6,12 @@
 --     ManySays k n text       how many rings there are
 --     StripPrints k n text    the strip
 --     SeenSays k e ts r text  what is seen of the rings ts in the reading r
+--     FirstPrints k cs text, AfterPrints k w cs text    the first ring of fixed counts, and the next
 --     VerbSays v t text       what the text t behind a verb prints
 --     longestLine             a longer line is malformed
 --     LineReads s q           the line s is a verb's name, a space, and a text
 --     DeskAnswers s text          what the line s prints, its newline left out
--- An output that a call asks for is as long as the reading, that of a strip as long as the strip, and 0 before.
+-- An output that a call asks for is as long as the reading, that of a strip as long as the strip, that of a first ring as long as the sum of the counts, and 0 before.
 -- That a line prints one text: proofs/Unique.
 use Prim.Native.Nat.{ℕ, _+_, _^_, _<_, _≤_}
 use mathlib.Core.Path.{_≡_}
@@ -34,6 +35,10 @@ use Rattle.stock_spec.specs.Stock.{homeByte}
 use Rattle.walk_spec.specs.declared.Outcome.{Outcome}
 use Rattle.walk_bracelet_spec.specs.declared.Arrival.{Arrival}
 use Rattle.walk_reading_spec.specs.Says.{StepFromSays, BraceletFromSays}
+use Rattle.words.specs.Sum.{sumOf}
+use Rattle.shades_spec.specs.declared.FirstAnswer.{FirstAnswer}
+use Rattle.shades_spec.specs.declared.NextAnswer.{NextAnswer}
+use Rattle.shades_spec.specs.Answers.{FirstSays, NextSays}
 use Rattle.desk_spec.specs.declared.Step.{Step}
 use Rattle.desk_spec.specs.declared.Step.the-variants.{Necklace, Lyndon, Prenecklace, Bracelet}
 use Rattle.desk_spec.specs.declared.About.{About}
@@ -45,8 +50,8 @@ use Rattle.desk_spec.specs.declared.Verb.{Verb}
 use Rattle.desk_spec.specs.declared.Verb.the-variants as Asks
 use Rattle.desk_spec.specs.declared.Found.the-variants.{Known}
 use Rattle.desk_spec.specs.Verbs.{verbOf}
-use Rattle.desk_spec.specs.Questions.{ReadsReading, ReadsPair, ReadsNumbers, ReadsByte, ReadsSight, Replies}
-use Rattle.desk_spec.specs.Texts.{classText, homeText, toldText, distanceText, placeText, manyText, stockText, stepText, arrivalText, stripText, sightText}
+use Rattle.desk_spec.specs.Questions.{ReadsReading, ReadsPair, ReadsNumbers, ReadsByte, ReadsSight, ReadsCounts, ReadsAfter, Replies}
+use Rattle.desk_spec.specs.Texts.{classText, homeText, toldText, distanceText, placeText, manyText, stockText, stepText, arrivalText, stripText, sightText, firstRingText, nextRingText}
 use Rattle.desk_spec.specs.Sights.{SightedSays}
 
 -- text is what an answer prints that is promised
@@ -99,6 +104,14 @@ StripPrints k n text = AnswerShows {A = Written × List ℕ} (λ x. StripSays n 
 abbrev pub SeenSays : ℕ → ℕ → List (List ℕ) → List ℕ → List ℕ → Type 0
 SeenSays k e ts r text = AnswerShows (λ a. SightedSays ts r k e a) sightText text
 
+-- ---- counts
+
+abbrev pub FirstPrints : ℕ → List ℕ → List ℕ → Type 0
+FirstPrints k cs text = AnswerShows {A = FirstAnswer × List ℕ} (λ x. FirstSays k cs (blank (sumOf cs)) (x .0) (x .1)) (λ x. firstRingText (x .0) (x .1)) text
+
+abbrev pub AfterPrints : ℕ → List ℕ → List ℕ → List ℕ → Type 0
+AfterPrints k w cs text = AnswerShows {A = NextAnswer × List ℕ} (λ x. NextSays w k cs (blank (length w)) (x .0) (x .1)) (λ x. nextRingText (x .0) (x .1)) text
+
 -- ---- a line
 
 abbrev pub VerbSays : Verb → List ℕ → List ℕ → Type 0
@@ -108,6 +121,8 @@ VerbSays Asks.Many t text = Replies (ReadsNumbers t) (λ q. ManySays (q .0) (q .
 VerbSays Asks.Stock t text = Replies (ReadsByte t) (λ b x. x ≡ stockText (homeByte b)) text
 VerbSays Asks.Strip t text = Replies (ReadsNumbers t) (λ q. StripPrints (q .0) (q .1)) text
 VerbSays Asks.Sight t text = Replies (ReadsSight t) (λ q. SeenSays (q .0) (q .1) (q .2) (q .3)) text
+VerbSays Asks.First t text = Replies (ReadsCounts t) (λ q. FirstPrints (q .0) (q .1)) text
+VerbSays Asks.After t text = Replies (ReadsAfter t) (λ q. AfterPrints (q .0) (q .1) (q .2)) text
 
 abbrev pub longestLine : ℕ
 longestLine = 4095

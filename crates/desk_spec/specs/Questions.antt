@@ -7,6 +7,9 @@
 --     ReadsNumbers t q     t is two numbers, as the listing's line has them
 --     ReadsByte t b        t is a byte, in decimal
 --     ReadsSight t q       t is k, how many sectors may be misread, rings and, last, a reading
+--     CountsSpelt t cs     t is the numbers cs, one at least, a comma between two
+--     ReadsCounts t q      t is k and counts
+--     ReadsAfter t q       t is k, a reading and counts
 --     Replies Reads Says     what a text prints that asks a question q of some shape, where `Says q` is what the question prints; a text that asks none is malformed
 -- That a text asks one question, and prints one text: proofs/Unique.
 use Prim.Native.Nat.{ℕ, _<_}
@@ -62,6 +65,30 @@ pub record ReadsSight (t : List ℕ) (q : ℕ × ℕ × List (List ℕ) × List 
   pub rings : EachNibbles (q .2)
   pub sectors : Nibbles (q .3)
   pub words : pieces space t ≡ decimal (q .0) ∷ decimal (q .1) ∷ wordsOf (q .2) (q .3)
+
+-- what stands between two counts
+abbrev pub comma : ℕ
+comma = 44
+
+-- counts: a text has a piece at least
+pub record CountsSpelt (t cs : List ℕ) : Type 0 where
+  pub each : (i : ℕ) → i < length cs → ThreeDigits (getD cs i 0)
+  pub numbers : pieces comma t ≡ map decimal cs
+
+-- k and counts
+pub record ReadsCounts (t : List ℕ) (q : ℕ × List ℕ) : Type 0 where
+  pub short : ThreeDigits (q .0)
+  pub word : List ℕ
+  pub counts : CountsSpelt word (q .1)
+  pub words : pieces space t ≡ decimal (q .0) ∷ word ∷ []
+
+-- k, a reading and counts
+pub record ReadsAfter (t : List ℕ) (q : ℕ × List ℕ × List ℕ) : Type 0 where
+  pub short : ThreeDigits (q .0)
+  pub sectors : Nibbles (q .1)
+  pub word : List ℕ
+  pub counts : CountsSpelt word (q .2)
+  pub words : pieces space t ≡ decimal (q .0) ∷ map hexOf (q .1) ∷ word ∷ []
 
 -- what a text prints: what its question does, or that it asks none
 pub data Replies {Q : Type 0} (Reads : Q → Type 0) (Says : Q → List ℕ → Type 0) (text : List ℕ) : Type 0 where

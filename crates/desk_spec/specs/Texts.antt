@@ -12,6 +12,8 @@
 --     arrivalText a c        next 001111, where c is the ring; done
 --     stripText a c          00010111, where c is the strip
 --     sightText              front 3 turned 5 misread 1; back 3 turned 5 misread 1; several; unknown
+--     firstRingText a c      ring 000111, where c is the ring
+--     nextRingText a c       ring 001011, where c is the ring; done
 use Prim.Native.Nat.{ℕ}
 use mathlib.Core.List.{List, [], _∷_}
 use lib.ListN.{length}
@@ -42,6 +44,10 @@ use Rattle.walk_bracelet_spec.specs.declared.Arrival.{Arrival}
 use Rattle.walk_bracelet_spec.specs.declared.Arrival.the-variants as A
 use Rattle.sight_spec.specs.declared.Sighting.{Sighting}
 use Rattle.sight_spec.specs.declared.Sighting.the-variants as S
+use Rattle.shades_spec.specs.declared.FirstAnswer.{FirstAnswer}
+use Rattle.shades_spec.specs.declared.FirstAnswer.the-variants as F
+use Rattle.shades_spec.specs.declared.NextAnswer.{NextAnswer}
+use Rattle.shades_spec.specs.declared.NextAnswer.the-variants as N
 
 -- a text with numbers alone
 abbrev pub plainText : List ℕ → List ℕ → List ℕ
@@ -112,3 +118,12 @@ sightText (S.Back t i x) = plainText (ascii "back % turned % misread %\n") (t �
 sightText S.Several = plainText (ascii "several\n") []
 sightText S.Unknown = plainText (ascii "unknown\n") []
 sightText (S.Refused r) = refusalText r
+
+abbrev pub firstRingText : FirstAnswer → List ℕ → List ℕ
+firstRingText F.Ring c = countedRingText (ascii "ring @\n") [] c
+firstRingText (F.Refused r) c = refusalText r
+
+abbrev pub nextRingText : NextAnswer → List ℕ → List ℕ
+nextRingText N.Ring c = countedRingText (ascii "ring @\n") [] c
+nextRingText N.Done c = plainText (ascii "done\n") []
+nextRingText (N.Refused r) c = refusalText r

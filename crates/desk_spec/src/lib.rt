@@ -31,6 +31,8 @@ pub enum Verb {
     Stock,
     Strip,
     Sight,
+    First,
+    After,
 }
 
 // The verb of a word, if it is one's name.

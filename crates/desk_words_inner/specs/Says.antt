@@ -1,8 +1,9 @@
 -- What reading the first word promises.
 --     ReadsBoth t q     t is two readings, one space between them
 --     SpeltBoth v k q   what the question about them prints; BothAsked v k s t, the same where s and t are their digits
---     HeadSays t r      t is a number, a space and what stands behind it; or there is no number with a word behind it
-use Prim.Native.Nat.{ℕ, _≤_}
+--     HeadAtSays sep t r    t is a number, a separator and what stands behind it; or there is no number with a piece behind it
+--     HeadSays t r      the same of words, between spaces
+use Prim.Native.Nat.{ℕ, _<_, _≤_}
 use mathlib.Core.Path.{_≡_}
 use mathlib.Core.List.{List, [], _∷_, map}
 use lib.ListN.{length, drop}
@@ -16,9 +17,12 @@ use Rattle.desk_spec.specs.Answers.{BothSays}
 use Rattle.desk_words_inner.specs.declared.Head.{Head}
 use Rattle.desk_words_inner.specs.declared.Head.the-variants.{Number, Malformed}
 
+abbrev pub HeadAtSays : ℕ → List ℕ → Head → Type 0
+HeadAtSays sep t (Number k at) = ThreeDigits k × (at ≤ length t) × (pieces sep t ≡ decimal k ∷ pieces sep (drop at t)) × (0 < at)
+HeadAtSays sep t Malformed = (k : ℕ) (u : List ℕ) (us : List (List ℕ)) → ThreeDigits k → pieces sep t ≡ decimal k ∷ u ∷ us → ⊥
+
 abbrev pub HeadSays : List ℕ → Head → Type 0
-HeadSays t (Number k at) = ThreeDigits k × (at ≤ length t) × (pieces space t ≡ decimal k ∷ pieces space (drop at t))
-HeadSays t Malformed = (k : ℕ) (u : List ℕ) (us : List (List ℕ)) → ThreeDigits k → pieces space t ≡ decimal k ∷ u ∷ us → ⊥
+HeadSays t r = HeadAtSays space t r
 
 -- two readings
 pub record ReadsBoth (t : List ℕ) (q : List ℕ × List ℕ) : Type 0 where

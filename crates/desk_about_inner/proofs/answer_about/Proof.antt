@@ -7,7 +7,10 @@ returns : tie.Need-returns
 returns c = rw (c .before .before .before .before .enum-told .given .1) (c .before .before .answer-class .ensures)
 
 returns-2 : tie.Need-returns-2
-returns-2 c = rw (c .before .before .before .before .before .before .before .enum-told2 .given .1) (c .before .before .before .before .answer-home .ensures)
+returns-2 c =
+    let enum-told2 = c .before .before .before .before .before .before .before .enum-told2 in
+    let answer-home = c .before .before .before .before .answer-home in
+    rw (enum-told2 .given .1) (answer-home .ensures)
 
 returns-3 : tie.Need-returns-3
 returns-3 c = rw (c .before .before .before .before .enum-told3 .given .1) (c .before .before .answer-even .ensures)
@@ -16,7 +19,10 @@ returns-4 : tie.Need-returns-4
 returns-4 c = rw (c .before .before .before .before .enum-told4 .given .1) (c .before .before .answer-place .ensures)
 
 returns-5 : tie.Need-returns-5
-returns-5 c = rw (c .before .before .before .before .before .before .before .before .v .given .1) (c .before .before .before .before .answer-step .ensures)
+returns-5 c =
+    let v = c .before .before .before .before .before .before .before .before .v in
+    let answer-step = c .before .before .before .before .answer-step in
+    rw (v .given .1) (answer-step .ensures)
 
 pub answer-about-spec : {M : Type 1} → statement M
 answer-about-spec =

@@ -21,11 +21,18 @@ returns-5 c = rw (c .before .before .before .before .enum-told3 .given .1) (c .b
 returns-6 : tie.Need-returns-6
 returns-6 c = rw (c .before .before .before .before .enum-told4 .given .1) (c .before .before .place-sight .ensures)
 
+returns-7 : tie.Need-returns-7
+returns-7 c = rw (c .before .before .before .before .enum-told5 .given .1) (c .before .before .place-first .ensures)
+
+returns-8 : tie.Need-returns-8
+returns-8 c = rw (c .before .before .before .before .enum-told6 .given .1) (c .before .before .place-after .ensures)
+
 pub place-verb-spec : {M : Type 1} → statement M
 place-verb-spec =
     tie.close
     (tie.spec (λ c. search needs) (λ c κs. search needs) (λ c. search needs) (λ c κs. search needs)
     (λ c. search needs) (λ c κs. search needs) (λ c. search needs) (λ c κs. search needs) (λ c. search needs)
-    (λ c κs. search needs) (λ c. search needs) (λ c κs. search needs) (λ c. search needs) returns (λ c. search needs)
-    returns-2 (λ c. search needs) returns-3 (λ c. search needs) returns-4 (λ c. search needs) returns-5
-    (λ c. search needs) returns-6)
+    (λ c κs. search needs) (λ c. search needs) (λ c κs. search needs) (λ c. search needs) (λ c κs. search needs)
+    (λ c. search needs) (λ c κs. search needs) (λ c. search needs) returns (λ c. search needs) returns-2
+    (λ c. search needs) returns-3 (λ c. search needs) returns-4 (λ c. search needs) returns-5 (λ c. search needs)
+    returns-6 (λ c. search needs) returns-7 (λ c. search needs) returns-8)

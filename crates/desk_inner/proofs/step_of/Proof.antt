@@ -7,7 +7,12 @@ use Rattle.desk_inner.proofs.step_of.Tie as tie
 
 returns : tie.Need-returns
 unfolding stepOf
-returns c = named-then _ _ _ _ _ _ (c .or-named4 .ensures) (named-then _ _ _ _ _ _ (c .before .before .or-named3 .ensures) (named-then _ _ _ _ _ _ (c .before .before .before .before .or-named2 .ensures) (c .before .before .before .before .before .before .or-named .ensures)))
+returns c =
+    let or-named4 = c .or-named4 in
+    let or-named3 = c .before .before .or-named3 in
+    let or-named2 = c .before .before .before .before .or-named2 in
+    let or-named = c .before .before .before .before .before .before .or-named in
+    named-then _ _ _ _ _ _ (or-named4 .ensures) (named-then _ _ _ _ _ _ (or-named3 .ensures) (named-then _ _ _ _ _ _ (or-named2 .ensures) (or-named .ensures)))
 
 pub step-of-spec : {M : Type 1} → statement M
 step-of-spec =

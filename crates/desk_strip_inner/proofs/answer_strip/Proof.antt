@@ -18,19 +18,54 @@ use Rattle.desk_strip_inner.proofs.answer_strip.Statement.{statement}
 use Rattle.desk_strip_inner.proofs.answer_strip.Tie as tie
 
 power-requires : tie.Need-power-requires
-power-requires c κs = let g = c .before .before .before .before in let l = accepted-listable 4096 (g .args .k) (g .args .n) _ _ _ (c .enum-told .given .1) (c .before .before .plan-numbers .ensures) in (omega (arith, l .shaded .0), omega (arith, l .few))
+power-requires c κs =
+    let facts = c .before .before .before .before in
+    let enum-told = c .enum-told in
+    let plan-numbers = c .before .before .plan-numbers in
+    let g = facts in
+    let l = accepted-listable 4096 (g .args .k) (g .args .n) _ _ _ (enum-told .given .1) (plan-numbers .ensures) in
+    (omega (arith, l .shaded .0), omega (arith, l .few))
 
 array-borrow-prefix-out : tie.Need-array-borrow-prefix-out
-array-borrow-prefix-out c = let g = c .before .before .before .before .before in let l = accepted-listable 4096 (g .args .k) (g .args .n) _ _ _ (c .before .enum-told .given .1) (c .before .before .before .plan-numbers .ensures) in omega (arith, c .power .ensures, l .few)
+array-borrow-prefix-out c =
+    let facts = c .before .before .before .before .before in
+    let enum-told = c .before .enum-told in
+    let plan-numbers = c .before .before .before .plan-numbers in
+    let power = c .power in
+    let g = facts in
+    let l = accepted-listable 4096 (g .args .k) (g .args .n) _ _ _ (enum-told .given .1) (plan-numbers .ensures) in
+    omega (arith, power .ensures, l .few)
 
 slice-aggregate-answer-whole : tie.Need-slice-aggregate-answer-whole
-slice-aggregate-answer-whole c = let g = c .before .before .before .before .before .before in let l = accepted-listable 4096 (g .args .k) (g .args .n) _ _ _ (c .before .before .enum-told .given .1) (c .before .before .before .before .plan-numbers .ensures) in simp length-take (omega (arith, c .before .power .ensures, l .few))
+slice-aggregate-answer-whole c =
+    let facts = c .before .before .before .before .before .before in
+    let enum-told = c .before .before .enum-told in
+    let plan-numbers = c .before .before .before .before .plan-numbers in
+    let power = c .before .power in
+    let g = facts in
+    let l = accepted-listable 4096 (g .args .k) (g .args .n) _ _ _ (enum-told .given .1) (plan-numbers .ensures) in
+    simp length-take (omega (arith, power .ensures, l .few))
 
 answer-whole-requires : tie.Need-answer-whole-requires
-answer-whole-requires c κs = let g = c .before .before .before .before .before .before .before in let l = accepted-listable 4096 (g .args .k) (g .args .n) _ _ _ (c .before .before .before .enum-told .given .1) (c .before .before .before .before .before .plan-numbers .ensures) in let o = strip-room (g .args .k) (g .args .n) (c .before .before .power .result) (c .before .before .power .ensures) (l .few) in (o .0, (o .1, g .pre))
+answer-whole-requires c κs =
+    let facts = c .before .before .before .before .before .before .before in
+    let enum-told = c .before .before .before .enum-told in
+    let plan-numbers = c .before .before .before .before .before .plan-numbers in
+    let power = c .before .before .power in
+    let g = facts in
+    let l = accepted-listable 4096 (g .args .k) (g .args .n) _ _ _ (enum-told .given .1) (plan-numbers .ensures) in
+    let o = strip-room (g .args .k) (g .args .n) (power .result) (power .ensures) (l .few) in
+    (o .0, (o .1, g .pre))
 
 returns : tie.Need-returns
-returns c = let g = c .before .before .before .before .before .before .before .before .before in put-shown {A = Written × List ℕ} (λ x. StripSays (g .args .n) (g .args .k) (blank (g .args .k ^ g .args .n)) (x .0) (x .1)) (λ x. stripText (x .0) (x .1)) (W.Refused _, blank (g .args .k ^ g .args .n)) (inl (rw (c .before .before .before .before .before .r .given .1) at (c .before .before .before .before .before .before .before .plan-numbers .ensures)), refl) _ _ _ _ (c .before .before .place-refusal .ensures)
+returns c =
+    let facts = c .before .before .before .before .before .before .before .before .before in
+    let r = c .before .before .before .before .before .r in
+    let plan-numbers = c .before .before .before .before .before .before .before .plan-numbers in
+    let place-refusal = c .before .before .place-refusal in
+    let g = facts in
+    put-shown {A = Written × List ℕ} (λ x. StripSays (g .args .n) (g .args .k) (blank (g .args .k ^ g .args .n)) (x .0) (x .1)) (λ x. stripText (x .0) (x .1))
+    (W.Refused _, blank (g .args .k ^ g .args .n)) (inl (rw (r .given .1) at (plan-numbers .ensures)), refl) _ _ _ _ (place-refusal .ensures)
 
 pub answer-strip-spec : {M : Type 1} → statement M
 answer-strip-spec =

@@ -5,7 +5,12 @@ use Rattle.desk_strip_inner.proofs.answer_whole.Statement.{statement}
 use Rattle.desk_strip_inner.proofs.answer_whole.Tie as tie
 
 returns : tie.Need-returns
-returns c = let s = c .before .before .before .before .before .before .before .write-strip in put-shown _ _ (s .result, _) (rw (c .before .before .before .before .before .before .before .before .before .before .before .pre .0) at (s .ensures)) _ _ _ _ (c .before .before .place-written .ensures)
+returns c =
+    let write-strip = c .before .before .before .before .before .before .before .write-strip in
+    let facts = c .before .before .before .before .before .before .before .before .before .before .before in
+    let place-written = c .before .before .place-written in
+    let s = write-strip in
+    put-shown _ _ (s .result, _) (rw (facts .pre .0) at (s .ensures)) _ _ _ _ (place-written .ensures)
 
 pub answer-whole-spec : {M : Type 1} → statement M
 answer-whole-spec =

@@ -6,10 +6,21 @@ use Rattle.desk_strip_inner.proofs.place_strip.Statement.{statement}
 use Rattle.desk_strip_inner.proofs.place_strip.Tie as tie
 
 returns : tie.Need-returns
-returns c = put-bad _ _ _ _ _ _ (no-numbers (c .before .before .before .before .before .before .before .before .before .args .t .now) (rw (c .before .before .before .before .enum-told .given .1) at (c .before .before .before .before .before .before .parse-fields .ensures))) (c .before .before .place-malformed .ensures)
+returns c =
+    let args = c .before .before .before .before .before .before .before .before .before .args in
+    let enum-told = c .before .before .before .before .enum-told in
+    let parse-fields = c .before .before .before .before .before .before .parse-fields in
+    let place-malformed = c .before .before .place-malformed in
+    put-bad _ _ _ _ _ _ (no-numbers (args .t .now) (rw (enum-told .given .1) at (parse-fields .ensures))) (place-malformed .ensures)
 
 returns-2 : tie.Need-returns-2
-returns-2 c = let k = c .before .before .before .before .before .k .given in put-good _ _ _ _ _ _ (k .0 .0, k .0 .1 .0) (numbers (c .before .before .before .before .before .before .before .before .before .before .args .t .now) (k .0 .0) (k .0 .1 .0) (rw (k .1) at (c .before .before .before .before .before .before .before .parse-fields .ensures))) (c .before .before .answer-strip .ensures)
+returns-2 c =
+    let the-k = c .before .before .before .before .before .k in
+    let args = c .before .before .before .before .before .before .before .before .before .before .args in
+    let parse-fields = c .before .before .before .before .before .before .before .parse-fields in
+    let answer-strip = c .before .before .answer-strip in
+    let k = the-k .given in
+    put-good _ _ _ _ _ _ (k .0 .0, k .0 .1 .0) (numbers (args .t .now) (k .0 .0) (k .0 .1 .0) (rw (k .1) at (parse-fields .ensures))) (answer-strip .ensures)
 
 pub place-strip-spec : {M : Type 1} → statement M
 place-strip-spec =

@@ -1,0 +1,2 @@
+-- What reading counts promises (Says).
+pub mod Says

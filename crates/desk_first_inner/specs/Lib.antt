@@ -1,0 +1,2 @@
+-- What the parts of `first` promise (Says).
+pub mod Says
