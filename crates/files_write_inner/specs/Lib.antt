@@ -1,0 +1,2 @@
+-- What taking lines promises (Says).
+pub mod Says

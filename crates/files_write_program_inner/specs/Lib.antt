@@ -1,0 +1,2 @@
+-- What the parts of the programs promise (Says).
+pub mod Says
