@@ -40,17 +40,17 @@ use Rattle.files_text_inner.specs.Room.{recordRoom}
 use Rattle.files_text_inner.proofs.Placing.{record-short, wrote-puts}
 use Rattle.files_write_spec.specs.RingLines.{mostKept, RingLine, LineWrites, LineRefused, unread, given}
 use Rattle.files_write_spec.proofs.Cut.{ended-many}
-use Rattle.files_write_inner.specs.Says.{SpeltRefused, unspelt, refused, SpeltSays, LineSays, RefusedIn}
+use Rattle.files_write_inner.specs.Says.{SpeltRefused, unspelt, refused, RingSpelt, LineSays, RefusedIn}
 
 -- ---- a spelt reading
 
 module _ (x : Kind) (k : ℕ) (t b : List ℕ) (at : ℕ) where
   -- it spells none
-  pub no-spelt : ((w : List ℕ) → Spelt t w → ⊥) → SpeltSays x k t b at (W.Refused Line) b
+  pub no-spelt : ((w : List ℕ) → Spelt t w → ⊥) → RingSpelt x k t b at (W.Refused Line) b
   no-spelt n = (unspelt n refl, refl)
 
   -- what the writer answered
-  pub spelt-answer : (w : List ℕ) → Spelt t w → at + recordRoom ≤ length b → (r : Written) (d : List ℕ) → WriteSays w k x b at r d → SpeltSays x k t b at r d
+  pub spelt-answer : (w : List ℕ) → Spelt t w → at + recordRoom ≤ length b → (r : Written) (d : List ℕ) → WriteSays w k x b at r d → RingSpelt x k t b at r d
   spelt-answer w s l (W.After e) d h = (w, s, wrote-puts w k x (h .passed) b at e d l h)
   spelt-answer w s l (W.Refused r) d (inl g, e) = (refused w s g, e)
   spelt-answer w s l (W.Refused r) d (inr g, e) = absurd (g .1 .1 (omega (arith, record-short w k x (g .0), length-drop at b, l)))
@@ -81,10 +81,10 @@ module _ (x : Kind) (s b : List ℕ) (at : ℕ) where
     ring-back q a = record { digits = pieces-single 32 (drop e s) _ (rest-words s k e h (q .0) (map hexOf (q .1) ∷ []) (a .reads .words)); below = a .reads .sectors }
 
     -- what was answered of what stands behind the number
-    pub line-spelt : length s ≤ 4095 → (r : Written) (d : List ℕ) → SpeltSays x k (take (length s - e) (drop e s)) b at r d → LineSays x s b at r d
+    pub line-spelt : length s ≤ 4095 → (r : Written) (d : List ℕ) → RingSpelt x k (take (length s - e) (drop e s)) b at r d → LineSays x s b at r d
     line-spelt l r d p = go r (rw (rest-all s e) at p)
       where
-        go : (r : Written) → SpeltSays x k (drop e s) b at r d → LineSays x s b at r d
+        go : (r : Written) → RingSpelt x k (drop e s) b at r d → LineSays x s b at r d
         go (W.After a) (w, p, q) = record { text = q .text; says = record { asked = (k, w); reads = ring-on l w p; writes = q .says }; short = q .short; placed = q .placed }
         go (W.Refused a) (unspelt n f, g) = (unread (λ q y. n (q .1) (ring-back q y)) f, g)
         go (W.Refused a) (refused w p q, g) = (given (k, w) (ring-on l w p) q, g)

@@ -1,6 +1,6 @@
 -- What taking lines promises. u is what is kept of the line under way before, l′ what the lent line holds afterwards; b is the buffer before, b′ afterwards; n lines ended before.
 --     mostEnded                   fewer lines have ended
---     SpeltSays x k t b at r b′   the record of the reading that t spells, in k shades, stands in the buffer from `at` on; or why not, and the buffer is as it was
+--     RingSpelt x k t b at r b′   the record of the reading that t spells, in k shades, stands in the buffer from `at` on; or why not, and the buffer is as it was
 --     LineSays x s b at r b′      the same of the line s
 --     LinedByte                   one byte c: a newline has the line's record placed, and counts; any other byte is added to the line
 --     RefusedIn x u s n r m       behind the bytes s, whose lines all write, the line under way is refused with r, and m is its number
@@ -37,9 +37,9 @@ pub data SpeltRefused (k : ℕ) (t : List ℕ) (r : Refusal) : Type 0 where
   unspelt : ((w : List ℕ) → Spelt t w → ⊥) → r ≡ Line → SpeltRefused k t r
   refused : (w : List ℕ) → Spelt t w → Given (oneReading w k) r → SpeltRefused k t r
 
-abbrev pub SpeltSays : Kind → ℕ → List ℕ → List ℕ → ℕ → Written → List ℕ → Type 0
-SpeltSays x k t b at (W.After e) b′ = (w : List ℕ) × Spelt t w × Puts (Filled w k x) recordRoom b at e b′
-SpeltSays x k t b at (W.Refused r) b′ = SpeltRefused k t r × (b′ ≡ b)
+abbrev pub RingSpelt : Kind → ℕ → List ℕ → List ℕ → ℕ → Written → List ℕ → Type 0
+RingSpelt x k t b at (W.After e) b′ = (w : List ℕ) × Spelt t w × Puts (Filled w k x) recordRoom b at e b′
+RingSpelt x k t b at (W.Refused r) b′ = SpeltRefused k t r × (b′ ≡ b)
 
 abbrev pub LineSays : Kind → List ℕ → List ℕ → ℕ → Written → List ℕ → Type 0
 LineSays x s b at (W.After e) b′ = Puts (LineWrites x s) recordRoom b at e b′

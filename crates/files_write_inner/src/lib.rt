@@ -9,7 +9,7 @@ ghost use mathlib.Core.Path.{_≡_};
 ghost use lib.ListN.{length, take};
 ghost use Rattle.files_text_inner.specs.Room.{recordRoom};
 ghost use Rattle.files_write_spec.specs.RingLines.{mostKept};
-ghost use Rattle.files_write_inner.specs.Says.{mostEnded, SpeltSays, LineSays, LinedByte, LinedSays, LinedEnd};
+ghost use Rattle.files_write_inner.specs.Says.{mostEnded, RingSpelt, LineSays, LinedByte, LinedSays, LinedEnd};
 
 // Behind some bytes: how many bytes of the line under way are held, the place behind the records, and how many lines have ended; or why a line that ends is refused, and its
 // number, counted from 1.
@@ -22,7 +22,7 @@ pub enum Lined {
 fn write_spelt(kind: Kind, k: usize, t: &[u8], w: &mut [u8], buf: &mut [u8], at: usize) -> Written
     requires { ⌜ length (now w) ≡ length (now t) ⌝ }
     requires { ⌜ at + recordRoom ≤ length (now buf) ⌝ }
-    ensures { λ r. ⌜ SpeltSays kind k (now (t .entry)) (now (buf .entry)) at r (now (buf .exit)) ⌝ }
+    ensures { λ r. ⌜ RingSpelt kind k (now (t .entry)) (now (buf .entry)) at r (now (buf .exit)) ⌝ }
 {
     if !text_spell_inner::spell(t, w) {
         return Written::Refused(Refusal::Line);
