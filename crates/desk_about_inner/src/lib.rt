@@ -1,4 +1,4 @@
-// Questions about one reading: its class, its home, whether it is even-handed, its place on the strip. No public calls.
+// Questions about one reading: its class, its home, whether it is even-handed, its place on the strip, the next ring. No public calls.
 
 use desk_spec::About;
 use desk_words_inner::Head;
@@ -59,6 +59,7 @@ fn answer_about(v: About, k: usize, w: &[u8], out: &mut [u8], buf: &mut [u8], at
         About::Home => answer_home(k, w, out, buf, at),
         About::Even => answer_even(k, w, buf, at),
         About::Place => answer_place(k, w, buf, at),
+        About::Step(x) => desk_steps_inner::answer_step(x, k, w, out, buf, at),
     }
 }
 

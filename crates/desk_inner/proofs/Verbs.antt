@@ -1,107 +1,27 @@
--- The verb of a word, name after name.
---     named-yes, named-no              by the test of one name
---     about-1 .. about-none, ..        each group
---     orElse-known, orElse-unknown     group after group
+-- The verb of a word, name after name and group after group.
+--     named-yes, named-no    by the test of one name
+--     named-then             a name, and what follows it
+--     group-then             a group, and what follows it
 use Prim.Native.Nat.{ℕ}
 use mathlib.Core.Path.{_≡_, refl, sym, ap, _∙_}
-use mathlib.Core.Bool.{Bool, true, false, false≢true}
+use mathlib.Core.Bool.{Bool, true, false}
 use mathlib.Core.List.{List}
 use Rattle.words.specs.Order.{same}
-use Rattle.text_spec.specs.Ascii.{ascii}
-use Rattle.desk_spec.specs.declared.About.the-variants.{Class, Home, Even, Place}
-use Rattle.desk_spec.specs.declared.Both.the-variants.{Same, Apart}
 use Rattle.desk_spec.specs.declared.Verb.{Verb}
-use Rattle.desk_spec.specs.declared.Verb.the-variants.{About, Both, Many, Stock}
 use Rattle.desk_spec.specs.declared.Found.{Found}
-use Rattle.desk_spec.specs.declared.Found.the-variants.{Known, Unknown}
-use Rattle.desk_spec.specs.Verbs.{named, orElse, isKnown, aboutOf, bothOf, countOf, verbOf}
+use Rattle.desk_spec.specs.declared.Found.the-variants.{Known}
+use Rattle.desk_spec.specs.Verbs.{named, orElse}
 
-named-yes : (t name : List ℕ) (v : Verb) (next : Found) → same t name ≡ true → Known v ≡ named t name v next
+pub named-yes : (t name : List ℕ) (v : Verb) (next : Found) → same t name ≡ true → Known v ≡ named t name v next
 named-yes t name v next e = sym (ap (λ (b : Bool). elim b [ true ↦ Known v | false ↦ next ]) e)
 
-named-no : (t name : List ℕ) (v : Verb) (next : Found) → same t name ≡ false → next ≡ named t name v next
+pub named-no : (t name : List ℕ) (v : Verb) (next : Found) → same t name ≡ false → next ≡ named t name v next
 named-no t name v next e = sym (ap (λ (b : Bool). elim b [ true ↦ Known v | false ↦ next ]) e)
 
-module _ (t : List ℕ) where
-  pub about-1 : same t (ascii "class") ≡ true → Known (About Class) ≡ aboutOf t
-  unfolding aboutOf
-  about-1 e = named-yes t (ascii "class") (About Class) _ e
+-- what follows a name may be said otherwise
+pub named-then : (t name : List ℕ) (v : Verb) (r x y : Found) → r ≡ named t name v x → x ≡ y → r ≡ named t name v y
+named-then t name v r x y p q = p ∙ ap (λ (z : Found). named t name v z) q
 
-  module _ (a : same t (ascii "class") ≡ false) where
-    pub about-2 : same t (ascii "home") ≡ true → Known (About Home) ≡ aboutOf t
-    unfolding aboutOf
-    about-2 e = named-yes t (ascii "home") (About Home) _ e ∙ named-no t (ascii "class") (About Class) _ a
-
-    module _ (b : same t (ascii "home") ≡ false) where
-      pub about-3 : same t (ascii "even") ≡ true → Known (About Even) ≡ aboutOf t
-      unfolding aboutOf
-      about-3 e = named-yes t (ascii "even") (About Even) _ e ∙ named-no t (ascii "home") (About Home) _ b ∙ named-no t (ascii "class") (About Class) _ a
-
-      module _ (c : same t (ascii "even") ≡ false) where
-        pub about-4 : same t (ascii "place") ≡ true → Known (About Place) ≡ aboutOf t
-        unfolding aboutOf
-        about-4 e =
-            named-yes t (ascii "place") (About Place) _ e ∙ named-no t (ascii "even") (About Even) _ c ∙ named-no t (ascii "home") (About Home) _ b ∙ named-no t (ascii "class") (About Class) _ a
-
-        pub about-none : same t (ascii "place") ≡ false → Unknown ≡ aboutOf t
-        unfolding aboutOf
-        about-none e =
-            named-no t (ascii "place") (About Place) Unknown e ∙ named-no t (ascii "even") (About Even) _ c ∙ named-no t (ascii "home") (About Home) _ b ∙ named-no t (ascii "class") (About Class) _ a
-
-  pub both-1 : same t (ascii "same") ≡ true → Known (Both Same) ≡ bothOf t
-  unfolding bothOf
-  both-1 e = named-yes t (ascii "same") (Both Same) _ e
-
-  module _ (a : same t (ascii "same") ≡ false) where
-    pub both-2 : same t (ascii "apart") ≡ true → Known (Both Apart) ≡ bothOf t
-    unfolding bothOf
-    both-2 e = named-yes t (ascii "apart") (Both Apart) _ e ∙ named-no t (ascii "same") (Both Same) _ a
-
-    pub both-none : same t (ascii "apart") ≡ false → Unknown ≡ bothOf t
-    unfolding bothOf
-    both-none e = named-no t (ascii "apart") (Both Apart) Unknown e ∙ named-no t (ascii "same") (Both Same) _ a
-
-  pub count-1 : same t (ascii "many") ≡ true → Known Many ≡ countOf t
-  unfolding countOf
-  count-1 e = named-yes t (ascii "many") Many _ e
-
-  module _ (a : same t (ascii "many") ≡ false) where
-    pub count-2 : same t (ascii "stock") ≡ true → Known Stock ≡ countOf t
-    unfolding countOf
-    count-2 e = named-yes t (ascii "stock") Stock _ e ∙ named-no t (ascii "many") Many _ a
-
-    pub count-none : same t (ascii "stock") ≡ false → Unknown ≡ countOf t
-    unfolding countOf
-    count-none e = named-no t (ascii "stock") Stock Unknown e ∙ named-no t (ascii "many") Many _ a
-
--- group after group
-or-known : (f next : Found) → isKnown f ≡ true → f ≡ orElse f next
-or-known (Known v) next e = refl
-or-known Unknown next e = absurd (false≢true e)
-
-or-unknown : (f next : Found) → isKnown f ≡ false → next ≡ orElse f next
-or-unknown (Known v) next e = absurd (false≢true (sym e))
-or-unknown Unknown next e = refl
-
-module _ (t : List ℕ) (f : Found) (e : f ≡ aboutOf t) where
-  pub verb-about : isKnown f ≡ true → f ≡ verbOf t
-  unfolding verbOf
-  verb-about k = or-known f _ k ∙ ap (λ (x : Found). orElse x (orElse (bothOf t) (countOf t))) e
-
-  module _ (n : isKnown f ≡ false) (g : Found) (d : g ≡ bothOf t) where
-    pub verb-both : isKnown g ≡ true → g ≡ verbOf t
-    unfolding verbOf
-    verb-both k =
-        or-known g (countOf t) k
-        ∙ ap (λ (x : Found). orElse x (countOf t)) d
-        ∙ or-unknown f (orElse (bothOf t) (countOf t)) n
-        ∙ ap (λ (x : Found). orElse x (orElse (bothOf t) (countOf t))) e
-
-    pub verb-count : isKnown g ≡ false → (h : Found) → h ≡ countOf t → h ≡ verbOf t
-    unfolding verbOf
-    verb-count k h c =
-        c
-        ∙ or-unknown g (countOf t) k
-        ∙ ap (λ (x : Found). orElse x (countOf t)) d
-        ∙ or-unknown f (orElse (bothOf t) (countOf t)) n
-        ∙ ap (λ (x : Found). orElse x (orElse (bothOf t) (countOf t))) e
+-- and so may a group and what follows it
+pub group-then : (r f g x y : Found) → r ≡ orElse f x → f ≡ g → x ≡ y → r ≡ orElse g y
+group-then r f g x y p q s = p ∙ ap (λ (z : Found). orElse z x) q ∙ ap (λ (z : Found). orElse g z) s

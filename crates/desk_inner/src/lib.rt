@@ -3,79 +3,87 @@
 use desk_spec::About;
 use desk_spec::Both;
 use desk_spec::Found;
+use desk_spec::Step;
 use desk_spec::Verb;
 ghost use Prim.Native.Nat.{_+_, _≤_};
 ghost use mathlib.Core.Path.{_≡_};
 ghost use lib.ListN.{length};
 ghost use Rattle.stream_spec.specs.Blocks.{Puts};
-ghost use Rattle.desk_spec.specs.Verbs.{isKnown, aboutOf, bothOf, countOf, verbOf};
+ghost use Rattle.desk_spec.specs.Verbs.{named, orElse, aboutOf, bothOf, countOf, stepOf, verbOf};
 ghost use Rattle.desk_spec.specs.Answers.{VerbSays, DeskAnswers};
 ghost use Rattle.desk_texts_inner.specs.Says.{deskRoom};
 
-fn is_known(f: Found) -> bool
-    ensures { λ r. ⌜ r ≡ isKnown f ⌝ }
+// The verb v where the word t is this name, else what follows.
+fn or_named(t: &[u8], name: &[u8], v: Verb, next: Found) -> Found
+    ensures { λ r. ⌜ r ≡ named (now (t .entry)) (now (name .entry)) v next ⌝ }
+{
+    if text_spell_inner::same_text(t, name) {
+        return Found::Known(v);
+    }
+    next
+}
+
+// The first that is known.
+fn or_else(f: Found, next: Found) -> Found
+    ensures { λ r. ⌜ r ≡ orElse f next ⌝ }
 {
     match f {
-        Found::Known(_) => true,
-        Found::Unknown => false,
+        Found::Known(v) => Found::Known(v),
+        Found::Unknown => next,
     }
 }
 
 fn about_of(t: &[u8]) -> Found
     ensures { λ r. ⌜ r ≡ aboutOf (now (t .entry)) ⌝ }
 {
-    if text_spell_inner::same_text(t, b"class") {
-        return Found::Known(Verb::About(About::Class));
-    }
-    if text_spell_inner::same_text(t, b"home") {
-        return Found::Known(Verb::About(About::Home));
-    }
-    if text_spell_inner::same_text(t, b"even") {
-        return Found::Known(Verb::About(About::Even));
-    }
-    if text_spell_inner::same_text(t, b"place") {
-        return Found::Known(Verb::About(About::Place));
-    }
-    Found::Unknown
+    let d = or_named(t, b"place", Verb::About(About::Place), Found::Unknown);
+    let c = or_named(t, b"even", Verb::About(About::Even), d);
+    let b = or_named(t, b"home", Verb::About(About::Home), c);
+    or_named(t, b"class", Verb::About(About::Class), b)
 }
 
 fn both_of(t: &[u8]) -> Found
     ensures { λ r. ⌜ r ≡ bothOf (now (t .entry)) ⌝ }
 {
-    if text_spell_inner::same_text(t, b"same") {
-        return Found::Known(Verb::Both(Both::Same));
-    }
-    if text_spell_inner::same_text(t, b"apart") {
-        return Found::Known(Verb::Both(Both::Apart));
-    }
-    Found::Unknown
+    let b = or_named(t, b"apart", Verb::Both(Both::Apart), Found::Unknown);
+    or_named(t, b"same", Verb::Both(Both::Same), b)
 }
 
 fn count_of(t: &[u8]) -> Found
     ensures { λ r. ⌜ r ≡ countOf (now (t .entry)) ⌝ }
 {
-    if text_spell_inner::same_text(t, b"many") {
-        return Found::Known(Verb::Many);
-    }
-    if text_spell_inner::same_text(t, b"stock") {
-        return Found::Known(Verb::Stock);
-    }
-    Found::Unknown
+    let b = or_named(t, b"stock", Verb::Stock, Found::Unknown);
+    or_named(t, b"many", Verb::Many, b)
 }
 
-// The verb of a word.
+fn step_of(t: &[u8]) -> Found
+    ensures { λ r. ⌜ r ≡ stepOf (now (t .entry)) ⌝ }
+{
+    let d = or_named(
+        t,
+        b"bracelet",
+        Verb::About(About::Step(Step::Bracelet)),
+        Found::Unknown,
+    );
+    let c = or_named(
+        t,
+        b"prenecklace",
+        Verb::About(About::Step(Step::Prenecklace)),
+        d,
+    );
+    let b = or_named(t, b"lyndon", Verb::About(About::Step(Step::Lyndon)), c);
+    or_named(t, b"next", Verb::About(About::Step(Step::Necklace)), b)
+}
+
+// The verb of a word, group after group.
 fn verb_of(t: &[u8]) -> Found
     ensures { λ r. ⌜ r ≡ verbOf (now (t .entry)) ⌝ }
 {
     let a = about_of(t);
-    if is_known(a) {
-        return a;
-    }
     let b = both_of(t);
-    if is_known(b) {
-        return b;
-    }
-    count_of(t)
+    let c = count_of(t);
+    let d = step_of(t);
+    or_else(a, or_else(b, or_else(c, d)))
 }
 
 // What the text behind a verb prints.

@@ -1,15 +1,17 @@
 -- A line prints one text.
 --     one-shows       an answer that is promised once prints one text
 --     one-asked       where a text asks one question, and a question prints one text, the text prints one
---     one-about, one-both, one-many    a question prints one text
+--     one-stepped, one-step, one-about, one-both, one-many    a question prints one text
 --     one-verb        and so does what stands behind a verb
 --     one-answer      and a line
 use Prim.Native.Nat.{ℕ}
 use mathlib.Core.Path.{_≡_, refl, sym, ap, _∙_}
+use mathlib.Core.Bool.{Bool}
 use mathlib.Core.List.{List}
 use lib.ListN.{length}
 use Rattle.rings.specs.Alike.{sameRing, evenHanded}
 use Rattle.rings.specs.Necklace.{necklace, lyndon}
+use Rattle.rings.specs.Prenecklace.{prenecklace}
 use Rattle.refusal.specs.Calls.{oneReading, twoReadings}
 use Rattle.classify_spec.proofs.Unique.{one-answer as one-class}
 use Rattle.home_spec.specs.declared.Homed.{Homed}
@@ -17,14 +19,20 @@ use Rattle.home_spec.proofs.Unique.{one-homed, one-told, one-distance}
 use Rattle.strip_spec.proofs.Unique.{one-telling}
 use Rattle.how_many_spec.specs.declared.Counted.{Counted}
 use Rattle.how_many_spec.proofs.Unique.{one-count}
+use Rattle.walk_spec.specs.declared.Outcome.{Outcome}
+use Rattle.walk_bracelet_spec.specs.declared.Arrival.{Arrival}
+use Rattle.walk_reading_spec.proofs.Unique.{one-step-from, one-bracelet-from}
+use Rattle.desk_spec.specs.declared.Step.{Step}
+use Rattle.desk_spec.specs.declared.Step.the-variants.{Necklace, Lyndon, Prenecklace, Bracelet}
 use Rattle.desk_spec.specs.declared.About.{About}
 use Rattle.desk_spec.specs.declared.About.the-variants.{Class, Home, Even, Place}
+use Rattle.desk_spec.specs.declared.About.the-variants as OfOne
 use Rattle.desk_spec.specs.declared.Both.{Both}
 use Rattle.desk_spec.specs.declared.Both.the-variants.{Same, Apart}
 use Rattle.desk_spec.specs.declared.Verb.{Verb}
 use Rattle.desk_spec.specs.declared.Verb.the-variants as Asks
 use Rattle.desk_spec.specs.Questions.{Replies, good, bad}
-use Rattle.desk_spec.specs.Answers.{AnswerShows, AboutSays, BothSays, ManySays, VerbSays, DeskAnswers, blank}
+use Rattle.desk_spec.specs.Answers.{AnswerShows, KindPrints, StepPrints, AboutSays, BothSays, ManySays, VerbSays, DeskAnswers, blank}
 use Rattle.desk_spec.proofs.Questions.{one-reading, one-pair, one-numbers, one-byte, one-line}
 
 -- an answer that is promised once
@@ -41,12 +49,24 @@ one-asked Reads Says one says t u (bad m x) (bad n y) = x ∙ sym y
 
 -- ---- questions
 
+pub one-stepped : (kind : List ℕ → Bool) (k : ℕ) (w t u : List ℕ) → KindPrints kind k w t → KindPrints kind k w u → t ≡ u
+one-stepped kind k w t u x y =
+    one-shows {A = Outcome × List ℕ} _ _ (λ a b p q. let e = one-step-from kind w k (blank (length w)) (a .0) (b .0) (a .1) (b .1) p q in λ i. (e .0 i, e .1 i)) t u x y
+
+pub one-step : (v : Step) (k : ℕ) (w t u : List ℕ) → StepPrints v k w t → StepPrints v k w u → t ≡ u
+one-step Necklace k w t u x y = one-stepped necklace k w t u x y
+one-step Lyndon k w t u x y = one-stepped lyndon k w t u x y
+one-step Prenecklace k w t u x y = one-stepped prenecklace k w t u x y
+one-step Bracelet k w t u x y =
+    one-shows {A = Arrival × List ℕ} _ _ (λ a b p q. let e = one-bracelet-from w k (blank (length w)) (a .0) (b .0) (a .1) (b .1) p q in λ i. (e .0 i, e .1 i)) t u x y
+
 pub one-about : (v : About) (k : ℕ) (w t u : List ℕ) → AboutSays v k w t → AboutSays v k w u → t ≡ u
 one-about Class k w t u x y = one-shows _ _ (one-class w k) t u x y
 one-about Home k w t u x y =
     one-shows {A = Homed × List ℕ} _ _ (λ a b p q. let e = one-homed w k (blank (length w)) (a .0) (b .0) (a .1) (b .1) p q in λ i. (e .0 i, e .1 i)) t u x y
 one-about Even k w t u x y = one-shows _ _ (one-told (oneReading w k) (evenHanded w)) t u x y
 one-about Place k w t u x y = one-shows _ _ (one-telling w k) t u x y
+one-about (OfOne.Step v) k w t u x y = one-step v k w t u x y
 
 pub one-both : (v : Both) (k : ℕ) (a b t u : List ℕ) → BothSays v k a b t → BothSays v k a b u → t ≡ u
 one-both Same k a b t u x y = one-shows _ _ (one-told (twoReadings a b k) (sameRing a b)) t u x y

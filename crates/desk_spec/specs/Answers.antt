@@ -1,5 +1,6 @@
 -- What a verb's call prints, by the call's own promise, and what a line prints.
 --     AnswerShows P f text          text is what an answer prints that the call promises
+--     KindPrints kind k w text, StepPrints v k w text    what a step from a reading prints
 --     AboutSays v k w text    what a question about one reading prints
 --     BothSays v k a b text   what a question about two readings prints
 --     ManySays k n text       how many rings there are
@@ -11,11 +12,13 @@
 -- That a line prints one text: proofs/Unique.
 use Prim.Native.Nat.{ℕ, _+_, _<_, _≤_}
 use mathlib.Core.Path.{_≡_}
+use mathlib.Core.Bool.{Bool}
 use mathlib.Core.List.{List}
 use lib.ListN.{length, take, drop, replicate}
 use Rattle.text_spec.specs.Ascii.{space}
 use Rattle.text_words_spec.specs.Words.{PieceAt}
 use Rattle.rings.specs.Necklace.{necklace, lyndon}
+use Rattle.rings.specs.Prenecklace.{prenecklace}
 use Rattle.rings.specs.Alike.{sameRing, evenHanded}
 use Rattle.refusal.specs.Calls.{oneReading, twoReadings}
 use Rattle.classify_spec.specs.Says.{ClassifySays}
@@ -25,8 +28,14 @@ use Rattle.strip_spec.specs.Says.{PlaceSays}
 use Rattle.how_many_spec.specs.declared.Counted.{Counted}
 use Rattle.how_many_spec.specs.Says.{CountSays}
 use Rattle.stock_spec.specs.Stock.{homeByte}
+use Rattle.walk_spec.specs.declared.Outcome.{Outcome}
+use Rattle.walk_bracelet_spec.specs.declared.Arrival.{Arrival}
+use Rattle.walk_reading_spec.specs.Says.{StepFromSays, BraceletFromSays}
+use Rattle.desk_spec.specs.declared.Step.{Step}
+use Rattle.desk_spec.specs.declared.Step.the-variants.{Necklace, Lyndon, Prenecklace, Bracelet}
 use Rattle.desk_spec.specs.declared.About.{About}
 use Rattle.desk_spec.specs.declared.About.the-variants.{Class, Home, Even, Place}
+use Rattle.desk_spec.specs.declared.About.the-variants as OfOne
 use Rattle.desk_spec.specs.declared.Both.{Both}
 use Rattle.desk_spec.specs.declared.Both.the-variants.{Same, Apart}
 use Rattle.desk_spec.specs.declared.Verb.{Verb}
@@ -34,7 +43,7 @@ use Rattle.desk_spec.specs.declared.Verb.the-variants as Asks
 use Rattle.desk_spec.specs.declared.Found.the-variants.{Known}
 use Rattle.desk_spec.specs.Verbs.{verbOf}
 use Rattle.desk_spec.specs.Questions.{ReadsReading, ReadsPair, ReadsNumbers, ReadsByte, Replies}
-use Rattle.desk_spec.specs.Texts.{classText, homeText, toldText, distanceText, placeText, manyText, stockText}
+use Rattle.desk_spec.specs.Texts.{classText, homeText, toldText, distanceText, placeText, manyText, stockText, stepText, arrivalText}
 
 -- text is what an answer prints that is promised
 pub record AnswerShows {A : Type 0} (P : A → Type 0) (print : A → List ℕ) (text : List ℕ) : Type 0 where
@@ -46,6 +55,18 @@ pub record AnswerShows {A : Type 0} (P : A → Type 0) (print : A → List ℕ) 
 abbrev pub blank : ℕ → List ℕ
 blank n = replicate n 0
 
+-- ---- steps
+
+-- to the next of a kind, with the moves
+abbrev pub KindPrints : (List ℕ → Bool) → ℕ → List ℕ → List ℕ → Type 0
+KindPrints kind k w text = AnswerShows {A = Outcome × List ℕ} (λ x. StepFromSays kind w k (blank (length w)) (x .0) (x .1)) (λ x. stepText (x .0) (x .1)) text
+
+abbrev pub StepPrints : Step → ℕ → List ℕ → List ℕ → Type 0
+StepPrints Necklace k w text = KindPrints necklace k w text
+StepPrints Lyndon k w text = KindPrints lyndon k w text
+StepPrints Prenecklace k w text = KindPrints prenecklace k w text
+StepPrints Bracelet k w text = AnswerShows {A = Arrival × List ℕ} (λ x. BraceletFromSays w k (blank (length w)) (x .0) (x .1)) (λ x. arrivalText (x .0) (x .1)) text
+
 -- ---- one reading
 
 abbrev pub AboutSays : About → ℕ → List ℕ → List ℕ → Type 0
@@ -53,6 +74,7 @@ AboutSays Class k w text = AnswerShows (λ a. ClassifySays w k a) classText text
 AboutSays Home k w text = AnswerShows {A = Homed × List ℕ} (λ x. HomeSays w k (blank (length w)) (x .0) (x .1)) (λ x. homeText (x .0) (x .1)) text
 AboutSays Even k w text = AnswerShows (λ a. ToldSays (oneReading w k) (evenHanded w) a) toldText text
 AboutSays Place k w text = AnswerShows (λ a. PlaceSays w k a) placeText text
+AboutSays (OfOne.Step v) k w text = StepPrints v k w text
 
 -- ---- two readings
 

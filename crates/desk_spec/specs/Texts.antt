@@ -8,6 +8,8 @@
 --     placeText              place 6
 --     manyText a b           6 3: the rings, and those that look different at each turn
 --     stockText b            23
+--     stepText a c           next 0111 moves 3, where c is the ring; done moves 0
+--     arrivalText a c        next 001111, where c is the ring; done
 use Prim.Native.Nat.{ℕ}
 use mathlib.Core.List.{List, [], _∷_}
 use lib.ListN.{length}
@@ -30,6 +32,10 @@ use Rattle.strip_spec.specs.declared.Position.{Position}
 use Rattle.strip_spec.specs.declared.Position.the-variants as P
 use Rattle.how_many_spec.specs.declared.Counted.{Counted}
 use Rattle.how_many_spec.specs.declared.Counted.the-variants as C
+use Rattle.walk_spec.specs.declared.Outcome.{Outcome}
+use Rattle.walk_spec.specs.declared.Outcome.the-variants as O
+use Rattle.walk_bracelet_spec.specs.declared.Arrival.{Arrival}
+use Rattle.walk_bracelet_spec.specs.declared.Arrival.the-variants as A
 
 -- a text with numbers alone
 abbrev pub plainText : List ℕ → List ℕ → List ℕ
@@ -79,3 +85,13 @@ manyText (C.Refused r) b = refusalText r
 
 abbrev pub stockText : ℕ → List ℕ
 stockText b = plainText (ascii "%\n") (b ∷ [])
+
+abbrev pub stepText : Outcome → List ℕ → List ℕ
+stepText (O.Moved m) c = countedRingText (ascii "next @ moves %\n") (m ∷ []) c
+stepText (O.Done m) c = plainText (ascii "done moves %\n") (m ∷ [])
+stepText (O.Refused r) c = refusalText r
+
+abbrev pub arrivalText : Arrival → List ℕ → List ℕ
+arrivalText A.Moved c = countedRingText (ascii "next @\n") [] c
+arrivalText A.Done c = plainText (ascii "done\n") []
+arrivalText (A.Refused r) c = refusalText r

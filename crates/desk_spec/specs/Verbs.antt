@@ -1,12 +1,13 @@
 -- The verb of a word.
 --     isKnown f     it is a verb's name
---     verbOf t      the verb whose name the word t is; each group of verbs has its own (aboutOf, bothOf, countOf)
+--     verbOf t      the verb whose name the word t is; each group of verbs has its own (aboutOf, bothOf, countOf, stepOf)
 use Prim.Native.Nat.{ℕ}
 use mathlib.Core.Bool.{Bool, true, false}
 use mathlib.Core.List.{List}
 use Rattle.words.specs.Order.{same}
 use Rattle.text_spec.specs.Ascii.{ascii}
-use Rattle.desk_spec.specs.declared.About.the-variants.{Class, Home, Even, Place}
+use Rattle.desk_spec.specs.declared.Step.the-variants as Steps
+use Rattle.desk_spec.specs.declared.About.the-variants.{Class, Home, Even, Place, Step}
 use Rattle.desk_spec.specs.declared.Both.the-variants.{Same, Apart}
 use Rattle.desk_spec.specs.declared.Verb.{Verb}
 use Rattle.desk_spec.specs.declared.Verb.the-variants.{About, Both, Many, Stock}
@@ -35,5 +36,9 @@ bothOf t = named t (ascii "same") (Both Same) (named t (ascii "apart") (Both Apa
 unfoldable pub countOf : List ℕ → Found
 countOf t = named t (ascii "many") Many (named t (ascii "stock") Stock Unknown)
 
+unfoldable pub stepOf : List ℕ → Found
+stepOf t =
+    named t (ascii "next") (About (Step Steps.Necklace)) (named t (ascii "lyndon") (About (Step Steps.Lyndon)) (named t (ascii "prenecklace") (About (Step Steps.Prenecklace)) (named t (ascii "bracelet") (About (Step Steps.Bracelet)) Unknown)))
+
 unfoldable pub verbOf : List ℕ → Found
-verbOf t = orElse (aboutOf t) (orElse (bothOf t) (countOf t))
+verbOf t = orElse (aboutOf t) (orElse (bothOf t) (orElse (countOf t) (stepOf t)))

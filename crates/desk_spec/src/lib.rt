@@ -1,11 +1,20 @@
 // What a line of the desk asks, and what it prints, as definitions. No functions.
 
+// A step from a reading, to the next ring of a kind.
+pub enum Step {
+    Necklace,
+    Lyndon,
+    Prenecklace,
+    Bracelet,
+}
+
 // A question about one reading.
 pub enum About {
     Class,
     Home,
     Even,
     Place,
+    Step(Step),
 }
 
 // A question about two readings.

@@ -1,67 +1,24 @@
 -- `desk_inner::about_of` meets its contract.
-use mathlib.Core.Path.{sym, _∙_}
-use Rattle.desk_inner.proofs.Verbs.{about-1, about-2, about-3, about-4, about-none}
+use Rattle.desk_inner.proofs.Verbs.{named-then}
+use Rattle.desk_spec.specs.Verbs.{aboutOf}
 use borrow.Author.Needs.{needs}
 use Rattle.desk_inner.proofs.about_of.Statement.{statement}
 use Rattle.desk_inner.proofs.about_of.Tie as tie
 
-slice-aggregate-same-text : tie.Need-slice-aggregate-same-text
-slice-aggregate-same-text c = search needs
-
-same-text-requires : tie.Need-same-text-requires
-same-text-requires c κs = search needs
-
 returns : tie.Need-returns
-returns c = about-1 (c .before .before .before .before .args .t .now) (sym (c .before .same-text .ensures) ∙ c .if1 .taken)
-
-slice-aggregate-same-text-2 : tie.Need-slice-aggregate-same-text-2
-slice-aggregate-same-text-2 c = search needs
-
-same-text-requires-2 : tie.Need-same-text-requires-2
-same-text-requires-2 c κs = search needs
-
-returns-2 : tie.Need-returns-2
-returns-2 c =
-    about-2 (c .before .before .before .before .before .before .before .args .t .now) (sym (c .before .before .before .before .same-text .ensures) ∙ c .before .before .before .if1 .left) (sym (c .before .same-text2 .ensures) ∙ c .if2 .taken)
-
-slice-aggregate-same-text-3 : tie.Need-slice-aggregate-same-text-3
-slice-aggregate-same-text-3 c = search needs
-
-same-text-requires-3 : tie.Need-same-text-requires-3
-same-text-requires-3 c κs = search needs
-
-returns-3 : tie.Need-returns-3
-returns-3 c =
-    about-3 (c .before .before .before .before .before .before .before .before .before .before .args .t .now) (sym (c .before .before .before .before .before .before .before .same-text .ensures) ∙ c .before .before .before .before .before .before .if1 .left) (sym (c .before .before .before .before .same-text2 .ensures) ∙ c .before .before .before .if2 .left) (sym (c .before .same-text3 .ensures) ∙ c .if3 .taken)
-
-slice-aggregate-same-text-4 : tie.Need-slice-aggregate-same-text-4
-slice-aggregate-same-text-4 c = search needs
-
-same-text-requires-4 : tie.Need-same-text-requires-4
-same-text-requires-4 c κs = search needs
-
-returns-4 : tie.Need-returns-4
-returns-4 c =
-    about-4 (c .before .before .before .before .before .before .before .before .before .before .before .before .before .args .t .now) (sym (c .before .before .before .before .before .before .before .before .before .before .same-text .ensures) ∙ c .before .before .before .before .before .before .before .before .before .if1 .left) (sym (c .before .before .before .before .before .before .before .same-text2 .ensures) ∙ c .before .before .before .before .before .before .if2 .left) (sym (c .before .before .before .before .same-text3 .ensures) ∙ c .before .before .before .if3 .left) (sym (c .before .same-text4 .ensures) ∙ c .if4 .taken)
-
-returns-5 : tie.Need-returns-5
-returns-5 c =
-    about-none (c .before .before .before .before .before .before .before .before .before .before .before .before .before .args .t .now) (sym (c .before .before .before .before .before .before .before .before .before .before .same-text .ensures) ∙ c .before .before .before .before .before .before .before .before .before .if1 .left) (sym (c .before .before .before .before .before .before .before .same-text2 .ensures) ∙ c .before .before .before .before .before .before .if2 .left) (sym (c .before .before .before .before .same-text3 .ensures) ∙ c .before .before .before .if3 .left) (sym (c .before .same-text4 .ensures) ∙ c .if4 .left)
+unfolding aboutOf
+returns c = named-then _ _ _ _ _ _ (c .or-named4 .ensures) (named-then _ _ _ _ _ _ (c .before .before .or-named3 .ensures) (named-then _ _ _ _ _ _ (c .before .before .before .before .or-named2 .ensures) (c .before .before .before .before .before .before .or-named .ensures)))
 
 pub about-of-spec : {M : Type 1} → statement M
 about-of-spec =
     tie.close
     (tie.spec
-    slice-aggregate-same-text
-    same-text-requires
-    returns
-    slice-aggregate-same-text-2
-    same-text-requires-2
-    returns-2
-    slice-aggregate-same-text-3
-    same-text-requires-3
-    returns-3
-    slice-aggregate-same-text-4
-    same-text-requires-4
-    returns-4
-    returns-5)
+    (λ c. search needs)
+    (λ c κs. search needs)
+    (λ c. search needs)
+    (λ c κs. search needs)
+    (λ c. search needs)
+    (λ c κs. search needs)
+    (λ c. search needs)
+    (λ c κs. search needs)
+    returns)
