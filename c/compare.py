@@ -3,7 +3,7 @@
 
 The cases are the lines of crates/test_*/stdin, and the texts crates/test_*/stdout, which were written from the documents: what a program of evidence prints by the calls is printed
 here by the library. A case that C cannot put, a walk's record that no walk has made, is passed over, and counted. The lines of the desk, `VERB WORDS`, and the
-text of each, are answered by the library too. The calls that no run has, `nearest`, `pick_guarded`
+text of each, are answered by the library too: those of crates/desk, and the files .ci/runs/desk-*.in. The calls that no run has, `nearest`, `pick_guarded`
 and `sight`, are tried by their definitions. Ends with 'N cases of M runs .. F differ'."""
 import glob
 import itertools
@@ -71,40 +71,12 @@ def readings(line):
     what, a = word(line, 0), sectors(word(line, 1))
     if what == "class":
         answer = told(lambda: class_text(rings.classify(a, number(line, 2))))
-    elif what == "even-handed":
-        answer = told(lambda: ("no", "yes")[rings.even_handed(a, number(line, 2))])
-    elif what == "stock":
-        answer = str(rings.stock_home(number(line, 1) % 256))
     elif what == "home":
         out = lent(sectors(word(line, 3)))
         answer = told(lambda: "shift {0.shift} period {0.period}".format(rings._c_home(a, len(a), number(line, 2), out, len(word(line, 3))))) + " output " + shown(held(out))
-    elif what == "same":
-        answer = told(lambda: ("no", "yes")[rings.same(a, sectors(word(line, 2)), number(line, 3))])
     else:
-        answer = told(lambda: str(rings.apart(a, sectors(word(line, 2)), number(line, 3))))
+        return PASS
     return [f"{line}: {answer}"]
-
-
-def home(line):
-    def one(s, k):
-        h = rings.home(s, k)
-        return f"{shown(s)} {h.shift} {h.period} {shown(h.ring)}"
-
-    s, many = sectors(word(line, 1)), number(line, 3)
-    if word(line, 0) == "all":
-        return [one(bytes(x >> i & 1 for i in reversed(range(len(s)))), 2) for x in range(many)]
-    return [one(s, many)]
-
-
-def home_apart(line):
-    a, b, x = sectors(word(line, 1)), sectors(word(line, 2)), number(line, 3)
-    if word(line, 0) == "all":
-        every = [bytes(x >> i & 1 for i in reversed(range(len(a)))) for x in range(x)]
-        every = [s for s in every if rings.home(s, 2).shift == 0]
-        return [" ".join([shown(s)] + [str(rings.apart(s, t, 2)) for t in every]) for s in every]
-    if word(line, 0) == "pair":
-        return [f"{len(a)}: {rings.apart(a, b, x)} {rings.apart(b, a, x)}"]
-    return PASS
 
 
 def bits(text):
@@ -343,7 +315,7 @@ def sets(line):
 
 def desk(line):
     def digits(text):
-        if not text or any(x not in "0123456789abcdef" for x in text):
+        if any(x not in "0123456789abcdef" for x in text):
             raise ValueError
         return bytes(int(x, 16) for x in text)
 
@@ -405,7 +377,7 @@ def desk(line):
     return PASS
 
 
-RUNS = {"test_readings": readings, "test_home": home, "test_home_apart": home_apart, "test_density": density, "test_strip": strip, "test_shades": shades,
+RUNS = {"test_readings": readings, "test_density": density, "test_strip": strip, "test_shades": shades,
         "test_shades_left": shades_left, "test_walk": walk, "test_walk_bracelet": walk_bracelet, "test_how_many": how_many, "test_catalogue": catalogue, "test_writer": writer,
         "test_converter": converter, "test_sets": sets}
 
@@ -476,6 +448,10 @@ def run(name, answer, lines, expected):
         compared, at = 1, len(printed)
         differ += printed != expected[:at]
     for line in lines:
+        # what a file of the desk's lines says of the cases behind it, which the desk refuses as it does any line that asks nothing
+        if answer is desk and line.startswith("#"):
+            at += 1
+            continue
         got = said(line) if name in ("test_catalogue", "test_writer", "test_converter") else None
         got = got or answer(line)
         if got is PASS:
@@ -494,13 +470,14 @@ def run(name, answer, lines, expected):
 
 def main():
     crates = sys.argv[1]
-    runs = [(name, answer) for name, answer in RUNS.items()]
-    runs += [(os.path.basename(d), desk) for d in sorted(glob.glob(os.path.join(crates, "test_desk*")) + glob.glob(os.path.join(crates, "desk"))) if os.path.exists(os.path.join(d, "stdin"))]
+    stored = os.path.join(crates, os.pardir, ".ci", "runs")
+    runs = [(name, answer, os.path.join(crates, name, "stdin"), os.path.join(crates, name, "stdout")) for name, answer in list(RUNS.items()) + [("desk", desk)]]
+    runs += [(os.path.basename(f), desk, f, f[:-2] + "out") for f in sorted(glob.glob(os.path.join(stored, "desk-*.in")))]
     totals = [0, 0, 0]
-    for name, answer in runs:
-        lines = open(os.path.join(crates, name, "stdin"), encoding="latin-1", newline="\n").read().split("\n")
+    for name, answer, given, printed in runs:
+        lines = open(given, encoding="latin-1", newline="\n").read().split("\n")
         lines = lines[:-1] if lines[-1] == "" else lines
-        expected = open(os.path.join(crates, name, "stdout"), encoding="latin-1", newline="\n").read().split("\n")[:-1]
+        expected = open(printed, encoding="latin-1", newline="\n").read().split("\n")[:-1]
         totals = [a + b for a, b in zip(totals, run(name, answer, lines, expected))]
     tried, wrong = by_definition()
     totals[2] += wrong
