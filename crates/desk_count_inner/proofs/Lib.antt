@@ -1,2 +1,2 @@
--- Numbers that a text asks for (Reading).
+-- A byte that a text asks for (Reading).
 pub mod Reading

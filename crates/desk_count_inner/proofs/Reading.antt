@@ -1,5 +1,4 @@
--- Numbers that a text asks for.
---     numbers, no-numbers      two numbers, as the listing's line has them
+-- A byte that a text asks for.
 --     byte, no-byte, great     a byte
 use Prim.Native.Nat.{ℕ, _<_}
 use mathlib.Core.Path.{_≡_, sym, _∙_}
@@ -7,18 +6,11 @@ use mathlib.Core.List.{List}
 use native.Mathlib.Omega.{arith}
 use Rattle.text_spec.specs.Decimal.{decimal}
 use Rattle.text_spec.proofs.Digits.{decimal-one}
-use Rattle.line_spec.specs.declared.Parsed.the-variants.{Pair, Line}
 use Rattle.line_spec.specs.declared.Numeral.the-variants.{Value, Malformed}
-use Rattle.line_spec.specs.Line.{FieldsSays, NumberSays}
-use Rattle.desk_spec.specs.Questions.{ReadsNumbers, ReadsByte}
+use Rattle.line_spec.specs.Line.{NumberSays}
+use Rattle.desk_spec.specs.Questions.{ReadsByte}
 
 module _ (t : List ℕ) where
-  pub numbers : (k n : ℕ) → FieldsSays t (Pair k n) → ReadsNumbers t (k, n)
-  numbers k n f = record { short = f .0; second = f .1; words = f .2 }
-
-  pub no-numbers : FieldsSays t Line → (q : ℕ × ℕ) → ReadsNumbers t q → ⊥
-  no-numbers f q x = f (q .0) (q .1) (x .short) (x .second) (x .words)
-
   pub byte : (b : ℕ) → NumberSays t (Value b) → b < 256 → ReadsByte t b
   byte b f h = record { fits = h; words = f .1 }
 

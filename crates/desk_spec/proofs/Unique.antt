@@ -1,10 +1,10 @@
 -- A line prints one text.
 --     one-shows       an answer that is promised once prints one text
 --     one-asked       where a text asks one question, and a question prints one text, the text prints one
---     one-stepped, one-step, one-about, one-both, one-many    a question prints one text
+--     one-stepped, one-step, one-about, one-both, one-many, one-strip    a question prints one text
 --     one-verb        and so does what stands behind a verb
 --     one-answer      and a line
-use Prim.Native.Nat.{ℕ}
+use Prim.Native.Nat.{ℕ, _^_}
 use mathlib.Core.Path.{_≡_, refl, sym, ap, _∙_}
 use mathlib.Core.Bool.{Bool}
 use mathlib.Core.List.{List}
@@ -16,7 +16,8 @@ use Rattle.refusal.specs.Calls.{oneReading, twoReadings}
 use Rattle.classify_spec.proofs.Unique.{one-answer as one-class}
 use Rattle.home_spec.specs.declared.Homed.{Homed}
 use Rattle.home_spec.proofs.Unique.{one-homed, one-told, one-distance}
-use Rattle.strip_spec.proofs.Unique.{one-telling}
+use Rattle.strip_spec.specs.declared.Written.{Written}
+use Rattle.strip_spec.proofs.Unique.{one-telling, one-writing}
 use Rattle.how_many_spec.specs.declared.Counted.{Counted}
 use Rattle.how_many_spec.proofs.Unique.{one-count}
 use Rattle.walk_spec.specs.declared.Outcome.{Outcome}
@@ -32,7 +33,7 @@ use Rattle.desk_spec.specs.declared.Both.the-variants.{Same, Apart}
 use Rattle.desk_spec.specs.declared.Verb.{Verb}
 use Rattle.desk_spec.specs.declared.Verb.the-variants as Asks
 use Rattle.desk_spec.specs.Questions.{Replies, good, bad}
-use Rattle.desk_spec.specs.Answers.{AnswerShows, KindPrints, StepPrints, AboutSays, BothSays, ManySays, VerbSays, DeskAnswers, blank}
+use Rattle.desk_spec.specs.Answers.{AnswerShows, KindPrints, StepPrints, AboutSays, BothSays, ManySays, StripPrints, VerbSays, DeskAnswers, blank}
 use Rattle.desk_spec.proofs.Questions.{one-reading, one-pair, one-numbers, one-byte, one-line}
 
 -- an answer that is promised once
@@ -79,6 +80,10 @@ one-many k n t u x y =
     one-shows {A = Counted × Counted} _ _
     (λ a b p q. let e = one-count necklace k n (a .0) (b .0) (p .0) (q .0) in let f = one-count lyndon k n (a .1) (b .1) (p .1) (q .1) in λ i. (e i, f i)) t u x y
 
+pub one-strip : (k n : ℕ) (t u : List ℕ) → StripPrints k n t → StripPrints k n u → t ≡ u
+one-strip k n t u x y =
+    one-shows {A = Written × List ℕ} _ _ (λ a b p q. let e = one-writing n k (blank (k ^ n)) (a .0) (b .0) (a .1) (b .1) p q in λ i. (e .0 i, e .1 i)) t u x y
+
 -- ---- a line
 
 pub one-verb : (v : Verb) (s t u : List ℕ) → VerbSays v s t → VerbSays v s u → t ≡ u
@@ -86,6 +91,7 @@ one-verb (Asks.About v) s t u x y = one-asked _ _ (one-reading s) (λ q. one-abo
 one-verb (Asks.Both v) s t u x y = one-asked _ _ (one-pair s) (λ q. one-both v (q .0) (q .1) (q .2)) t u x y
 one-verb Asks.Many s t u x y = one-asked _ _ (one-numbers s) (λ q. one-many (q .0) (q .1)) t u x y
 one-verb Asks.Stock s t u x y = one-asked _ _ (one-byte s) (λ b a c p q. p ∙ sym q) t u x y
+one-verb Asks.Strip s t u x y = one-asked _ _ (one-numbers s) (λ q. one-strip (q .0) (q .1)) t u x y
 
 pub one-answer : (s t u : List ℕ) → DeskAnswers s t → DeskAnswers s u → t ≡ u
 one-answer s t u x y = one-asked _ _ (one-line s) (λ q. one-verb (q .0) (q .1)) t u x y

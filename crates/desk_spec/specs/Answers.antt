@@ -4,13 +4,14 @@
 --     AboutSays v k w text    what a question about one reading prints
 --     BothSays v k a b text   what a question about two readings prints
 --     ManySays k n text       how many rings there are
+--     StripPrints k n text    the strip
 --     VerbSays v t text       what the text t behind a verb prints
 --     longestLine             a longer line is malformed
 --     LineReads s q           the line s is a verb's name, a space, and a text
 --     DeskAnswers s text          what the line s prints, its newline left out
--- An output that a call asks for is as long as the reading, and 0 before.
+-- An output that a call asks for is as long as the reading, that of a strip as long as the strip, and 0 before.
 -- That a line prints one text: proofs/Unique.
-use Prim.Native.Nat.{ℕ, _+_, _<_, _≤_}
+use Prim.Native.Nat.{ℕ, _+_, _^_, _<_, _≤_}
 use mathlib.Core.Path.{_≡_}
 use mathlib.Core.Bool.{Bool}
 use mathlib.Core.List.{List}
@@ -24,7 +25,8 @@ use Rattle.refusal.specs.Calls.{oneReading, twoReadings}
 use Rattle.classify_spec.specs.Says.{ClassifySays}
 use Rattle.home_spec.specs.Says.{HomeSays, ToldSays, DistanceSays}
 use Rattle.home_spec.specs.declared.Homed.{Homed}
-use Rattle.strip_spec.specs.Says.{PlaceSays}
+use Rattle.strip_spec.specs.declared.Written.{Written}
+use Rattle.strip_spec.specs.Says.{StripSays, PlaceSays}
 use Rattle.how_many_spec.specs.declared.Counted.{Counted}
 use Rattle.how_many_spec.specs.Says.{CountSays}
 use Rattle.stock_spec.specs.Stock.{homeByte}
@@ -43,7 +45,7 @@ use Rattle.desk_spec.specs.declared.Verb.the-variants as Asks
 use Rattle.desk_spec.specs.declared.Found.the-variants.{Known}
 use Rattle.desk_spec.specs.Verbs.{verbOf}
 use Rattle.desk_spec.specs.Questions.{ReadsReading, ReadsPair, ReadsNumbers, ReadsByte, Replies}
-use Rattle.desk_spec.specs.Texts.{classText, homeText, toldText, distanceText, placeText, manyText, stockText, stepText, arrivalText}
+use Rattle.desk_spec.specs.Texts.{classText, homeText, toldText, distanceText, placeText, manyText, stockText, stepText, arrivalText, stripText}
 
 -- text is what an answer prints that is promised
 pub record AnswerShows {A : Type 0} (P : A → Type 0) (print : A → List ℕ) (text : List ℕ) : Type 0 where
@@ -87,6 +89,9 @@ BothSays Apart k a b text = AnswerShows (λ r. DistanceSays a b k r) distanceTex
 abbrev pub ManySays : ℕ → ℕ → List ℕ → Type 0
 ManySays k n text = AnswerShows {A = Counted × Counted} (λ x. CountSays necklace k n (x .0) × CountSays lyndon k n (x .1)) (λ x. manyText (x .0) (x .1)) text
 
+abbrev pub StripPrints : ℕ → ℕ → List ℕ → Type 0
+StripPrints k n text = AnswerShows {A = Written × List ℕ} (λ x. StripSays n k (blank (k ^ n)) (x .0) (x .1)) (λ x. stripText (x .0) (x .1)) text
+
 -- ---- a line
 
 abbrev pub VerbSays : Verb → List ℕ → List ℕ → Type 0
@@ -94,6 +99,7 @@ VerbSays (Asks.About v) t text = Replies (ReadsReading t) (λ q. AboutSays v (q 
 VerbSays (Asks.Both v) t text = Replies (ReadsPair t) (λ q. BothSays v (q .0) (q .1) (q .2)) text
 VerbSays Asks.Many t text = Replies (ReadsNumbers t) (λ q. ManySays (q .0) (q .1)) text
 VerbSays Asks.Stock t text = Replies (ReadsByte t) (λ b x. x ≡ stockText (homeByte b)) text
+VerbSays Asks.Strip t text = Replies (ReadsNumbers t) (λ q. StripPrints (q .0) (q .1)) text
 
 abbrev pub longestLine : ℕ
 longestLine = 4095

@@ -10,6 +10,7 @@
 --     stockText b            23
 --     stepText a c           next 0111 moves 3, where c is the ring; done moves 0
 --     arrivalText a c        next 001111, where c is the ring; done
+--     stripText a c          00010111, where c is the strip
 use Prim.Native.Nat.{ℕ}
 use mathlib.Core.List.{List, [], _∷_}
 use lib.ListN.{length}
@@ -28,6 +29,8 @@ use Rattle.home_spec.specs.declared.Told.{Told}
 use Rattle.home_spec.specs.declared.Told.the-variants as T
 use Rattle.home_spec.specs.declared.Distance.{Distance}
 use Rattle.home_spec.specs.declared.Distance.the-variants as D
+use Rattle.strip_spec.specs.declared.Written.{Written}
+use Rattle.strip_spec.specs.declared.Written.the-variants as W
 use Rattle.strip_spec.specs.declared.Position.{Position}
 use Rattle.strip_spec.specs.declared.Position.the-variants as P
 use Rattle.how_many_spec.specs.declared.Counted.{Counted}
@@ -95,3 +98,7 @@ abbrev pub arrivalText : Arrival → List ℕ → List ℕ
 arrivalText A.Moved c = countedRingText (ascii "next @\n") [] c
 arrivalText A.Done c = plainText (ascii "done\n") []
 arrivalText (A.Refused r) c = refusalText r
+
+abbrev pub stripText : Written → List ℕ → List ℕ
+stripText W.Strip c = countedRingText (ascii "@\n") [] c
+stripText (W.Refused r) c = refusalText r

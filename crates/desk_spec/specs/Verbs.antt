@@ -1,6 +1,6 @@
 -- The verb of a word.
 --     isKnown f     it is a verb's name
---     verbOf t      the verb whose name the word t is; each group of verbs has its own (aboutOf, bothOf, countOf, stepOf)
+--     verbOf t      the verb whose name the word t is; each group of verbs has its own (aboutOf, bothOf, countOf, stepOf, stripOf)
 use Prim.Native.Nat.{ℕ}
 use mathlib.Core.Bool.{Bool, true, false}
 use mathlib.Core.List.{List}
@@ -10,7 +10,7 @@ use Rattle.desk_spec.specs.declared.Step.the-variants as Steps
 use Rattle.desk_spec.specs.declared.About.the-variants.{Class, Home, Even, Place, Step}
 use Rattle.desk_spec.specs.declared.Both.the-variants.{Same, Apart}
 use Rattle.desk_spec.specs.declared.Verb.{Verb}
-use Rattle.desk_spec.specs.declared.Verb.the-variants.{About, Both, Many, Stock}
+use Rattle.desk_spec.specs.declared.Verb.the-variants.{About, Both, Many, Stock, Strip}
 use Rattle.desk_spec.specs.declared.Found.{Found}
 use Rattle.desk_spec.specs.declared.Found.the-variants.{Known, Unknown}
 
@@ -40,5 +40,8 @@ unfoldable pub stepOf : List ℕ → Found
 stepOf t =
     named t (ascii "next") (About (Step Steps.Necklace)) (named t (ascii "lyndon") (About (Step Steps.Lyndon)) (named t (ascii "prenecklace") (About (Step Steps.Prenecklace)) (named t (ascii "bracelet") (About (Step Steps.Bracelet)) Unknown)))
 
+unfoldable pub stripOf : List ℕ → Found
+stripOf t = named t (ascii "strip") Strip Unknown
+
 unfoldable pub verbOf : List ℕ → Found
-verbOf t = orElse (aboutOf t) (orElse (bothOf t) (orElse (countOf t) (stepOf t)))
+verbOf t = orElse (aboutOf t) (orElse (bothOf t) (orElse (countOf t) (orElse (stepOf t) (stripOf t))))

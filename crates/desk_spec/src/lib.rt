@@ -29,6 +29,7 @@ pub enum Verb {
     Both(Both),
     Many,
     Stock,
+    Strip,
 }
 
 // The verb of a word, if it is one's name.

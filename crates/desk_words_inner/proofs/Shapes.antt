@@ -2,6 +2,7 @@
 --     rest-all                        the rest of a text
 --     put-reading, no-reading         a reading stands there
 --     no-pair, no-both, put-both, put-pair    two readings stand there
+--     numbers, no-numbers             two numbers alone, as the listing's line has them
 --     take-blank, rest-long, ask-room what is lent for a reading, and for an output
 use Prim.Native.Nat.{ℕ, zero, suc, _+_, _-_, _<_, _≤_}
 use mathlib.Core.Path.{_≡_, refl, sym, ap, _∙_}
@@ -15,7 +16,9 @@ use Rattle.stream_spec.specs.Blocks.{Puts}
 use Rattle.text_words_spec.specs.Words.{pieces, PieceAt, Spelt}
 use Rattle.text_words_spec.proofs.Pieces.{pieces-more, pieces-single, more-two, more-first, more-rest}
 use Rattle.text_words_spec.proofs.Spelling.{spelt-plain}
-use Rattle.desk_spec.specs.Questions.{ReadsReading, ReadsPair, Replies}
+use Rattle.line_spec.specs.declared.Parsed.the-variants.{Pair, Line}
+use Rattle.line_spec.specs.Line.{FieldsSays}
+use Rattle.desk_spec.specs.Questions.{ReadsReading, ReadsPair, ReadsNumbers, Replies}
 use Rattle.desk_spec.specs.declared.Both.{Both}
 use Rattle.desk_spec.specs.Answers.{BothSays, blank}
 use Rattle.desk_texts_inner.specs.Says.{deskRoom}
@@ -50,6 +53,17 @@ module _ (t : List ℕ) where
 
         back : (q : ℕ × List ℕ) → ReadsReading t q → (w : List ℕ) × Spelt (drop at t) w
         back q y = (q .1, record { digits = pieces-single 32 (drop at t) _ (rest-words t k at h (q .0) (map hexOf (q .1) ∷ []) (y .words)); below = y .sectors })
+
+-- ---- two numbers
+
+module _ (t : List ℕ) where
+  pub numbers : (k n : ℕ) → FieldsSays t (Pair k n) → ReadsNumbers t (k, n)
+  numbers k n f = record { short = f .0; second = f .1; words = f .2 }
+
+  pub no-numbers : FieldsSays t Line → (q : ℕ × ℕ) → ReadsNumbers t q → ⊥
+  no-numbers f q x = f (q .0) (q .1) (x .short) (x .second) (x .words)
+
+-- ---- outputs
 
 -- the first bytes of an output that is 0
 pub take-blank : (n m : ℕ) → n ≤ m → take n (blank m) ≡ blank n

@@ -1,6 +1,6 @@
 -- `desk_count_inner::place_many` meets its contract.
 use Rattle.desk_texts_inner.proofs.Putting.{put-good, put-bad}
-use Rattle.desk_count_inner.proofs.Reading.{no-numbers, numbers}
+use Rattle.desk_words_inner.proofs.Shapes.{no-numbers, numbers}
 use borrow.Author.Needs.{needs}
 use Rattle.desk_count_inner.proofs.place_many.Statement.{statement}
 use Rattle.desk_count_inner.proofs.place_many.Tie as tie

@@ -1,0 +1,2 @@
+-- The output that a strip is written into (Outputs).
+pub mod Outputs

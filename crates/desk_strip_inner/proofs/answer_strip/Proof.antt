@@ -1,0 +1,50 @@
+-- `desk_strip_inner::answer_strip` meets its contract.
+use Prim.Native.Nat.{ℕ, _^_}
+use mathlib.Core.Path.{refl}
+use mathlib.Core.Logic.{inl}
+use mathlib.Core.List.{List}
+use native.Mathlib.Omega.{arith}
+use lib.ListN.{length-take}
+use Rattle.strip_spec.specs.declared.Written.{Written}
+use Rattle.strip_spec.specs.declared.Written.the-variants as W
+use Rattle.strip_spec.specs.Says.{StripSays}
+use Rattle.desk_spec.specs.Texts.{stripText}
+use Rattle.desk_spec.specs.Answers.{blank}
+use Rattle.desk_texts_inner.proofs.Putting.{put-shown}
+use Rattle.limits_spec.proofs.Given.{accepted-listable}
+use Rattle.desk_strip_inner.proofs.Outputs.{strip-room}
+use borrow.Author.Needs.{needs}
+use Rattle.desk_strip_inner.proofs.answer_strip.Statement.{statement}
+use Rattle.desk_strip_inner.proofs.answer_strip.Tie as tie
+
+power-requires : tie.Need-power-requires
+power-requires c κs = let g = c .before .before .before .before in let l = accepted-listable 4096 (g .args .k) (g .args .n) _ _ _ (c .enum-told .given .1) (c .before .before .plan-numbers .ensures) in (omega (arith, l .shaded .0), omega (arith, l .few))
+
+array-borrow-prefix-out : tie.Need-array-borrow-prefix-out
+array-borrow-prefix-out c = let g = c .before .before .before .before .before in let l = accepted-listable 4096 (g .args .k) (g .args .n) _ _ _ (c .before .enum-told .given .1) (c .before .before .before .plan-numbers .ensures) in omega (arith, c .power .ensures, l .few)
+
+slice-aggregate-answer-whole : tie.Need-slice-aggregate-answer-whole
+slice-aggregate-answer-whole c = let g = c .before .before .before .before .before .before in let l = accepted-listable 4096 (g .args .k) (g .args .n) _ _ _ (c .before .before .enum-told .given .1) (c .before .before .before .before .plan-numbers .ensures) in simp length-take (omega (arith, c .before .power .ensures, l .few))
+
+answer-whole-requires : tie.Need-answer-whole-requires
+answer-whole-requires c κs = let g = c .before .before .before .before .before .before .before in let l = accepted-listable 4096 (g .args .k) (g .args .n) _ _ _ (c .before .before .before .enum-told .given .1) (c .before .before .before .before .before .plan-numbers .ensures) in let o = strip-room (g .args .k) (g .args .n) (c .before .before .power .result) (c .before .before .power .ensures) (l .few) in (o .0, (o .1, g .pre))
+
+returns : tie.Need-returns
+returns c = let g = c .before .before .before .before .before .before .before .before .before in put-shown {A = Written × List ℕ} (λ x. StripSays (g .args .n) (g .args .k) (blank (g .args .k ^ g .args .n)) (x .0) (x .1)) (λ x. stripText (x .0) (x .1)) (W.Refused _, blank (g .args .k ^ g .args .n)) (inl (rw (c .before .before .before .before .before .r .given .1) at (c .before .before .before .before .before .before .before .plan-numbers .ensures)), refl) _ _ _ _ (c .before .before .place-refusal .ensures)
+
+pub answer-strip-spec : {M : Type 1} → statement M
+answer-strip-spec =
+    tie.close
+    (tie.spec
+    (λ c κs. search needs)
+    (λ c. search needs)
+    (λ c κs. search needs)
+    (λ c. search needs)
+    power-requires
+    array-borrow-prefix-out
+    slice-aggregate-answer-whole
+    answer-whole-requires
+    (λ c. search needs)
+    returns
+    (λ c. search needs)
+    (λ c. search needs))

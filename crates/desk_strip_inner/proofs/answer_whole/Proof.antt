@@ -1,0 +1,18 @@
+-- `desk_strip_inner::answer_whole` meets its contract.
+use Rattle.desk_texts_inner.proofs.Putting.{put-shown}
+use borrow.Author.Needs.{needs}
+use Rattle.desk_strip_inner.proofs.answer_whole.Statement.{statement}
+use Rattle.desk_strip_inner.proofs.answer_whole.Tie as tie
+
+returns : tie.Need-returns
+returns c = let s = c .before .before .before .before .before .before .before .write-strip in put-shown _ _ (s .result, _) (rw (c .before .before .before .before .before .before .before .before .before .before .before .pre .0) at (s .ensures)) _ _ _ _ (c .before .before .place-written .ensures)
+
+pub answer-whole-spec : {M : Type 1} → statement M
+answer-whole-spec =
+    tie.close
+    (tie.spec
+    (λ c κs. search needs)
+    (λ c κs. search needs)
+    (λ c. search needs)
+    (λ c. search needs)
+    returns)

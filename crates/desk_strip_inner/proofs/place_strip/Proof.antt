@@ -1,0 +1,26 @@
+-- `desk_strip_inner::place_strip` meets its contract.
+use Rattle.desk_texts_inner.proofs.Putting.{put-good, put-bad}
+use Rattle.desk_words_inner.proofs.Shapes.{no-numbers, numbers}
+use borrow.Author.Needs.{needs}
+use Rattle.desk_strip_inner.proofs.place_strip.Statement.{statement}
+use Rattle.desk_strip_inner.proofs.place_strip.Tie as tie
+
+returns : tie.Need-returns
+returns c = put-bad _ _ _ _ _ _ (no-numbers (c .before .before .before .before .before .before .before .before .before .args .t .now) (rw (c .before .before .before .before .enum-told .given .1) at (c .before .before .before .before .before .before .parse-fields .ensures))) (c .before .before .place-malformed .ensures)
+
+returns-2 : tie.Need-returns-2
+returns-2 c = let k = c .before .before .before .before .before .k .given in put-good _ _ _ _ _ _ (k .0 .0, k .0 .1 .0) (numbers (c .before .before .before .before .before .before .before .before .before .before .args .t .now) (k .0 .0) (k .0 .1 .0) (rw (k .1) at (c .before .before .before .before .before .before .before .parse-fields .ensures))) (c .before .before .answer-strip .ensures)
+
+pub place-strip-spec : {M : Type 1} → statement M
+place-strip-spec =
+    tie.close
+    (tie.spec
+    (λ c κs. search needs)
+    (λ c. search needs)
+    (λ c κs. search needs)
+    (λ c. search needs)
+    (λ c κs. search needs)
+    (λ c. search needs)
+    returns
+    (λ c. search needs)
+    returns-2)
