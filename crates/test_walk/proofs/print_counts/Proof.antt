@@ -1,8 +1,8 @@
--- `test_walk_counts::print_counts` is safe and ends: it goes through 16 counts.
+-- `test_walk::print_counts` is safe and ends: it goes through 16 counts.
 use Prim.Native.Nat.{_≤_, _-_}
 use borrow.Author.Needs.{needs}
-use Rattle.test_walk_counts.proofs.print_counts.Statement.{statement}
-use Rattle.test_walk_counts.proofs.print_counts.Tie as tie
+use Rattle.test_walk.proofs.print_counts.Statement.{statement}
+use Rattle.test_walk.proofs.print_counts.Tie as tie
 
 abbrev Inv-loop : tie.InvT-loop
 Inv-loop counts b₀ b = b ≤ 16
