@@ -114,15 +114,21 @@ def strip(line):
 
 
 def shades(line):
-    s, k, counts = sectors(word(line, 1)), number(line, 2), [int(x) for x in line.split(" ")[4:4 + number(line, 3)]]
-    if word(line, 0) == "after":
-        return [told(lambda: shown(rings.next_ring(s, k, counts) or b"") or "done")]
+    what = word(line, 0)
+    at = 2 if what == "next" else 1
+    k, counts = number(line, at + 1), [int(x) for x in line.split(" ")[at + 3:at + 3 + number(line, at + 2)]]
+    out, m, s = lent(sectors(word(line, at))), len(word(line, at)), sectors(word(line, 1))
+    if what == "first":
+        return [told(lambda: rings._c_first_ring(k, *rings._counts(counts), out, m) and "ring") + " output " + shown(held(out))]
+    if what == "next":
+        answer = told(lambda: ("done", "ring")[rings._c_next_ring(s, len(s), k, *rings._counts(counts), out, m).value])
+        return [answer + " output " + shown(held(out))]
     printed, many = [], 0
     try:
         ring = rings.first_ring(len(s), k, counts)
         while ring is not None and many < 20000:
             many += 1
-            if word(line, 0) == "list":
+            if what == "list":
                 printed.append(shown(ring))
             ring = rings.next_ring(ring, k, counts)
         if ring is None:
@@ -130,20 +136,6 @@ def shades(line):
     except rings.Refused as e:
         printed.append(refused(e))
     return printed + [f"rings {many}"]
-
-
-def shades_left(line):
-    first = word(line, 0) == "first"
-    at = 1 if first else 2
-    out, k = lent(sectors(word(line, at))), number(line, at + 1)
-    m = len(word(line, at))
-    counts = [int(x) % (1 << 64) for x in line.split(" ")[at + 3:at + 3 + number(line, at + 2)]]
-    if first:
-        answer = told(lambda: rings._c_first_ring(k, *rings._counts(counts), out, m) and "ring")
-    else:
-        s = sectors(word(line, 1))
-        answer = told(lambda: ("done", "ring")[rings._c_next_ring(s, len(s), k, *rings._counts(counts), out, m).value])
-    return [answer + " output " + shown(held(out))]
 
 
 def walk(line):
@@ -314,8 +306,8 @@ def desk(line):
     return PASS
 
 
-RUNS = {"test_readings": readings, "test_density": density, "test_strip": strip, "test_shades": shades,
-        "test_shades_left": shades_left, "test_walk": walk, "test_catalogue": catalogue, "test_writer": writer,
+RUNS = {"test_readings": readings, "test_density": density, "test_strip": strip, "test_shades": shades, "test_walk": walk,
+        "test_catalogue": catalogue, "test_writer": writer,
         "test_converter": converter, "test_sets": sets}
 
 
