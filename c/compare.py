@@ -267,6 +267,14 @@ def desk(line):
         c = rings.classify(r, k)
         return {"loose": f"loose at {c.value}", "single": "single"}.get(c.kind, f"{c.kind} {c.value}")
 
+    def sighted(k, most, *words):
+        *others, r = words
+        # the library takes rings end to end, and the desk each as long as the reading: 10 behind 1 is its own
+        if 1 <= len(r) <= 64 and any(len(x) != len(r) for x in others):
+            return "refused 10 at 0"
+        a = rings.sight(others, r, k, most)
+        return a.kind if a.target is None else f"{a.kind} {a.target} turned {a.shift} misread {a.misread}"
+
     def bracelet(k, r):
         v = rings.next_bracelet(r, k)
         return f"next {shown(v)}" if v is not None else "done"
@@ -283,6 +291,8 @@ def desk(line):
             return [told(one[verb], decimal(words[0]), digits(words[1]))]
         if verb in two and len(words) == 3:
             return [told(two[verb], decimal(words[0]), digits(words[1]), digits(words[2]))]
+        if verb == "sight" and len(words) > 2:
+            return [told(sighted, decimal(words[0]), decimal(words[1]), *(digits(x) for x in words[2:]))]
         if verb == "many" and len(words) == 2:
             k, n = map(decimal, words)
             return [told(lambda: f"{rings.necklaces(k, n)} {rings.lyndon_words(k, n)}")]

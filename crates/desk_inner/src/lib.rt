@@ -9,7 +9,7 @@ ghost use Prim.Native.Nat.{_+_, _≤_};
 ghost use mathlib.Core.Path.{_≡_};
 ghost use lib.ListN.{length};
 ghost use Rattle.stream_spec.specs.Blocks.{Puts};
-ghost use Rattle.desk_spec.specs.Verbs.{named, orElse, aboutOf, bothOf, countOf, stepOf, stripOf, verbOf};
+ghost use Rattle.desk_spec.specs.Verbs.{named, orElse, aboutOf, bothOf, countOf, stepOf, stripOf, cameraOf, verbOf};
 ghost use Rattle.desk_spec.specs.Answers.{VerbSays, DeskAnswers};
 ghost use Rattle.desk_texts_inner.specs.Says.{deskRoom};
 
@@ -81,6 +81,12 @@ fn strip_of(t: &[u8]) -> Found
     or_named(t, b"strip", Verb::Strip, Found::Unknown)
 }
 
+fn camera_of(t: &[u8]) -> Found
+    ensures { λ r. ⌜ r ≡ cameraOf (now (t .entry)) ⌝ }
+{
+    or_named(t, b"sight", Verb::Sight, Found::Unknown)
+}
+
 // The verb of a word, group after group.
 fn verb_of(t: &[u8]) -> Found
     ensures { λ r. ⌜ r ≡ verbOf (now (t .entry)) ⌝ }
@@ -90,7 +96,8 @@ fn verb_of(t: &[u8]) -> Found
     let c = count_of(t);
     let d = step_of(t);
     let e = strip_of(t);
-    or_else(a, or_else(b, or_else(c, or_else(d, e))))
+    let f = camera_of(t);
+    or_else(a, or_else(b, or_else(c, or_else(d, or_else(e, f)))))
 }
 
 // What the text behind a verb prints.
@@ -105,6 +112,7 @@ fn place_verb(v: Verb, t: &[u8], buf: &mut [u8], at: usize) -> usize
         Verb::Many => desk_count_inner::place_many(t, buf, at),
         Verb::Stock => desk_count_inner::place_stock(t, buf, at),
         Verb::Strip => desk_strip_inner::place_strip(t, buf, at),
+        Verb::Sight => desk_sight_inner::place_sight(t, buf, at),
     }
 }
 

@@ -1,3 +1,4 @@
--- That a text asks one question (Questions), that a line prints one text (Unique), and lines worked out by hand (Samples).
+-- That a text asks one question (Questions), that a reading among rings has one answer, and which rings are looked at (Sights), that a line prints one text (Unique).
 pub mod Questions
+pub mod Sights
 pub mod Unique

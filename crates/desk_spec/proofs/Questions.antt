@@ -1,19 +1,20 @@
 -- A text asks one question.
 --     spelt-same                     two readings with the same digits are one
---     one-reading, one-pair, one-numbers, one-byte    a text asks one question of a shape
+--     words-one                      the words of rings and a reading are those of one list of rings and one reading
+--     one-reading, one-pair, one-numbers, one-byte, one-sight    a text asks one question of a shape
 --     known-one                      a word is one verb's name
 --     place-one, one-line            a line has one verb and one text behind it
-use Prim.Native.Nat.{ℕ, _+_}
+use Prim.Native.Nat.{ℕ, suc, _+_, _<_}
 use mathlib.Core.Path.{_≡_, refl, sym, ap, _∙_}
-use mathlib.Core.List.{List, map}
+use mathlib.Core.List.{List, [], _∷_, _++_, map}
 use native.Mathlib.Omega.{arith}
-use lib.ListN.{take, drop}
+use lib.ListN.{length, getD, take, drop}
 use Rattle.text_spec.specs.Text.{hexOf}
 use Rattle.text_spec.proofs.Digits.{decimal-one}
 use Rattle.words.proofs.Split.{lt, eq, gt, tri}
 use Rattle.text_words_spec.specs.Words.{PieceAt, Nibbles, Spelt}
 use Rattle.line_spec.proofs.Lines.{fields-one}
-use Rattle.text_words_spec.proofs.Pieces.{first-same, behind-same}
+use Rattle.text_words_spec.proofs.Pieces.{first-same, behind-same, none-some}
 use Rattle.text_words_spec.proofs.Spelling.{spelt-one}
 use Rattle.desk_spec.specs.declared.Verb.{Verb}
 use Rattle.desk_spec.specs.declared.Verb.the-variants as Asks
@@ -21,11 +22,25 @@ use Rattle.desk_spec.specs.declared.Found.{Found}
 use Rattle.desk_spec.specs.declared.Found.the-variants.{Known, Unknown}
 use Rattle.desk_spec.specs.Verbs.{verbOf}
 use Rattle.desk_spec.specs.Answers.{LineReads}
-use Rattle.desk_spec.specs.Questions.{ReadsReading, ReadsPair, ReadsNumbers, ReadsByte}
+use Rattle.desk_spec.specs.Questions.{ReadsReading, ReadsPair, ReadsNumbers, ReadsByte, ReadsSight, EachNibbles, wordsOf}
 
 -- the same digits
 pub spelt-same : (v w : List ℕ) → Nibbles v → Nibbles w → map hexOf v ≡ map hexOf w → v ≡ w
 spelt-same v w p q e = spelt-one (map hexOf w) v w (record { digits = sym e; below = p }) (record { digits = refl; below = q })
+
+-- the words of rings and a reading
+words-some : (ts : List (List ℕ)) (r : List ℕ) → [] ≡ wordsOf ts r → ⊥
+words-some [] r e = none-some _ _ e
+words-some (t ∷ ts) r e = none-some _ _ e
+
+pub words-one : (ts us : List (List ℕ)) (v w : List ℕ) → EachNibbles ts → EachNibbles us → Nibbles v → Nibbles w → wordsOf ts v ≡ wordsOf us w → (ts ≡ us) × (v ≡ w)
+words-one [] [] v w p q m n e = (refl, spelt-same v w m n (first-same _ _ _ _ e))
+words-one [] (u ∷ us) v w p q m n e = absurd (words-some us w (behind-same _ _ _ _ e))
+words-one (t ∷ ts) [] v w p q m n e = absurd (words-some ts v (sym (behind-same _ _ _ _ e)))
+words-one (t ∷ ts) (u ∷ us) v w p q m n e =
+    let x : t ≡ u = spelt-same t u (p 0 (omega arith)) (q 0 (omega arith)) (first-same _ _ _ _ e) in
+    let y = words-one ts us v w (λ j h. p (suc j) (omega arith)) (λ j h. q (suc j) (omega arith)) m n (behind-same _ _ _ _ e) in
+    (λ i. x i ∷ y .0 i, y .1)
 
 module _ (t : List ℕ) where
   pub one-reading : (p q : ℕ × List ℕ) → ReadsReading t p → ReadsReading t q → p ≡ q
@@ -51,6 +66,15 @@ module _ (t : List ℕ) where
 
   pub one-byte : (b c : ℕ) → ReadsByte t b → ReadsByte t c → b ≡ c
   one-byte b c x y = decimal-one b c (sym (x .words) ∙ y .words)
+
+  pub one-sight : (p q : ℕ × ℕ × List (List ℕ) × List ℕ) → ReadsSight t p → ReadsSight t q → p ≡ q
+  one-sight (j, m, ts, v) (k, n, us, w) a b =
+      let e = sym (a .words) ∙ b .words in
+      let f = behind-same _ _ _ _ e in
+      let x : j ≡ k = decimal-one j k (first-same _ _ _ _ e) in
+      let y : m ≡ n = decimal-one m n (first-same _ _ _ _ f) in
+      let z = words-one ts us v w (a .rings) (b .rings) (a .sectors) (b .sectors) (behind-same _ _ _ _ f) in
+      λ i. (x i, y i, z .0 i, z .1 i)
 
 -- ---- a line
 

@@ -1,7 +1,7 @@
 -- A line prints one text.
 --     one-shows       an answer that is promised once prints one text
 --     one-asked       where a text asks one question, and a question prints one text, the text prints one
---     one-stepped, one-step, one-about, one-both, one-many, one-strip    a question prints one text
+--     one-stepped, one-step, one-about, one-both, one-many, one-strip, one-seen    a question prints one text
 --     one-verb        and so does what stands behind a verb
 --     one-answer      and a line
 use Prim.Native.Nat.{ℕ, _^_}
@@ -33,8 +33,9 @@ use Rattle.desk_spec.specs.declared.Both.the-variants.{Same, Apart}
 use Rattle.desk_spec.specs.declared.Verb.{Verb}
 use Rattle.desk_spec.specs.declared.Verb.the-variants as Asks
 use Rattle.desk_spec.specs.Questions.{Replies, good, bad}
-use Rattle.desk_spec.specs.Answers.{AnswerShows, KindPrints, StepPrints, AboutSays, BothSays, ManySays, StripPrints, VerbSays, DeskAnswers, blank}
-use Rattle.desk_spec.proofs.Questions.{one-reading, one-pair, one-numbers, one-byte, one-line}
+use Rattle.desk_spec.specs.Answers.{AnswerShows, KindPrints, StepPrints, AboutSays, BothSays, ManySays, StripPrints, SeenSays, VerbSays, DeskAnswers, blank}
+use Rattle.desk_spec.proofs.Questions.{one-reading, one-pair, one-numbers, one-byte, one-sight, one-line}
+use Rattle.desk_spec.proofs.Sights.{one-sighted}
 
 -- an answer that is promised once
 pub one-shows : {A : Type 0} (P : A → Type 0) (f : A → List ℕ) → ((a b : A) → P a → P b → a ≡ b) → (t u : List ℕ) → AnswerShows P f t → AnswerShows P f u → t ≡ u
@@ -84,6 +85,11 @@ pub one-strip : (k n : ℕ) (t u : List ℕ) → StripPrints k n t → StripPrin
 one-strip k n t u x y =
     one-shows {A = Written × List ℕ} _ _ (λ a b p q. let e = one-writing n k (blank (k ^ n)) (a .0) (b .0) (a .1) (b .1) p q in λ i. (e .0 i, e .1 i)) t u x y
 
+-- ---- a reading among rings
+
+pub one-seen : (k e : ℕ) (ts : List (List ℕ)) (r t u : List ℕ) → SeenSays k e ts r t → SeenSays k e ts r u → t ≡ u
+one-seen k e ts r t u x y = one-shows _ _ (one-sighted ts r k e) t u x y
+
 -- ---- a line
 
 pub one-verb : (v : Verb) (s t u : List ℕ) → VerbSays v s t → VerbSays v s u → t ≡ u
@@ -92,6 +98,7 @@ one-verb (Asks.Both v) s t u x y = one-asked _ _ (one-pair s) (λ q. one-both v 
 one-verb Asks.Many s t u x y = one-asked _ _ (one-numbers s) (λ q. one-many (q .0) (q .1)) t u x y
 one-verb Asks.Stock s t u x y = one-asked _ _ (one-byte s) (λ b a c p q. p ∙ sym q) t u x y
 one-verb Asks.Strip s t u x y = one-asked _ _ (one-numbers s) (λ q. one-strip (q .0) (q .1)) t u x y
+one-verb Asks.Sight s t u x y = one-asked _ _ (one-sight s) (λ q. one-seen (q .0) (q .1) (q .2) (q .3)) t u x y
 
 pub one-answer : (s t u : List ℕ) → DeskAnswers s t → DeskAnswers s u → t ≡ u
 one-answer s t u x y = one-asked _ _ (one-line s) (λ q. one-verb (q .0) (q .1)) t u x y

@@ -5,6 +5,7 @@
 --     BothSays v k a b text   what a question about two readings prints
 --     ManySays k n text       how many rings there are
 --     StripPrints k n text    the strip
+--     SeenSays k e ts r text  what is seen of the rings ts in the reading r
 --     VerbSays v t text       what the text t behind a verb prints
 --     longestLine             a longer line is malformed
 --     LineReads s q           the line s is a verb's name, a space, and a text
@@ -44,8 +45,9 @@ use Rattle.desk_spec.specs.declared.Verb.{Verb}
 use Rattle.desk_spec.specs.declared.Verb.the-variants as Asks
 use Rattle.desk_spec.specs.declared.Found.the-variants.{Known}
 use Rattle.desk_spec.specs.Verbs.{verbOf}
-use Rattle.desk_spec.specs.Questions.{ReadsReading, ReadsPair, ReadsNumbers, ReadsByte, Replies}
-use Rattle.desk_spec.specs.Texts.{classText, homeText, toldText, distanceText, placeText, manyText, stockText, stepText, arrivalText, stripText}
+use Rattle.desk_spec.specs.Questions.{ReadsReading, ReadsPair, ReadsNumbers, ReadsByte, ReadsSight, Replies}
+use Rattle.desk_spec.specs.Texts.{classText, homeText, toldText, distanceText, placeText, manyText, stockText, stepText, arrivalText, stripText, sightText}
+use Rattle.desk_spec.specs.Sights.{SightedSays}
 
 -- text is what an answer prints that is promised
 pub record AnswerShows {A : Type 0} (P : A → Type 0) (print : A → List ℕ) (text : List ℕ) : Type 0 where
@@ -92,6 +94,11 @@ ManySays k n text = AnswerShows {A = Counted × Counted} (λ x. CountSays neckla
 abbrev pub StripPrints : ℕ → ℕ → List ℕ → Type 0
 StripPrints k n text = AnswerShows {A = Written × List ℕ} (λ x. StripSays n k (blank (k ^ n)) (x .0) (x .1)) (λ x. stripText (x .0) (x .1)) text
 
+-- ---- a reading among rings
+
+abbrev pub SeenSays : ℕ → ℕ → List (List ℕ) → List ℕ → List ℕ → Type 0
+SeenSays k e ts r text = AnswerShows (λ a. SightedSays ts r k e a) sightText text
+
 -- ---- a line
 
 abbrev pub VerbSays : Verb → List ℕ → List ℕ → Type 0
@@ -100,6 +107,7 @@ VerbSays (Asks.Both v) t text = Replies (ReadsPair t) (λ q. BothSays v (q .0) (
 VerbSays Asks.Many t text = Replies (ReadsNumbers t) (λ q. ManySays (q .0) (q .1)) text
 VerbSays Asks.Stock t text = Replies (ReadsByte t) (λ b x. x ≡ stockText (homeByte b)) text
 VerbSays Asks.Strip t text = Replies (ReadsNumbers t) (λ q. StripPrints (q .0) (q .1)) text
+VerbSays Asks.Sight t text = Replies (ReadsSight t) (λ q. SeenSays (q .0) (q .1) (q .2) (q .3)) text
 
 abbrev pub longestLine : ℕ
 longestLine = 4095

@@ -11,6 +11,7 @@
 --     stepText a c           next 0111 moves 3, where c is the ring; done moves 0
 --     arrivalText a c        next 001111, where c is the ring; done
 --     stripText a c          00010111, where c is the strip
+--     sightText              front 3 turned 5 misread 1; back 3 turned 5 misread 1; several; unknown
 use Prim.Native.Nat.{ℕ}
 use mathlib.Core.List.{List, [], _∷_}
 use lib.ListN.{length}
@@ -39,6 +40,8 @@ use Rattle.walk_spec.specs.declared.Outcome.{Outcome}
 use Rattle.walk_spec.specs.declared.Outcome.the-variants as O
 use Rattle.walk_bracelet_spec.specs.declared.Arrival.{Arrival}
 use Rattle.walk_bracelet_spec.specs.declared.Arrival.the-variants as A
+use Rattle.sight_spec.specs.declared.Sighting.{Sighting}
+use Rattle.sight_spec.specs.declared.Sighting.the-variants as S
 
 -- a text with numbers alone
 abbrev pub plainText : List ℕ → List ℕ → List ℕ
@@ -102,3 +105,10 @@ arrivalText (A.Refused r) c = refusalText r
 abbrev pub stripText : Written → List ℕ → List ℕ
 stripText W.Strip c = countedRingText (ascii "@\n") [] c
 stripText (W.Refused r) c = refusalText r
+
+abbrev pub sightText : Sighting → List ℕ
+sightText (S.Front t i x) = plainText (ascii "front % turned % misread %\n") (t ∷ i ∷ x ∷ [])
+sightText (S.Back t i x) = plainText (ascii "back % turned % misread %\n") (t ∷ i ∷ x ∷ [])
+sightText S.Several = plainText (ascii "several\n") []
+sightText S.Unknown = plainText (ascii "unknown\n") []
+sightText (S.Refused r) = refusalText r

@@ -1,6 +1,6 @@
 -- The verb of a word.
 --     isKnown f     it is a verb's name
---     verbOf t      the verb whose name the word t is; each group of verbs has its own (aboutOf, bothOf, countOf, stepOf, stripOf)
+--     verbOf t      the verb whose name the word t is; each group of verbs has its own (aboutOf, bothOf, countOf, stepOf, stripOf, cameraOf)
 use Prim.Native.Nat.{ℕ}
 use mathlib.Core.Bool.{Bool, true, false}
 use mathlib.Core.List.{List}
@@ -10,7 +10,7 @@ use Rattle.desk_spec.specs.declared.Step.the-variants as Steps
 use Rattle.desk_spec.specs.declared.About.the-variants.{Class, Home, Even, Place, Step}
 use Rattle.desk_spec.specs.declared.Both.the-variants.{Same, Apart}
 use Rattle.desk_spec.specs.declared.Verb.{Verb}
-use Rattle.desk_spec.specs.declared.Verb.the-variants.{About, Both, Many, Stock, Strip}
+use Rattle.desk_spec.specs.declared.Verb.the-variants.{About, Both, Many, Stock, Strip, Sight}
 use Rattle.desk_spec.specs.declared.Found.{Found}
 use Rattle.desk_spec.specs.declared.Found.the-variants.{Known, Unknown}
 
@@ -43,5 +43,9 @@ stepOf t =
 unfoldable pub stripOf : List ℕ → Found
 stripOf t = named t (ascii "strip") Strip Unknown
 
+-- what a camera asks
+unfoldable pub cameraOf : List ℕ → Found
+cameraOf t = named t (ascii "sight") Sight Unknown
+
 unfoldable pub verbOf : List ℕ → Found
-verbOf t = orElse (aboutOf t) (orElse (bothOf t) (orElse (countOf t) (orElse (stepOf t) (stripOf t))))
+verbOf t = orElse (aboutOf t) (orElse (bothOf t) (orElse (countOf t) (orElse (stepOf t) (orElse (stripOf t) (cameraOf t)))))

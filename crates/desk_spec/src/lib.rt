@@ -30,6 +30,7 @@ pub enum Verb {
     Many,
     Stock,
     Strip,
+    Sight,
 }
 
 // The verb of a word, if it is one's name.

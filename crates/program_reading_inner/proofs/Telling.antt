@@ -4,6 +4,7 @@
 --     says-told                             a count that is told is inside the block
 --     got-some                              what was read is some bytes
 --     says-ended                            the input ended before the buffer was full
+--     whole-read                            how a run ended that read its input to its end
 --     line-unwritten, line-read, stream-unwritten, stream-read    how a run ended, by whether all was written and by what was read
 use Prim.Native.Nat.{ℕ, zero, suc, min, _<_, _≤_}
 use mathlib.Core.Path.{_≡_, refl, sym, ap, _∙_}
@@ -16,11 +17,12 @@ use lib.Signed.{ltZ}
 use borrow.Author.Tests.{ltb-true}
 use Rattle.io.specs.Counts.{clamped}
 use Rattle.libc.specs.Io.{Moved}
+use Rattle.program_ending_inner.specs.declared.Ending.{Ending}
 use Rattle.program_ending_inner.specs.declared.Ending.the-variants.{Unwritten}
 use Rattle.program_reading_inner.specs.declared.Got.{Got}
 use Rattle.program_reading_inner.specs.declared.Got.the-variants.{Bytes, Over, Failed}
 use Rattle.program_reading_inner.specs.declared.Most.{Most}
-use Rattle.program_reading_inner.specs.Says.{toldOf, GotSays, endedOf, MostSays, lineEnding, streamEnding}
+use Rattle.program_reading_inner.specs.Says.{toldOf, GotSays, endedOf, MostSays, lineEnding, wholeEnding, streamEnding}
 
 -- z is the answer as it was handed over
 module _ (got z : ℤ) (same : z ≡ got) where
@@ -74,6 +76,9 @@ line-unwritten wrote most e = rw e refl
 
 pub line-read : (wrote : Bool) (most m : Most) → wrote ≡ true → most ≡ m → lineEnding true m ≡ lineEnding wrote most
 line-read wrote most m e f = rw (e, f) refl
+
+pub whole-read : (wrote : Bool) (most m : Most) → wholeEnding wrote m ≡ lineEnding wrote m → most ≡ m → (r : Ending) → r ≡ lineEnding wrote most → r ≡ wholeEnding wrote most
+whole-read wrote most m q e r p = p ∙ rw e (sym q)
 
 pub stream-unwritten : (wrote : Bool) (got : Got) → wrote ≡ false → Unwritten ≡ streamEnding wrote got
 stream-unwritten wrote got e = rw e refl

@@ -5,6 +5,7 @@
 --     MostSays r s           the buffer s is full, or the input ended before it was
 --     BeginsWith s line      the buffer `line` holds the beginning of the input s, as much as there is room for
 --     lineEnding wrote most  the run of a program that reads its input and writes one text for it; wrote: could all of it be written?
+--     wholeEnding wrote most the run of one that has to read its input to its end, and cannot where it fills the buffer
 --     streamEnding wrote got the run of one that answers its lines as they come: it ends behind bytes only where it can count no more reads
 use Prim.Native.Nat.{ℕ, zero, suc, _<_, _≤_}
 use mathlib.Core.Path.{_≡_}
@@ -47,6 +48,11 @@ lineEnding false most = E.Unwritten
 lineEnding true M.Full = E.Whole
 lineEnding true (M.Ended n) = E.Whole
 lineEnding true M.Failed = E.Unread
+
+abbrev pub wholeEnding : Bool → Most → Ending
+wholeEnding wrote M.Full = E.TooLong
+wholeEnding wrote (M.Ended n) = lineEnding wrote (M.Ended n)
+wholeEnding wrote M.Failed = lineEnding wrote M.Failed
 
 abbrev pub streamEnding : Bool → Got → Ending
 streamEnding false got = E.Unwritten

@@ -5,7 +5,7 @@ use program_ending_inner::Ending;
 ghost use mathlib.Core.Path.{_≡_};
 ghost use lib.ListN.{length};
 ghost use Rattle.libc.specs.Io.{Moved};
-ghost use Rattle.program_reading_inner.specs.Says.{toldOf, GotSays, endedOf, MostSays, lineEnding, streamEnding};
+ghost use Rattle.program_reading_inner.specs.Says.{toldOf, GotSays, endedOf, MostSays, lineEnding, wholeEnding, streamEnding};
 
 // What a read gave: so many bytes, at least one; the end of the input; or that it failed.
 pub enum Got {
@@ -81,6 +81,17 @@ pub fn line_ending(most: Most, wrote: bool) -> Ending
         Most::Full => Ending::Whole,
         Most::Ended(_) => Ending::Whole,
         Most::Failed => Ending::Unread,
+    }
+}
+
+// How a run ended that has to read its input to its end before it writes: an input that fills the buffer is too long.
+pub fn whole_ending(most: Most, wrote: bool) -> Ending
+    ensures { λ r. ⌜ r ≡ wholeEnding wrote most ⌝ }
+{
+    match most {
+        Most::Full => Ending::TooLong,
+        Most::Ended(_) => line_ending(most, wrote),
+        Most::Failed => line_ending(most, wrote),
     }
 }
 

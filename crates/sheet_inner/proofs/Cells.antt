@@ -2,7 +2,6 @@
 --     cell-fits          its text, where its place was computed
 --     home-le, home-fits    the reading turned home
 --     fits-skip, fits-where    a text where it is called for
---     leaf-plain         the beginning of a page has no slots
 --     target-fits        the whole, where the page was computed
 use Prim.Native.Nat.{ℕ, _+_, _/_, _%_, _<_, _≤_}
 use mathlib.Core.Path.{_≡_, refl, sym, ap, _∙_}
@@ -14,8 +13,6 @@ use lib.ListN.{length}
 use Rattle.words.specs.Turn.{turn}
 use Rattle.rings.specs.Home.{shift, home}
 use Rattle.ring_home_laws.proofs.Home.{home-turn-of, shift-lt}
-use Rattle.text_fill_spec.specs.Filled.{filledText, slots}
-use Rattle.text_fill_spec.proofs.Laws.{filled-plain}
 use Rattle.text_form_inner.specs.Fits.{Fits}
 use Rattle.text_form_inner.proofs.Fits.{fits-none, fits-more}
 use Rattle.picture_spec.specs.Text.{ringPicture, tailText}
@@ -52,10 +49,6 @@ pub fits-where : (m : ℕ) (c : Bool) (t b : List ℕ) (at r : ℕ) (b′ : List
 unfolding whereTrue
 fits-where m true t b at r b′ e f = f
 fits-where m false t b at r b′ e f = absurd (let z : _≡_ {A = ℕ} 0 1 = cc in omega arith)
-
-pub leaf-plain : filledText leafHead [] 0 [] ≡ leafHead
-unfolding slots
-leaf-plain = filled-plain leafHead [] 0 [] refl refl
 
 pub target-fits : (o : Sheet) (i : ℕ) (last : Bool) (w : List ℕ) (per : ℕ) (ends : Bool) → per ≡ perPage (o .size) (o .columns) → ends ≡ (last || eqb ((i + 1) % per) 0) →
     (b : List ℕ) (at r : ℕ) (b′ : List ℕ) →

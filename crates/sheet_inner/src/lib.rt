@@ -129,26 +129,23 @@ fn place_home(buf: &mut [u8], at: usize, sheet: Sheet, i: usize, ring: &[u8]) ->
 
 // The beginning of a page, where one begins.
 fn place_opening(buf: &mut [u8], at: usize, first: bool) -> usize
-    requires { ⌜ at + 256 ≤ length (now buf) ⌝ }
-    ensures { λ r. ⌜ Fits 256 (now (buf .entry)) at (whereTrue first leafHead) r (now (buf .exit)) ⌝ }
+    requires { ⌜ at + 320 ≤ length (now buf) ⌝ }
+    ensures { λ r. ⌜ Fits 320 (now (buf .entry)) at (whereTrue first leafHead) r (now (buf .exit)) ⌝ }
 {
     if !first {
         return at;
     }
-    text_form_inner::place_form(
+    text_digits_inner::place_text(
         buf,
         at,
-        b"<svg xmlns=\"http://www.w3.org/2000/svg\" width=\"210mm\" height=\"297mm\" viewBox=\"0 0 2100 2970\" font-family=\"monospace\" text-anchor=\"middle\">\n<rect width=\"2100\" height=\"2970\" fill=\"white\"/>\n",
-        &[],
-        0,
-        b"",
+        b"<svg xmlns=\"http://www.w3.org/2000/svg\" width=\"210mm\" height=\"297mm\" viewBox=\"0 0 2100 2970\" font-family=\"monospace\" text-anchor=\"middle\" style=\"display:block\">\n<style>@page{size:210mm 297mm;margin:0}body{margin:0}</style>\n<rect width=\"2100\" height=\"2970\" fill=\"white\"/>\n",
     )
 }
 
 // The line at the foot, and the end of the page.
 fn place_foot(buf: &mut [u8], at: usize, sheet: Sheet, page: usize) -> usize
-    requires { ⌜ at + 384 ≤ length (now buf) ⌝ }
-    ensures { λ r. ⌜ Fits 384 (now (buf .entry)) at (footOf (sheet .source) (sheet .n) (sheet .k) (sheet .d) (sheet .wanted) page) r (now (buf .exit)) ⌝ }
+    requires { ⌜ at + 320 ≤ length (now buf) ⌝ }
+    ensures { λ r. ⌜ Fits 320 (now (buf .entry)) at (footOf (sheet .source) (sheet .n) (sheet .k) (sheet .d) (sheet .wanted) page) r (now (buf .exit)) ⌝ }
 {
     let n = sheet.n;
     let k = sheet.k;
@@ -185,8 +182,8 @@ fn place_foot(buf: &mut [u8], at: usize, sheet: Sheet, page: usize) -> usize
 
 // It, where a page ends.
 fn place_closing(buf: &mut [u8], at: usize, sheet: Sheet, ends: bool, page: usize) -> usize
-    requires { ⌜ (page < 1000000) × (at + 384 ≤ length (now buf)) ⌝ }
-    ensures { λ r. ⌜ Fits 384 (now (buf .entry)) at (whereTrue ends (footText sheet page)) r (now (buf .exit)) ⌝ }
+    requires { ⌜ (page < 1000000) × (at + 320 ≤ length (now buf)) ⌝ }
+    ensures { λ r. ⌜ Fits 320 (now (buf .entry)) at (whereTrue ends (footText sheet page)) r (now (buf .exit)) ⌝ }
 {
     if !ends {
         return at;

@@ -1,23 +1,14 @@
 -- How large the numbers of a layout get.
---     per-some, per-most      a page has a target, and not many
+--     per-most                a page has not many targets
 --     wide, cell-wide         the columns fit on the page
 --     cell-down               the rows' numbers stay small
 use Prim.Native.Nat.{ℕ, _+_, _*_, _/_, _%_, _<_, _≤_}
 use mathlib.Core.Path.{_≡_, ap, sym, _∙_}
 use native.Mathlib.Omega.{arith}
-use native.Mathlib.Nat.{mul-assoc, mul-pos, mul-le-mul-right, div-le-self, le-div-iff-mul-le, mod-lt}
+use native.Mathlib.Nat.{mul-assoc, mul-le-mul-right, div-le-self, le-div-iff-mul-le, mod-lt}
 use Rattle.sheet_spec.specs.Layout.{pitch, rowsFor, perPage, FitsPage}
 
 module _ (s c : ℕ) (f : FitsPage s c) where
-  some-rows : 0 < rowsFor s
-  some-rows =
-      let p : 0 < pitch s = omega arith in
-      let q : 1 * pitch s ≤ 2750 = omega (arith, f .narrow) in
-      omega (arith, le-div-iff-mul-le {k = pitch s} {x = 1} {y = 2750} p .1 q)
-
-  pub per-some : 0 < perPage s c
-  per-some = mul-pos {m = c} {n = rowsFor s} (f .some) some-rows
-
   few : c ≤ 210
   few = omega (arith, f .fits, div-le-self 210 (s + 14))
 

@@ -1,3 +1,4 @@
--- That placing a target has one answer (Unique), and places and pages worked out by hand (Cases).
+-- That placing a target has one answer (Unique), that a page has a target (Rows), and places and pages worked out by hand (Cases).
 pub mod Unique
+pub mod Rows
 pub mod Cases

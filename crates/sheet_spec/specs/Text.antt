@@ -9,6 +9,9 @@
 --     targetText sheet i last w    target i with these
 --     sheetFrom sheet i ws         the rings ws from target i on, each by its home reading
 --     sheetText sheet ws           the whole
+--     cellsFrom sheet i ws         the targets of the rings ws alone, from target i on
+--     pageText sheet p ws          page p, where ws are its rings
+-- That a sheet is its pages one after another: `sheet_laws`.
 use Prim.Native.Nat.{ℕ, suc, _+_, _-_, _*_, _/_, _%_}
 use mathlib.Core.Bool.{Bool, true, false, _||_}
 use mathlib.Core.List.{List, [], _∷_, _++_}
@@ -55,9 +58,11 @@ cellText o i w =
 
 -- ---- a page
 
+-- the paper is said too, so that a browser prints a page on one sheet of A4
 abbrev pub leafHead : List ℕ
 leafHead =
-    ascii "<svg xmlns=\"http://www.w3.org/2000/svg\" width=\"210mm\" height=\"297mm\" viewBox=\"0 0 2100 2970\" font-family=\"monospace\" text-anchor=\"middle\">\n"
+    ascii "<svg xmlns=\"http://www.w3.org/2000/svg\" width=\"210mm\" height=\"297mm\" viewBox=\"0 0 2100 2970\" font-family=\"monospace\" text-anchor=\"middle\" style=\"display:block\">\n"
+    ++ ascii "<style>@page{size:210mm 297mm;margin:0}body{margin:0}</style>\n"
     ++ ascii "<rect width=\"2100\" height=\"2970\" fill=\"white\"/>\n"
 
 abbrev pub footForm : Source → List ℕ
@@ -104,3 +109,12 @@ sheetFrom o i (w ∷ ws) = targetText o i (none ws) w ++ sheetFrom o (suc i) ws
 
 abbrev pub sheetText : Sheet → List (List ℕ) → List ℕ
 sheetText o ws = sheetFrom o 0 ws
+
+-- ---- the same, page by page
+
+unfoldable pub cellsFrom : Sheet → ℕ → List (List ℕ) → List ℕ
+cellsFrom o i [] = []
+cellsFrom o i (w ∷ ws) = cellText o i (home w) ++ cellsFrom o (suc i) ws
+
+unfoldable pub pageText : Sheet → ℕ → List (List ℕ) → List ℕ
+pageText o p ws = leafHead ++ (cellsFrom o (p * perPage (o .size) (o .columns)) ws ++ footText o p)

@@ -1,11 +1,9 @@
 -- Only the first bytes of a line tell what it prints.
---     room-within                           a large buffer has room for a text
 --     said-tells                            by the program
 --     one-said, said-prints, said-anyhow    what an input prints, however it was cut
-use Prim.Native.Nat.{ℕ, _≤_}
+use Prim.Native.Nat.{ℕ}
 use mathlib.Core.Path.{_≡_}
 use mathlib.Core.List.{List, []}
-use native.Mathlib.Omega.{arith}
 use Rattle.stream_spec.specs.Texts.{Prints, Tells, BlockRun}
 use Rattle.stream_spec.proofs.Unique.{one-prints}
 use Rattle.stream_spec.proofs.Cut.{run-prints, cut-anyhow}
@@ -13,11 +11,7 @@ use Rattle.report_laws.proofs.Kept.{report-tells}
 use Rattle.desk_inner.proofs.Telling.{desk-tells}
 use Rattle.stream_asking_inner.specs.declared.Kind.{Kind}
 use Rattle.stream_asking_inner.specs.declared.Kind.the-variants.{Count, Desk}
-use Rattle.stream_asking_inner.specs.Says.{Said, mostOf, roomOf}
-
-pub room-within : (kind : Kind) → roomOf kind ≤ 65536
-room-within Count = omega arith
-room-within Desk = omega arith
+use Rattle.stream_asking_inner.specs.Says.{Said, mostOf}
 
 pub said-tells : (kind : Kind) → Tells (Said kind) (mostOf kind)
 said-tells Count = report-tells

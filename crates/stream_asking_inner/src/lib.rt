@@ -22,13 +22,13 @@ pub fn kept_bytes(kind: Kind) -> usize
     }
 }
 
-// How many bytes are taken at a time: a large buffer has room for the text of a line for each of them.
-pub fn piece_length(kind: Kind) -> usize
-    ensures { λ r. ⌜ (1 ≤ r) × (r * roomOf kind ≤ 65536) ⌝ }
+// How many bytes are read at a time: a buffer of 1,048,576 bytes has room for the text of a line for each of them.
+pub fn block_length(kind: Kind) -> usize
+    ensures { λ r. ⌜ (1 ≤ r) × (r ≤ 2048) × (r * roomOf kind ≤ 1048576) ⌝ }
 {
     match kind {
         Kind::Count => 2048,
-        Kind::Desk => 15,
+        Kind::Desk => 252,
     }
 }
 

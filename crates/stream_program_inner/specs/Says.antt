@@ -1,36 +1,33 @@
 -- What is written behind a read, and why a program stops.
---     PieceSays                   what stands in the buffer behind a piece of what was read: the texts of the lines that end in it, as in `stream_spec`, specs/Blocks
---     PiecesSays kind all u s v   behind all pieces of s, where their texts could be written, v is kept of the line under way; before them it was u
---     EndsWritten kind u b b′     what stands in the buffer at the end of the input: the text of a last line
---     BehindRead                    behind a read: the pieces of what was read are answered, or a last line is; where the read failed the buffer is as it was
+--     RoomForRead kind got s b    the buffer b has room for a text for each byte of the block s, and what was read is inside it
+--     BehindRead                  what stands in the buffer behind a read: the texts of the lines that end in what was read, that of a last line where the input
+--                                 is over, and nothing where the read failed, and the line under way is as it was; as in `stream_spec`, specs/Blocks
+--     ReadAnswered                the same, of however many bytes that is
 --     GoesOn wrote got reads r    r: does it go on? Where bytes were read and their texts written, unless 2 to the power 64 reads were made
--- Each piece is a block of a `BlockRun` of `stream_spec`, specs/Texts; that it prints the same however it was cut: proofs/Cut there.
-use Prim.Native.Nat.{ℕ, _<_}
+use Prim.Native.Nat.{ℕ, _*_, _<_, _≤_}
 use mathlib.Core.Path.{_≡_}
 use mathlib.Core.Bool.{Bool, true, false}
 use mathlib.Core.List.{List}
-use lib.ListN.{take}
-use Rattle.stream_spec.specs.Lines.{under}
+use lib.ListN.{length, take}
 use Rattle.stream_spec.specs.Blocks.{BlockSays, EndSays}
 use Rattle.stream_asking_inner.specs.declared.Kind.{Kind}
-use Rattle.stream_asking_inner.specs.Says.{Said, mostOf}
+use Rattle.stream_asking_inner.specs.Says.{Said, mostOf, roomOf}
+use Rattle.program_reading_inner.specs.Says.{GotSays}
 use Rattle.program_reading_inner.specs.declared.Got.{Got}
 use Rattle.program_reading_inner.specs.declared.Got.the-variants.{Bytes, Over, Failed}
 
-abbrev pub PieceSays : Kind → List ℕ → List ℕ → List ℕ → List ℕ → List ℕ → Type 0
-PieceSays kind u s b v b′ = (r : ℕ) × BlockSays (Said kind) (mostOf kind) u s b v r b′
+pub record RoomForRead (kind : Kind) (got : Got) (s b : List ℕ) : Type 0 where
+  pub some : 0 < length s
+  pub room : length s * roomOf kind ≤ length b
+  pub inside : GotSays got s
 
-abbrev pub PiecesSays : Kind → Bool → List ℕ → List ℕ → List ℕ → Type 0
-PiecesSays kind true u s v = v ≡ take (mostOf kind) (under u s)
-PiecesSays kind false u s v = Unit
+abbrev pub BehindRead : Kind → Got → List ℕ → List ℕ → List ℕ → List ℕ → ℕ → List ℕ → Type 0
+BehindRead kind (Bytes n) u s b v r b′ = BlockSays (Said kind) (mostOf kind) u (take n s) b v r b′
+BehindRead kind Over u s b v r b′ = EndSays (Said kind) u b r b′
+BehindRead kind Failed u s b v r b′ = (r ≡ 0) × (b′ ≡ b) × (v ≡ u)
 
-abbrev pub EndsWritten : Kind → List ℕ → List ℕ → List ℕ → Type 0
-EndsWritten kind u b b′ = (r : ℕ) × EndSays (Said kind) u b r b′
-
-abbrev pub BehindRead : Kind → Got → Bool → List ℕ → List ℕ → List ℕ → List ℕ → List ℕ → Type 0
-BehindRead kind (Bytes n) all u s b v b′ = PiecesSays kind all u (take n s) v
-BehindRead kind Over all u s b v b′ = EndsWritten kind u b b′
-BehindRead kind Failed all u s b v b′ = (b′ ≡ b) × (v ≡ u)
+abbrev pub ReadAnswered : Kind → Got → List ℕ → List ℕ → List ℕ → List ℕ → List ℕ → Type 0
+ReadAnswered kind got u s b v b′ = (r : ℕ) × BehindRead kind got u s b v r b′
 
 abbrev pub GoesOn : Bool → Got → ℕ → Bool → Type 0
 GoesOn true (Bytes n) reads true = reads < 18446744073709551615

@@ -1,23 +1,17 @@
 // A program that answers each line of standard input by a text on standard output, as soon as it is there: it reads what there is, has the lines that end in it
-// answered piece after piece, writes their texts, and again. No public calls: no contract can say what is read or written.
+// answered, writes their texts, and again. No public calls: no contract can say what is read or written.
 
 use libc::STDERR_FILENO;
 use libc::STDOUT_FILENO;
 use program_reading_inner::Got;
 use stream_asking_inner::Kind;
-ghost use Prim.Native.Nat.{_*_, _≤_};
+use stream_blocks_inner::Behind;
+ghost use Prim.Native.Nat.{_*_, _≤_, _<_};
 ghost use mathlib.Core.Path.{_≡_};
 ghost use mathlib.Core.Bool.{false};
 ghost use lib.ListN.{length, take};
 ghost use Rattle.stream_asking_inner.specs.Says.{mostOf, roomOf};
-ghost use Rattle.program_reading_inner.specs.Says.{GotSays};
-ghost use Rattle.stream_program_inner.specs.Says.{PieceSays, PiecesSays, EndsWritten, BehindRead, GoesOn};
-
-// Behind some bytes: how many bytes of the line under way are held, and whether the texts could be written.
-pub struct Wrote {
-    pub len: usize,
-    pub all: bool,
-}
+ghost use Rattle.stream_program_inner.specs.Says.{RoomForRead, BehindRead, ReadAnswered, GoesOn};
 
 // Behind a turn: what its read gave, whether the texts could be written, and how many bytes of the line under way are held.
 pub struct Turned {
@@ -33,75 +27,29 @@ pub struct Stopped {
     pub reads: u64,
 }
 
-// A piece of what was read, for which the buffer has room: the texts of the lines that end in it are written.
-fn write_piece(kind: Kind, piece: &[u8], line: &mut [u8], len: usize, buf: &mut [u8]) -> Wrote
-    requires { ⌜ length (now line) ≡ mostOf kind ⌝ }
-    requires { ⌜ len ≤ length (now line) ⌝ }
-    requires { ⌜ length (now piece) * roomOf kind ≤ length (now buf) ⌝ }
-    ensures { λ r. ⌜ r .len ≤ length (now (line .exit)) ⌝ }
-    ensures { λ r. ⌜ PieceSays kind (take len (now (line .entry))) (now (piece .entry)) (now (buf .entry)) (take (r .len) (now (line .exit))) (now (buf .exit)) ⌝ }
-{
-    let q = stream_blocks_inner::take_bytes(kind, line, len, piece, buf);
-    let m = q.at;
-    let all = io::write_all(STDOUT_FILENO, &buf[..m]);
-    Wrote { len: q.len, all }
-}
-
-// What was read, piece after piece, for as long as the texts can be written.
-fn write_pieces(kind: Kind, block: &[u8], line: &mut [u8], len: usize, buf: &mut [u8]) -> Wrote
-    requires { ⌜ length (now line) ≡ mostOf kind ⌝ }
-    requires { ⌜ len ≤ length (now line) ⌝ }
-    requires { ⌜ 65536 ≤ length (now buf) ⌝ }
-    ensures { λ r. ⌜ r .len ≤ length (now (line .exit)) ⌝ }
-    ensures { λ r. ⌜ PiecesSays kind (r .all) (take len (now (line .entry))) (now (block .entry)) (take (r .len) (now (line .exit))) ⌝ }
-{
-    let most = stream_asking_inner::piece_length(kind);
-    let mut m = len;
-    let mut i = 0;
-    while i < block.len() {
-        let n = stream_blocks_inner::smaller_of(block.len() - i, most);
-        let q = write_piece(kind, &block[i..i + n], line, m, buf);
-        if !q.all {
-            return q;
-        }
-        m = q.len;
-        i += n;
-    }
-    Wrote { len: m, all: true }
-}
-
-// The end of the input: the text of a last line without newline is written.
-fn write_last(kind: Kind, line: &[u8], buf: &mut [u8]) -> bool
-    requires { ⌜ roomOf kind ≤ length (now buf) ⌝ }
-    ensures { λ r. ⌜ EndsWritten kind (now (line .entry)) (now (buf .entry)) (now (buf .exit)) ⌝ }
-{
-    let m = stream_blocks_inner::place_last(kind, line, buf);
-    io::write_all(STDOUT_FILENO, &buf[..m])
-}
-
-// What a read gave, answered. Behind a read that failed nothing is written.
-fn write_turn(
+// What a read gave, taken: the texts that it asks for stand at the beginning of the buffer. Behind bytes those are the texts of the lines that end in them; at the
+// end of the input that of a last line without newline; behind a read that failed there are none.
+fn place_turn(
     kind: Kind,
     got: Got,
     block: &[u8],
     line: &mut [u8],
     len: usize,
     buf: &mut [u8],
-) -> Wrote
+) -> Behind
     requires { ⌜ length (now line) ≡ mostOf kind ⌝ }
     requires { ⌜ len ≤ length (now line) ⌝ }
-    requires { ⌜ GotSays got (now block) ⌝ }
-    requires { ⌜ 65536 ≤ length (now buf) ⌝ }
+    requires { ⌜ RoomForRead kind got (now block) (now buf) ⌝ }
     ensures { λ r. ⌜ r .len ≤ length (now (line .exit)) ⌝ }
-    ensures { λ r. ⌜ BehindRead kind got (r .all) (take len (now (line .entry))) (now (block .entry)) (now (buf .entry)) (take (r .len) (now (line .exit))) (now (buf .exit)) ⌝ }
+    ensures { λ r. ⌜ BehindRead kind got (take len (now (line .entry))) (now (block .entry)) (now (buf .entry)) (take (r .len) (now (line .exit))) (r .at) (now (buf .exit)) ⌝ }
 {
     match got {
-        Got::Bytes(n) => write_pieces(kind, &block[..n], line, len, buf),
+        Got::Bytes(n) => stream_blocks_inner::take_bytes(kind, line, len, &block[..n], buf),
         Got::Over => {
-            let all = write_last(kind, &line[..len], buf);
-            Wrote { len: 0, all }
+            let at = stream_blocks_inner::place_last(kind, &line[..len], buf);
+            Behind { len: 0, at }
         }
-        Got::Failed => Wrote { len, all: true },
+        Got::Failed => Behind { len, at: 0 },
     }
 }
 
@@ -109,15 +57,17 @@ fn write_turn(
 fn turn(kind: Kind, block: &mut [u8], line: &mut [u8], len: usize, buf: &mut [u8]) -> Turned
     requires { ⌜ length (now line) ≡ mostOf kind ⌝ }
     requires { ⌜ len ≤ length (now line) ⌝ }
-    requires { ⌜ 65536 ≤ length (now buf) ⌝ }
+    requires { ⌜ (0 < length (now block)) × (length (now block) * roomOf kind ≤ length (now buf)) ⌝ }
     ensures { λ r. ⌜ r .len ≤ length (now (line .exit)) ⌝ }
-    ensures { λ r. ⌜ BehindRead kind (r .got) (r .wrote) (take len (now (line .entry))) (now (block .exit)) (now (buf .entry)) (take (r .len) (now (line .exit))) (now (buf .exit)) ⌝ }
+    ensures { λ r. ⌜ ReadAnswered kind (r .got) (take len (now (line .entry))) (now (block .exit)) (now (buf .entry)) (take (r .len) (now (line .exit))) (now (buf .exit)) ⌝ }
 {
     let got = program_reading_inner::read_some(block);
-    let q = write_turn(kind, got, block, line, len, buf);
+    let q = place_turn(kind, got, block, line, len, buf);
+    let m = q.at;
+    let wrote = io::write_all(STDOUT_FILENO, &buf[..m]);
     Turned {
         got,
-        wrote: q.all,
+        wrote,
         len: q.len,
     }
 }
@@ -140,7 +90,7 @@ fn goes_on(got: Got, wrote: bool, reads: u64) -> bool
 // Turn after turn.
 fn pump(kind: Kind, block: &mut [u8], line: &mut [u8], buf: &mut [u8]) -> Stopped
     requires { ⌜ length (now line) ≡ mostOf kind ⌝ }
-    requires { ⌜ 65536 ≤ length (now buf) ⌝ }
+    requires { ⌜ (0 < length (now block)) × (length (now block) * roomOf kind ≤ length (now buf)) ⌝ }
     ensures { λ r. ⌜ GoesOn (r .wrote) (r .got) (r .reads) false ⌝ }
 {
     let mut len = 0;
@@ -157,13 +107,21 @@ fn pump(kind: Kind, block: &mut [u8], line: &mut [u8], buf: &mut [u8]) -> Stoppe
     }
 }
 
+// Zeros, with room for the texts of all that is read at a time.
+fn wide_buffer() -> [u8; 1048576]
+    ensures { λ r. ⌜ 1048576 ≡ length r ⌝ }
+{
+    [0; 1048576]
+}
+
 // The program: the texts on standard output; on standard error why not all of them, if so.
 pub fn run(kind: Kind) {
     let mut block = [0u8; 2048];
     let mut line = [0u8; 4096];
-    let mut buf = io::large_buffer();
+    let mut buf = wide_buffer();
+    let n = stream_asking_inner::block_length(kind);
     let m = stream_asking_inner::kept_bytes(kind);
-    let left = pump(kind, &mut block, &mut line[..m], &mut buf);
+    let left = pump(kind, &mut block[..n], &mut line[..m], &mut buf);
     let got = left.got;
     let ended = program_reading_inner::stream_ending(got, left.wrote);
     let k = program_ending_inner::say(ended, &mut buf);

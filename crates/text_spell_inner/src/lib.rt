@@ -38,7 +38,7 @@ pub fn piece_end(s: &[u8], sep: u8) -> usize
 }
 
 // The value of a digit; 16 for what is none.
-fn value_of(c: u8) -> u8
+pub fn value_of(c: u8) -> u8
     ensures { λ r. ⌜ DigitSays c r ⌝ }
 {
     if c < b'0' {

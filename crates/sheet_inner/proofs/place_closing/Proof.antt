@@ -5,7 +5,7 @@ use Rattle.sheet_inner.proofs.place_closing.Statement.{statement}
 use Rattle.sheet_inner.proofs.place_closing.Tie as tie
 
 returns : tie.Need-returns
-returns c = fits-skip 384 _ _ _ _ (c .if1 .taken)
+returns c = fits-skip 320 _ _ _ _ (c .if1 .taken)
 
 add-place-foot : tie.Need-add-place-foot
 add-place-foot c = search needs
@@ -17,7 +17,7 @@ same-length : tie.Need-same-length
 same-length c = search needs
 
 returns-2 : tie.Need-returns-2
-returns-2 c = fits-where 384 _ _ _ _ _ _ (c .before .before .before .before .if1 .left) (c .before .before .place-foot .ensures)
+returns-2 c = fits-where 320 _ _ _ _ _ _ (c .before .before .before .before .if1 .left) (c .before .before .place-foot .ensures)
 
 pub place-closing-spec : {M : Type 1} → statement M
 place-closing-spec =

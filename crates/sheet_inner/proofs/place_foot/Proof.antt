@@ -61,21 +61,21 @@ same-length c = search needs
 
 returns : tie.Need-returns
 unfolding longest slots footOf
-returns c = rw (c .before .before .before .before .before .before .before .enum-told .given .1) (fits-more (c .before .before .place-form .ensures) 384 (omega arith))
+returns c = rw (c .before .before .before .before .before .before .before .enum-told .given .1) (fits-more (c .before .before .place-form .ensures) 320 (omega arith))
 
 same-length-2 : tie.Need-same-length-2
 same-length-2 c = search needs
 
 returns-2 : tie.Need-returns-2
 unfolding longest slots footOf
-returns-2 c = rw (c .before .before .before .before .before .before .before .enum-told2 .given .1) (fits-more (c .before .before .place-form2 .ensures) 384 (omega arith))
+returns-2 c = rw (c .before .before .before .before .before .before .before .enum-told2 .given .1) (fits-more (c .before .before .place-form2 .ensures) 320 (omega arith))
 
 same-length-3 : tie.Need-same-length-3
 same-length-3 c = search needs
 
 returns-3 : tie.Need-returns-3
 unfolding longest slots footOf
-returns-3 c = rw (c .before .before .before .before .before .before .before .enum-told3 .given .1) (fits-more (c .before .before .place-form3 .ensures) 384 (omega arith))
+returns-3 c = rw (c .before .before .before .before .before .before .before .enum-told3 .given .1) (fits-more (c .before .before .place-form3 .ensures) 320 (omega arith))
 
 pub place-foot-spec : {M : Type 1} → statement M
 place-foot-spec =

@@ -37,7 +37,7 @@ place-closing-requires c κs =
         div-le-self (c .before .before .before .before .before .before .before .before .before .before .before .before .before .args .i)
             (c .before .before .before .before .before .before .before .before .before .before .per-page .result),
       ),
-      fits-room (fits-append (c .before .before .before .before .before .before .before .before .place-opening .ensures) (c .before .before .before .before .place-home .ensures)) 384
+      fits-room (fits-append (c .before .before .before .before .before .before .before .before .place-opening .ensures) (c .before .before .before .before .place-home .ensures)) 320
           (omega (arith, z .1 .1 .1)),
     )
 

@@ -2,7 +2,8 @@
 use mathlib.Core.Path.{refl}
 use Prim.Native.Nat.{_≤_, _<_}
 use native.Mathlib.Omega.{arith}
-use Rattle.sheet_layout_inner.proofs.Bounds.{per-some, per-most}
+use Rattle.sheet_spec.proofs.Rows.{per-some}
+use Rattle.sheet_layout_inner.proofs.Bounds.{per-most}
 use borrow.Author.Needs.{needs}
 use Rattle.sheet_layout_inner.proofs.per_page.Statement.{statement}
 use Rattle.sheet_layout_inner.proofs.per_page.Tie as tie

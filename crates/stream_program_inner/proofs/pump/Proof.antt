@@ -1,9 +1,9 @@
 -- `stream_program_inner::pump` meets its contract. The measure is the number of reads that are left.
-use Prim.Native.Nat.{_-_, _≤_}
+use Prim.Native.Nat.{_-_, _*_, _<_, _≤_}
 use mathlib.Core.Path.{_≡_, refl, sym, _∙_}
 use native.Mathlib.Omega.{arith}
 use lib.ListN.{length}
-use Rattle.stream_asking_inner.specs.Says.{mostOf}
+use Rattle.stream_asking_inner.specs.Says.{mostOf, roomOf}
 use Rattle.stream_program_inner.proofs.Stopping.{goes-less}
 use borrow.Author.Needs.{needs}
 use borrow.Author.Tests.{not-true, not-false}
@@ -21,10 +21,10 @@ loop-holds : tie.Need-loop-holds Inv-loop μ-loop
 loop-holds c = (refl, c .before .before .before .pre .0, omega arith, refl)
 
 turn-requires : tie.Need-turn-requires Inv-loop μ-loop
-turn-requires c κs = let v = c .before .before .before .loop .inv in (v .1, (v .2, omega (arith, v .3, c .before .before .before .before .before .before .before .pre .1)))
-
-goes-on-requires : tie.Need-goes-on-requires Inv-loop μ-loop
-goes-on-requires c κs = search needs
+turn-requires c κs =
+    let v = c .before .before .before .loop .inv in
+    let p = c .before .before .before .before .before .before .before .pre in
+    (v .1, (v .2, (omega (arith, v .0, p .1 .0), rw (v .0, v .3) (p .1 .1))))
 
 same-length : tie.Need-same-length Inv-loop μ-loop
 same-length c =
@@ -76,7 +76,7 @@ pump-spec =
     μ-loop
     loop-holds
     turn-requires
-    goes-on-requires
+    (λ c κs. search needs)
     same-length
     same-length-2
     same-length-3

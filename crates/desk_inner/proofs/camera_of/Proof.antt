@@ -1,0 +1,17 @@
+-- `desk_inner::camera_of` meets its contract.
+use Rattle.desk_spec.specs.Verbs.{cameraOf}
+use borrow.Author.Needs.{needs}
+use Rattle.desk_inner.proofs.camera_of.Statement.{statement}
+use Rattle.desk_inner.proofs.camera_of.Tie as tie
+
+returns : tie.Need-returns
+unfolding cameraOf
+returns c = c .or-named .ensures
+
+pub camera-of-spec : {M : Type 1} → statement M
+camera-of-spec =
+    tie.close
+    (tie.spec
+    (λ c. search needs)
+    (λ c κs. search needs)
+    returns)

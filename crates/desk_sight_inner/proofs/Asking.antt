@@ -1,0 +1,89 @@
+-- From what is told of the words to what the question prints.
+--     put-spelt                 the rings and the reading lie end to end
+--     no-most, put-most         how many sectors may be misread stands in front of them
+--     no-sight, put-sight       and k in front of that
+use Prim.Native.Nat.{ℕ, _-_, _≤_}
+use mathlib.Core.Path.{_≡_, refl, sym, ap, _∙_}
+use mathlib.Core.Bool.{Bool, true, false}
+use mathlib.Core.Logic.{inl, inr}
+use mathlib.Core.List.{List, _∷_}
+use native.Mathlib.Omega.{arith}
+use lib.ListN.{length, take, drop, length-drop}
+use lib.Seq.{length-take-le}
+use Rattle.text_spec.specs.Decimal.{decimal}
+use Rattle.stream_spec.specs.Blocks.{Puts}
+use Rattle.words.specs.Readings.{Sized}
+use Rattle.refusal.specs.declared.Refusal.{Refusal}
+use Rattle.refusal.specs.declared.Refusal.the-variants.{Length, Pair}
+use Rattle.refusal.specs.Order.{fact, _▸_, Given}
+use Rattle.sight_spec.specs.declared.Sighting.{Sighting}
+use Rattle.desk_spec.specs.Questions.{ReadsSight, Replies}
+use Rattle.desk_spec.specs.Texts.{sightText}
+use Rattle.desk_spec.specs.Sights.{AsLong, lengthsOrder, SightedSays, alike, unlike}
+use Rattle.desk_spec.specs.Answers.{AnswerShows, SeenSays}
+use Rattle.desk_texts_inner.specs.Says.{deskRoom}
+use Rattle.desk_texts_inner.proofs.Putting.{puts-on, put-good, put-as}
+use Rattle.desk_words_inner.specs.declared.Head.the-variants.{Number, Malformed}
+use Rattle.desk_words_inner.specs.Says.{HeadSays}
+use Rattle.desk_words_inner.proofs.Heads.{rest-words}
+use Rattle.desk_words_inner.proofs.Shapes.{rest-all}
+use Rattle.desk_rings_inner.specs.Says.{ReadsRings, EndToEnd, EachSays}
+use Rattle.desk_rings_inner.proofs.Spaced.{words-cons}
+use Rattle.desk_sight_inner.specs.Says.{TellSays, ReadsMost, SeenAmong, SeenWithin}
+
+-- ---- rings and a reading
+
+-- the refusal of the lengths, where some ring is not as long
+lengths-given : (r : List ℕ) (ts : List (List ℕ)) (q : Refusal) → (AsLong (length r) ts → ⊥) → Given (fact (Sized (length r)) (Length 0) ▸ fact ⊥ Pair) q → Given (lengthsOrder r ts) q
+lengths-given r ts q n (inl x) = inl x
+lengths-given r ts q n (inr x) = inr (x .0, (x .1 .0, n))
+
+module _ (u out : List ℕ) (l m k e : ℕ) (p : EndToEnd u out l m) where
+  size : length (p .last) ≡ m - l
+  size = sym (ap length (p .reading)) ∙ length-take-le (m - l) (drop l out) (omega (arith, length-drop l out, p .room))
+
+  told : (b : Bool) → EachSays u (m - l) b → (a : Sighting) → TellSays (take l out) (take (m - l) (drop l out)) k e b a → SightedSays (p .ts) (p .last) k e a
+  told true x a y = alike (λ j h. x (p .ts, p .last) (p .reads) j h ∙ sym size) (rw (p .rings, p .reading) at y)
+  told false x a y =
+      let z : TellSays (take l out) (p .last) k e false a = rw (p .reading) at y in
+      let n : AsLong (length (p .last)) (p .ts) → ⊥ = λ f. x (p .ts, p .last) (p .reads) (λ j h. f j h ∙ size) in
+      unlike n (z .0) (lengths-given (p .last) (p .ts) (z .0) n (z .1)) (z .2)
+
+  pub put-spelt : (b : Bool) → EachSays u (m - l) b → (c : List ℕ) (at r : ℕ) (c′ : List ℕ) →
+      Puts (AnswerShows (TellSays (take l out) (take (m - l) (drop l out)) k e b) sightText) deskRoom c at r c′ → Puts (Replies (ReadsRings u) (SeenAmong k e)) deskRoom c at r c′
+  put-spelt b x c at r c′ y =
+      put-good (ReadsRings u) (SeenAmong k e) c at r c′ (p .ts, p .last) (p .reads) (puts-on _ _ (λ t z. record { answer = z .answer; says = told b x (z .answer) (z .says); is = z .is }) c at r c′ y)
+
+-- ---- a number in front
+
+module _ (t : List ℕ) where
+  pub no-most : HeadSays t Malformed → (q : ℕ × List (List ℕ) × List ℕ) → ReadsMost t q → ⊥
+  no-most h q x = let w = words-cons (q .1) (q .2) in h (q .0) (w .0) (w .1) (x .short) (x .words ∙ ap (λ (y : List (List ℕ)). decimal (q .0) ∷ y) (w .2))
+
+  pub no-sight : HeadSays t Malformed → (q : ℕ × ℕ × List (List ℕ) × List ℕ) → ReadsSight t q → ⊥
+  no-sight h q x = h (q .0) _ _ (x .short) (x .words)
+
+  module _ (j at : ℕ) (h : HeadSays t (Number j at)) (b : List ℕ) (p r : ℕ) (b′ : List ℕ) where
+    pub put-most : (k : ℕ) → Puts (Replies (ReadsRings (take (length t - at) (drop at t))) (SeenAmong k j)) deskRoom b p r b′ → Puts (Replies (ReadsMost t) (SeenWithin k)) deskRoom b p r b′
+    put-most k x = put-as _ _ _ _ on back b p r b′ (rw (rest-all t at) at x)
+      where
+        on : (q : List (List ℕ) × List ℕ) → ReadsRings (drop at t) q → (y : ℕ × List (List ℕ) × List ℕ) × ReadsMost t y × ((u : List ℕ) → SeenAmong k j q u → SeenWithin k y u)
+        on q s = ((j, q .0, q .1), record { short = h .0; rings = s .rings; sectors = s .sectors; words = h .2 ∙ ap (λ (y : List (List ℕ)). decimal j ∷ y) (s .words) }, λ u y. y)
+
+        back : (q : ℕ × List (List ℕ) × List ℕ) → ReadsMost t q → (y : List (List ℕ) × List ℕ) × ReadsRings (drop at t) y
+        back q y = ((q .1, q .2), record { rings = y .rings; sectors = y .sectors; words = rest-words t j at h (q .0) _ (y .words) })
+
+    pub put-sight : Puts (Replies (ReadsMost (take (length t - at) (drop at t))) (SeenWithin j)) deskRoom b p r b′ →
+        Puts (Replies (ReadsSight t) (λ q. SeenSays (q .0) (q .1) (q .2) (q .3))) deskRoom b p r b′
+    put-sight x = put-as _ _ _ _ on back b p r b′ (rw (rest-all t at) at x)
+      where
+        on : (q : ℕ × List (List ℕ) × List ℕ) → ReadsMost (drop at t) q →
+            (y : ℕ × ℕ × List (List ℕ) × List ℕ) × ReadsSight t y × ((u : List ℕ) → SeenWithin j q u → SeenSays (y .0) (y .1) (y .2) (y .3) u)
+        on q s = (
+          (j, q .0, q .1, q .2),
+          record { short = h .0; second = s .short; rings = s .rings; sectors = s .sectors; words = h .2 ∙ ap (λ (y : List (List ℕ)). decimal j ∷ y) (s .words) },
+          λ u y. y,
+        )
+
+        back : (q : ℕ × ℕ × List (List ℕ) × List ℕ) → ReadsSight t q → (y : ℕ × List (List ℕ) × List ℕ) × ReadsMost (drop at t) y
+        back q y = ((q .1, q .2, q .3), record { short = y .second; rings = y .rings; sectors = y .sectors; words = rest-words t j at h (q .0) _ (y .words) })

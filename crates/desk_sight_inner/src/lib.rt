@@ -1,0 +1,131 @@
+// A reading looked for among rings: its words, the call, and what it prints. No public calls.
+
+use desk_rings_inner::Words;
+use desk_words_inner::Head;
+use refusal::Refusal;
+use rings::MOST_SECTORS;
+use sight_spec::Sighting;
+ghost use Prim.Native.Nat.{_+_, _-_, _≤_};
+ghost use lib.ListN.{length, take, drop};
+ghost use Rattle.stream_spec.specs.Blocks.{Puts};
+ghost use Rattle.desk_spec.specs.declared.Verb.the-variants as verbs;
+ghost use Rattle.desk_spec.specs.Questions.{Replies};
+ghost use Rattle.desk_spec.specs.Texts.{sightText};
+ghost use Rattle.desk_spec.specs.Answers.{AnswerShows, VerbSays};
+ghost use Rattle.desk_texts_inner.specs.Says.{deskRoom, LinePrinted};
+ghost use Rattle.desk_rings_inner.specs.Says.{ReadsRings};
+ghost use Rattle.desk_sight_inner.specs.Says.{TellSays, ReadsMost, SeenAmong, SeenWithin};
+
+// The line of an answer.
+fn place_sighting(buf: &mut [u8], at: usize, a: Sighting) -> usize
+    requires { ⌜ at + deskRoom ≤ length (now buf) ⌝ }
+    ensures { λ r. ⌜ LinePrinted (now (buf .entry)) at (sightText a) r (now (buf .exit)) ⌝ }
+{
+    match a {
+        Sighting::Front {
+            target,
+            shift,
+            misread,
+        } => desk_texts_inner::place_line(
+            buf,
+            at,
+            b"front % turned % misread %\n",
+            &[target, shift, misread],
+            0,
+            b"",
+        ),
+        Sighting::Back {
+            target,
+            shift,
+            misread,
+        } => desk_texts_inner::place_line(
+            buf,
+            at,
+            b"back % turned % misread %\n",
+            &[target, shift, misread],
+            0,
+            b"",
+        ),
+        Sighting::Several => desk_texts_inner::place_line(buf, at, b"several\n", &[], 0, b""),
+        Sighting::Unknown => desk_texts_inner::place_line(buf, at, b"unknown\n", &[], 0, b""),
+        Sighting::Refused(r) => desk_texts_inner::place_refusal(buf, at, r),
+    }
+}
+
+// What is seen where each ring is as long as the reading, and else which refusal the lengths give.
+fn tell(rings: &[u8], reading: &[u8], alike: bool, k: usize, most: usize) -> Sighting
+    ensures { λ a. ⌜ TellSays (now (rings .entry)) (now (reading .entry)) k most alike a ⌝ }
+{
+    if alike {
+        return sight::sight(rings, reading, k, most);
+    }
+    if reading.len() < 1 {
+        return Sighting::Refused(Refusal::Length(0));
+    }
+    if MOST_SECTORS < reading.len() {
+        return Sighting::Refused(Refusal::Length(0));
+    }
+    Sighting::Refused(Refusal::Pair)
+}
+
+// The rings lie up to the place l, and the reading from there up to the place m.
+fn answer_sight(
+    k: usize,
+    most: usize,
+    sectors: &[u8],
+    l: usize,
+    m: usize,
+    alike: bool,
+    buf: &mut [u8],
+    at: usize,
+) -> usize
+    requires { ⌜ l ≤ m ⌝ }
+    requires { ⌜ m ≤ length (now sectors) ⌝ }
+    requires { ⌜ at + deskRoom ≤ length (now buf) ⌝ }
+    ensures { λ r. ⌜ Puts (AnswerShows (TellSays (take l (now (sectors .entry))) (take (m - l) (drop l (now (sectors .entry)))) k most alike) sightText) deskRoom (now (buf .entry)) at r (now (buf .exit)) ⌝ }
+{
+    let a = tell(&sectors[..l], &sectors[l..m], alike, k, most);
+    place_sighting(buf, at, a)
+}
+
+// The rings and the reading are spelt into the lent bytes, end to end.
+fn ask_sight(k: usize, most: usize, u: &[u8], out: &mut [u8], buf: &mut [u8], at: usize) -> usize
+    requires { ⌜ length (now u) ≤ length (now out) ⌝ }
+    requires { ⌜ at + deskRoom ≤ length (now buf) ⌝ }
+    ensures { λ r. ⌜ Puts (Replies (ReadsRings (now (u .entry))) (SeenAmong k most)) deskRoom (now (buf .entry)) at r (now (buf .exit)) ⌝ }
+{
+    match desk_rings_inner::spell_words(u, out) {
+        Words::Malformed => desk_texts_inner::place_malformed(buf, at),
+        Words::Spelt(l, m) => {
+            let alike = desk_rings_inner::each_long(u, m - l);
+            answer_sight(k, most, out, l, m, alike, buf, at)
+        }
+    }
+}
+
+// How many sectors may be misread, and the words behind it.
+fn place_most(k: usize, t: &[u8], buf: &mut [u8], at: usize) -> usize
+    requires { ⌜ length (now t) ≤ 4095 ⌝ }
+    requires { ⌜ at + deskRoom ≤ length (now buf) ⌝ }
+    ensures { λ r. ⌜ Puts (Replies (ReadsMost (now (t .entry))) (SeenWithin k)) deskRoom (now (buf .entry)) at r (now (buf .exit)) ⌝ }
+{
+    match desk_words_inner::head_of(t) {
+        Head::Malformed => desk_texts_inner::place_malformed(buf, at),
+        Head::Number(most, e) => {
+            let mut out = [0u8; 4095];
+            ask_sight(k, most, &t[e..], &mut out, buf, at)
+        }
+    }
+}
+
+// What the text behind `sight` prints.
+pub fn place_sight(t: &[u8], buf: &mut [u8], at: usize) -> usize
+    requires { ⌜ length (now t) ≤ 4095 ⌝ }
+    requires { ⌜ at + deskRoom ≤ length (now buf) ⌝ }
+    ensures { λ r. ⌜ Puts (VerbSays verbs.Sight (now (t .entry))) deskRoom (now (buf .entry)) at r (now (buf .exit)) ⌝ }
+{
+    match desk_words_inner::head_of(t) {
+        Head::Malformed => desk_texts_inner::place_malformed(buf, at),
+        Head::Number(k, e) => place_most(k, &t[e..], buf, at),
+    }
+}

@@ -1,0 +1,2 @@
+-- What the command for one target reads and prints (Prints).
+pub mod Prints

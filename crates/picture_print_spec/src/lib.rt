@@ -1,0 +1,1 @@
+// What the command for one target reads and prints. No functions.

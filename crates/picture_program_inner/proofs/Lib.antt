@@ -1,0 +1,2 @@
+-- What the program reads, and that its output lies within the buffer (Input).
+pub mod Input

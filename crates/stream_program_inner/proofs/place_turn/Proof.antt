@@ -1,0 +1,96 @@
+-- `stream_program_inner::place_turn` meets its contract.
+use mathlib.Core.Path.{_≡_, refl}
+use native.Mathlib.Omega.{arith}
+use lib.ListN.{length, length-take}
+use Rattle.stream_program_inner.proofs.Stopping.{take-room, line-room, got-inside, turn-bytes, turn-over, turn-failed}
+use borrow.Author.Needs.{needs}
+use Rattle.stream_program_inner.proofs.place_turn.Statement.{statement}
+use Rattle.stream_program_inner.proofs.place_turn.Tie as tie
+
+enum-known-got : tie.Need-enum-known-got
+enum-known-got c = search needs
+
+slice-aggregate-take-bytes : tie.Need-slice-aggregate-take-bytes
+slice-aggregate-take-bytes c =
+    let args = c .before .before .before .before .before .before .before .before .args in
+    let got = c .before .before .before .got in
+    let pre = c .before .before .before .before .before .before .before .before .pre in
+    got-inside (args .got) _ _ (got .given .1) (pre .1 .1 .inside) .1
+
+take-bytes-requires : tie.Need-take-bytes-requires
+take-bytes-requires c κs =
+    let pre = c .before .before .before .before .before .before .before .before .before .pre in
+    let args = c .before .before .before .before .before .before .before .before .before .args in
+    let got = c .before .before .before .before .got in (
+      pre .0,
+      (pre .1 .0, take-room _ _ (args .block .now) _ _ (got-inside (args .got) _ _ (got .given .1) (pre .1 .1 .inside) .0) refl (pre .1 .1 .room)),
+    )
+
+enum-told : tie.Need-enum-told
+enum-told c = search needs
+
+slice-reshare-prefix-place-last : tie.Need-slice-reshare-prefix-place-last
+slice-reshare-prefix-place-last c = search needs
+
+slice-aggregate-place-last : tie.Need-slice-aggregate-place-last
+slice-aggregate-place-last c = simp length-take (omega (arith, c .before .before .before .before .before .before .pre .1 .0))
+
+place-last-requires : tie.Need-place-last-requires
+place-last-requires c κs =
+    let pre = c .before .before .before .before .before .before .before .pre in
+    line-room _ _ _ (pre .1 .1 .some) (pre .1 .1 .room)
+
+enum-told-2 : tie.Need-enum-told-2
+enum-told-2 c = search needs
+
+same-length : tie.Need-same-length
+same-length c = search needs
+
+same-length-2 : tie.Need-same-length-2
+same-length-2 c = search needs
+
+returns : tie.Need-returns
+returns c =
+    let take-bytes = c .before .before .before .before .take-bytes in
+    let args = c .before .before .before .before .before .before .before .before .before .before .before .before .before .before .args in
+    let got = c .before .before .before .before .before .before .before .before .before .got in
+    (take-bytes .ensures .0, turn-bytes (args .kind) _ (args .block .now) _ _ _ _ (args .got) _ (got .given .1) (take-bytes .ensures .1))
+
+same-length-3 : tie.Need-same-length-3
+same-length-3 c = search needs
+
+same-length-4 : tie.Need-same-length-4
+same-length-4 c = search needs
+
+returns-2 : tie.Need-returns-2
+returns-2 c =
+    let args = c .before .before .before .before .before .before .before .before .before .before .args in
+    let enum-told = c .before .before .before .before .before .enum-told in
+    let place-last = c .before .before .place-last in
+    (omega arith, turn-over (args .kind) _ _ _ _ _ _ (args .got) (enum-told .given .1) (place-last .ensures))
+
+returns-3 : tie.Need-returns-3
+returns-3 c =
+    let pre = c .before .before .before .before .before .pre in
+    let args = c .before .before .before .before .before .args in
+    (omega (arith, pre .1 .0), turn-failed (args .kind) (args .got) _ _ _ (c .enum-told2 .given .1))
+
+pub place-turn-spec : {M : Type 1} → statement M
+place-turn-spec =
+    tie.close
+    (tie.spec
+    enum-known-got
+    slice-aggregate-take-bytes
+    take-bytes-requires
+    enum-told
+    slice-reshare-prefix-place-last
+    slice-aggregate-place-last
+    place-last-requires
+    enum-told-2
+    same-length
+    same-length-2
+    returns
+    same-length-3
+    same-length-4
+    returns-2
+    returns-3)
