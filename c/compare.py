@@ -231,12 +231,12 @@ def sets(line):
     try:
         p = pick(n, k, d, wanted)
     except rings.Refused as e:
-        return [f"{refused(e)}, taken 0 not full, others 0"]
+        return [f"{refused(e)}, taken 0 not full, others 0", "laid " + ("" if 1 <= n <= 24 else "refused 1 at 0")]
     # `others` are the sectors beside those of the rings taken: an output that was not 0 before would show
     out = lent(b"\xff" * 768)
     c_pick(n, k, d, wanted, out, 768)
     others = sum(x != 0 for i, x in enumerate(held(out)) if not (i % 24 < n and i // 24 < len(p.rings)))
-    return [shown(r) for r in p.rings] + [f"taken {len(p.rings)} {'full' if p.full else 'not full'}, others {others}"]
+    return [shown(r) for r in p.rings] + [f"taken {len(p.rings)} {'full' if p.full else 'not full'}, others {others}", "laid " + shown(b"".join(p.rings))]
 
 
 # ---- the desk: VERB WORDS, and the text of each line
@@ -379,11 +379,14 @@ def by_definition():
     return compared, differ
 
 
-# ---- cases that no line of the desk can ask: numbers above 999. What is called, and its text.
+# ---- cases that no line of the desk can ask: numbers above 999, rings that are no multiple of the reading, a sector that no digit spells. What is called, and its text.
 
 MOST = (1 << 64) - 1
 BEYOND = [(f"{call} {k} {n}", told(getattr(rings, call), k, n), text) for k, n, text in [(2, MOST, "refused 1 at 0"), (MOST, 4, "refused 2 at 0"), (MOST, MOST, "refused 1 at 0")]
           for call in ("necklaces", "lyndon_words")]
+BEYOND += [(f"sight {k} {shown(r)} {shown(whole)}", told(rings.sight, whole, r, k, 0), text) for k, r, whole, text in [
+    (2, sectors("001"), sectors("0010"), "refused 10 at 0"), (1, sectors("21"), sectors("210"), "refused 10 at 0"),
+    (16, sectors("01"), sectors("0g"), "refused 3 at 3"), (1, bytes(65), bytes(3), "refused 1 at 0")]]
 
 
 def run(name, answer, lines, expected):
