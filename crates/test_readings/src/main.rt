@@ -1,9 +1,9 @@
-// The calls on readings run and compared: the hand cases of document 01, the bounds of n and k, each refusal with its place, and the order of the checks.
-// The cases are the lines of stdin: a call, its readings, and k; behind the k of `home` stands what the output holds before the call. What is printed of a case
-// is its line and the answer. The expected text, stdout, is written from the document.
+// What no line of the desk can ask of the calls on readings: a sector that no digit spells, an output of another length, what a lent output holds behind a call, and
+// `nearer`, which has no verb. The cases are the lines of stdin: `class`, a reading and k; `home`, a reading, k and what the output holds before the call; `near`, two
+// readings, k and d: are they less than d apart? What is printed of a case is its line and the answer. The expected text, stdout, is written from the document and
+// made from the definitions. What the desk can be asked stands in .ci/runs/desk-home.in.
 
 use classify::Classified;
-use home::Distance;
 use home::Homed;
 use home::Told;
 
@@ -22,13 +22,6 @@ fn print_told(r: Told) {
     }
 }
 
-fn print_distance(r: Distance) {
-    match r {
-        Distance::Apart(d) => test_show::number(d),
-        Distance::Refused(r) => test_show::refused(r),
-    }
-}
-
 fn print_home(r: Homed) {
     match r {
         Homed::Home { shift, period } => {
@@ -39,33 +32,7 @@ fn print_home(r: Homed) {
     }
 }
 
-// Calls with one reading: `class` and `even-handed`.
-fn one(line: &[u8], call: u8) {
-    let mut s = [0u8; 65];
-    let n = test_cases::sectors(line, 1, &mut s);
-    let k = test_cases::number(line, 2);
-    if call == b'l' {
-        print_class(classify::classify(&s[..n], k));
-        return;
-    }
-    print_told(home::even_handed(&s[..n], k));
-}
-
-// Calls with two readings: `same` and `apart`.
-fn two(line: &[u8], call: u8) {
-    let mut a = [0u8; 65];
-    let mut b = [0u8; 65];
-    let n = test_cases::sectors(line, 1, &mut a);
-    let m = test_cases::sectors(line, 2, &mut b);
-    let k = test_cases::number(line, 3);
-    if call == b'a' {
-        print_told(home::same_ring(&a[..n], &b[..m], k));
-        return;
-    }
-    print_distance(home::apart(&a[..n], &b[..m], k));
-}
-
-// The call with one reading and an output, which is printed as the call leaves it.
+// The call with an output, which is printed as the call leaves it.
 fn into(s: &[u8], k: usize, out: &mut [u8]) {
     print_home(home::bring_home(s, k, out));
     test_show::output(out);
@@ -79,34 +46,38 @@ fn bring_home(line: &[u8]) {
     into(&s[..n], test_cases::number(line, 2), &mut out[..m]);
 }
 
-// The answer of a line's call, which its second letter tells.
-fn answer(line: &[u8], call: u8) {
-    if call == b't' {
-        test_show::number(stock::stock_home((test_cases::number(line, 1) % 256) as u8) as usize);
-        return;
+fn class(line: &[u8]) {
+    let mut s = [0u8; 65];
+    let n = test_cases::sectors(line, 1, &mut s);
+    print_class(classify::classify(&s[..n], test_cases::number(line, 2)));
+}
+
+fn near(line: &[u8]) {
+    let mut a = [0u8; 65];
+    let mut b = [0u8; 65];
+    let n = test_cases::sectors(line, 1, &mut a);
+    let m = test_cases::sectors(line, 2, &mut b);
+    print_told(home::nearer(
+        &a[..n],
+        &b[..m],
+        test_cases::number(line, 3),
+        test_cases::number(line, 4),
+    ));
+}
+
+// The answer of a line's call, which its first letter tells.
+fn answer(line: &[u8]) {
+    match test_cases::letter(line, 0) {
+        b'c' => class(line),
+        b'h' => bring_home(line),
+        _ => near(line),
     }
-    if call == b'o' {
-        bring_home(line);
-        return;
-    }
-    if call == b'l' {
-        one(line, call);
-        return;
-    }
-    if call == b'v' {
-        one(line, call);
-        return;
-    }
-    two(line, call);
 }
 
 fn run(line: &[u8]) {
-    if line.len() < 2 {
-        return;
-    }
     test_show::text(line);
     test_show::text(b": ");
-    answer(line, line[1]);
+    answer(line);
     test_show::newline();
 }
 

@@ -1,6 +1,6 @@
 // The calls `sets::pick` and, where a line ends with 1, `sets::pick_guarded` run and compared with all that they leave: the rings in the places, how many were taken
-// and whether that is the wanted number, how many other sectors are not 0; or a refusal's number and place, with all of that. The cases are the lines of stdin: n, k, the
-// distance and the wanted number. The expected text, stdout, is worked out from the definitions: every reading in order, each, and for guarded sets its mirror image and
+// and whether that is the wanted number, how many other sectors are not 0; or a refusal's number and place, with all of that; and behind each what `sets::lay_out` makes of
+// it, the rings end to end. The cases are the lines of stdin: n, k, the distance and the wanted number. The expected text, stdout, is worked out from the definitions: every reading in order, each, and for guarded sets its mirror image and
 // its turns, compared with all taken.
 
 use refusal::Checked;
@@ -74,6 +74,37 @@ fn picked(n: usize, k: usize, d: usize, wanted: usize, guarded: usize) -> Picked
     sets::pick(n, k, d, wanted)
 }
 
+// ---- the rings end to end
+
+fn size(n: usize, taken: usize) -> usize {
+    if 24 < n {
+        return 0;
+    }
+    if 32 < taken {
+        return 0;
+    }
+    n * taken
+}
+
+fn lay(p: Picked, n: usize, out: &mut [u8]) {
+    test_show::text(b"laid ");
+    match sets::lay_out(p, n, out) {
+        Checked::Good => test_show::sectors(out),
+        Checked::Refused(r) => test_show::refused(r),
+    }
+    test_show::newline();
+}
+
+// In a buffer with room for them.
+fn laid(p: Picked, n: usize, m: usize, buf: &mut [u8]) {
+    if buf.len() < m {
+        return;
+    }
+    lay(p, n, &mut buf[0..m]);
+}
+
+// ---- the lines
+
 fn run(line: &[u8]) {
     let n = test_cases::number(line, 0);
     let p = picked(
@@ -95,6 +126,8 @@ fn run(line: &[u8]) {
         }
     }
     end(p, n);
+    let mut buf = [0u8; 768];
+    laid(p, n, size(n, p.taken), &mut buf);
 }
 
 fn main() {

@@ -1,7 +1,5 @@
 // Printing for the programs that run the vectors: readings, classes and refusals on standard output. No public calls: nothing here is part of the catalogue.
 
-pub mod made;
-
 use libc::STDOUT_FILENO;
 use refusal::Refusal;
 use rings::Class;

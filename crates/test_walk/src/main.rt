@@ -1,15 +1,22 @@
-// Walks run and compared: the lists of 001, Figure 1, of 004, Figure 1, and of 002, section 2, the gap of 001, Figure 2, counts of rings, the hand cases of document 01,
-// the first steps at n = 64 and k = 16, every step's Done, and each refusal. The expected text, stdout, is written from those documents.
-// The cases are the lines of stdin. `list`, a reading, k and marks: it and all prenecklaces after it. `from`, a reading, k and how many: the prenecklaces after it.
-// `count`, a reading, k, a kind of step and n. `step`, a reading, k and a kind. `made`, n, k, a place and its sector, a class and its number: a record that no walk
-// has made. Marks: 1 has bullets behind what is no necklace, as 001 has them; 2 has N for a necklace and L for a Lyndon word, as 004 and 002 have them; 12
-// is the same of those alone that have as many sectors 1 as others. Classes: 0 Loose, 1 Opening, 2 Repeating, 3 Single.
+// What a line of the desk cannot show of a walk: the record that a start and each step hand back, and records that no walk has made. The lists of 001, Figure 1, of 004,
+// Figure 1, and of 002, section 2, the gap of 001, Figure 2, the hand cases of document 01, the first steps at n = 64 and k = 16, the longest steps for k = 2 and 3 and
+// n = 3 to 20, bracelets, the counts of 16 shades, every step's Done, each refusal, and full walks: by necklaces for every k and n with k to the power n up to 2 to the
+// power 16, and by bracelets. The expected text, stdout, is written from those documents and worked out by trying all readings. The cases are the lines of stdin:
+//     walk READING K KIND TIMES     a start, and at most so many steps; each record: n, k, ring, class, and the 16 counts
+//     count READING K KIND          how many rings a walk comes to behind the first, its moves with those of Done; what the periods of all add up to; how many are Single
+//     made N K RING AT SECTOR CLASS VALUE COUNTS KIND     a step from the record of these, but for another sector in place AT, where that is below 64
+// A kind is known by its first letter, and a bracelet tells no moves; a class by its number: 0 Loose, 1 Opening, 2 Repeating, 3 Single; counts are a digit each, 0 where none
+// stands. The same steps from a reading, without a record, are the lines of .ci/runs/desk-walk.in.
 
 use refusal::Checked;
 use rings::Class;
+use walk::Arrival;
+use walk::Arrived;
 use walk::Outcome;
 use walk::Stepped;
 use walk::Walk;
+
+// ---- a record
 
 fn print_ring(w: Walk) {
     let n = w.n;
@@ -19,54 +26,49 @@ fn print_ring(w: Walk) {
     }
 }
 
-// A space and a mark, where the marks asked for are `these`.
-fn mark(marks: usize, these: usize, m: u8) {
-    if marks == these {
-        test_show::text(&[b' ', m]);
+fn print_counts(counts: [u8; 16]) {
+    for b in 0..16 {
+        test_show::space();
+        test_show::number(counts[b] as usize);
     }
 }
 
-fn print_mark(c: Class, marks: usize) {
-    match c {
-        Class::Loose(_) => mark(marks, marks, b'?'),
-        Class::Opening(_) => mark(marks, 1, b'*'),
-        Class::Repeating(_) => mark(marks, 2, b'N'),
-        Class::Single => {
-            mark(marks, 2, b'N');
-            mark(marks, 2, b'L');
-        }
-    }
-}
-
-// Whether half of the sectors are 1.
-fn is_half(w: Walk) -> bool {
-    let n = w.n;
-    let ring = w.ring;
-    let mut ones: usize = 0;
-    let mut i = 0;
-    while i < 64 {
-        if ring[i] == 1 {
-            ones += 1;
-        }
-        i += 1;
-    }
-    ones == n / 2
-}
-
-// A ring's line, with its mark.
-fn print_line(w: Walk, marks: usize) {
-    if 10 <= marks {
-        if !is_half(w) {
-            return;
-        }
-    }
+// A record, to the end of the line.
+fn print_record(w: Walk) {
+    test_show::named(b" record ", w.n);
+    test_show::space();
+    test_show::number(w.k);
+    test_show::space();
     print_ring(w);
+    test_show::space();
     let c = w.class;
-    print_mark(c, marks % 10);
+    test_show::class(c);
+    let counts = w.counts;
+    print_counts(counts);
     test_show::newline();
 }
 
-// One of the three steps, by the first letter of its kind.
+// ---- a step
+
+fn arrived(a: Arrival) -> Outcome {
+    match a {
+        Arrival::Moved => Outcome::Moved(0),
+        Arrival::Done => Outcome::Done(0),
+        Arrival::Refused(r) => Outcome::Refused(r),
+    }
+}
+
+// The step to the next bracelet, as one that tells 0 moves.
+fn over(s: Arrived) -> Stepped {
+    let a = s.arrival;
+    let w = s.walk;
+    Stepped {
+        outcome: arrived(a),
+        walk: w,
+    }
+}
+
+// One of the four steps, by the first letter of its kind.
 fn step(w: Walk, kind: u8) -> Stepped {
     if kind == b'p' {
         return walk::next_prenecklace(w);
@@ -74,23 +76,44 @@ fn step(w: Walk, kind: u8) -> Stepped {
     if kind == b'n' {
         return walk::next_necklace(w);
     }
-    walk::next_lyndon(w)
+    if kind == b'l' {
+        return walk::next_lyndon(w);
+    }
+    over(walk::next_bracelet(w))
 }
 
-// The next prenecklaces, at most so many, with their marks.
-fn follow(start: Walk, marks: usize, times: usize) {
+fn print_outcome(o: Outcome) {
+    match o {
+        Outcome::Moved(m) => test_show::named(b"moved ", m),
+        Outcome::Done(m) => test_show::named(b"done ", m),
+        Outcome::Refused(r) => test_show::refused(r),
+    }
+}
+
+// The records that follow, at most so many, up to the first that does not move.
+fn follow(start: Walk, kind: u8, times: usize) {
     let mut w = start;
     let mut count: usize = 0;
     while count < times {
-        let s = walk::next_prenecklace(w);
+        let s = step(w, kind);
         let o = s.outcome;
+        w = s.walk;
+        print_outcome(o);
+        print_record(w);
         let Outcome::Moved(_) = o else {
             break;
         };
-        w = s.walk;
-        print_line(w, marks);
         count += 1;
     }
+}
+
+// ---- a whole walk
+
+// What is added up along a walk.
+struct Sums {
+    moves: usize,
+    periods: usize,
+    single: usize,
 }
 
 // The moves of a step, Done's included.
@@ -102,64 +125,79 @@ fn moves_of(o: Outcome) -> usize {
     }
 }
 
-// How many rings a walk comes to, the first not counted, and the sum of the moves, Done's included.
+// The period that a record's class tells; 0 where its ring is no necklace.
+fn period_of(w: Walk) -> usize {
+    let c = w.class;
+    match c {
+        Class::Loose(_) => 0,
+        Class::Opening(_) => 0,
+        Class::Repeating(p) => p,
+        Class::Single => w.n,
+    }
+}
+
+// 1 where the record's ring is classed Single.
+fn single_of(w: Walk) -> usize {
+    let c = w.class;
+    let Class::Single = c else {
+        return 0;
+    };
+    1
+}
+
+// What was met before, with a step's moves.
+fn moved(m: Sums, o: Outcome) -> Sums {
+    Sums {
+        moves: std::num::wrapping_add_usize(m.moves, moves_of(o)),
+        periods: m.periods,
+        single: m.single,
+    }
+}
+
+// What was met before, with a record.
+fn met(m: Sums, w: Walk) -> Sums {
+    Sums {
+        moves: m.moves,
+        periods: std::num::wrapping_add_usize(m.periods, period_of(w)),
+        single: std::num::wrapping_add_usize(m.single, single_of(w)),
+    }
+}
+
+fn print_met(rings: usize, m: Sums) {
+    test_show::named(b": ", rings);
+    test_show::named(b" moves ", m.moves);
+    test_show::named(b" periods ", m.periods);
+    test_show::named(b" single ", m.single);
+    test_show::newline();
+}
+
+// One full walk. It is given up after 100,000 rings, which none of these has.
 fn count_rings(start: Walk, kind: u8) {
     let mut w = start;
-    let mut count: usize = 0;
-    let mut sum: usize = 0;
-    while count < 10000 {
+    let mut rings: usize = 0;
+    let mut m = met(
+        Sums {
+            moves: 0,
+            periods: 0,
+            single: 0,
+        },
+        start,
+    );
+    while rings < 100000 {
         let s = step(w, kind);
         let o = s.outcome;
-        sum = std::num::wrapping_add_usize(sum, moves_of(o));
+        m = moved(m, o);
         let Outcome::Moved(_) = o else {
             break;
         };
         w = s.walk;
-        count += 1;
+        m = met(m, w);
+        rings += 1;
     }
-    print_count(count, sum);
+    print_met(rings, m);
 }
 
-fn print_count(count: usize, sum: usize) {
-    test_show::number(count);
-    test_show::named(b" moves ", sum);
-    test_show::newline();
-}
-
-fn print_class(w: Walk) {
-    let c = w.class;
-    test_show::space();
-    test_show::class(c);
-}
-
-// The ring that a step came to, its class, and the moves.
-fn print_moved(w: Walk, m: usize) {
-    print_ring(w);
-    print_class(w);
-    test_show::named(b" moves ", m);
-}
-
-fn print_outcome(o: Outcome, w: Walk) {
-    match o {
-        Outcome::Moved(m) => print_moved(w, m),
-        Outcome::Done(m) => test_show::named(b"done moves ", m),
-        Outcome::Refused(r) => test_show::refused(r),
-    }
-}
-
-fn print_record(w: Walk) {
-    test_show::named(b" record ", w.n);
-    test_show::space();
-    test_show::number(w.k);
-}
-
-fn print_answer(o: Outcome) {
-    match o {
-        Outcome::Moved(_) => test_show::text(b"moved"),
-        Outcome::Done(_) => test_show::text(b"done"),
-        Outcome::Refused(r) => test_show::refused(r),
-    }
-}
+// ---- a record that no walk has made
 
 fn class_of(case: usize, p: usize) -> Class {
     if case == 0 {
@@ -174,102 +212,66 @@ fn class_of(case: usize, p: usize) -> Class {
     Class::Single
 }
 
-// The ring 0011 with a sector changed.
-fn ring_of(at: usize, sector: u8) -> [u8; 64] {
+// The ring that a line gives, with another sector.
+fn ring_of(line: &[u8]) -> [u8; 64] {
     let mut ring = [0u8; 64];
-    ring[2] = 1;
-    ring[3] = 1;
+    test_cases::sectors(line, 3, &mut ring);
+    let at = test_cases::number(line, 4);
     if at < 64 {
-        ring[at] = sector;
+        ring[at] = (test_cases::number(line, 5) % 256) as u8;
     }
     ring
 }
 
-// The counts that a line gives, a digit for each shade; those that it does not are 0.
 fn counts_of(line: &[u8]) -> [u8; 16] {
     let mut counts = [0u8; 16];
-    test_cases::sectors(line, 7, &mut counts);
+    test_cases::sectors(line, 8, &mut counts);
     counts
+}
+
+fn made(line: &[u8]) -> Walk {
+    Walk {
+        n: test_cases::number(line, 1),
+        k: test_cases::number(line, 2),
+        ring: ring_of(line),
+        class: class_of(test_cases::number(line, 6), test_cases::number(line, 7)),
+        counts: counts_of(line),
+    }
 }
 
 // ---- the lines
 
-// A record that no walk has made: the answer, and the record's n and k as they come back.
-fn made(line: &[u8]) {
-    let s = walk::next_necklace(Walk {
-        n: test_cases::number(line, 1),
-        k: test_cases::number(line, 2),
-        ring: ring_of(
-            test_cases::number(line, 3),
-            (test_cases::number(line, 4) % 256) as u8,
-        ),
-        class: class_of(test_cases::number(line, 5), test_cases::number(line, 6)),
-        counts: counts_of(line),
-    });
-    let o = s.outcome;
-    print_answer(o);
-    print_record(s.walk);
-}
-
-// That word of the line, and a space.
-fn echo(line: &[u8], before: usize) {
-    test_show::text(test_cases::word(line, before));
-    test_show::space();
-}
-
-// A start that went well: `list`, `from`, `count`, `step`.
-fn started(line: &[u8], w: Walk) {
-    let what = test_cases::letter(line, 0);
-    let number = test_cases::number(line, 3);
-    let kind = test_cases::letter(line, 3);
-    if what == b'l' {
-        print_line(w, number);
-        follow(w, number, 100);
-        return;
+fn print_start(a: Checked) {
+    match a {
+        Checked::Good => test_show::text(b"start"),
+        Checked::Refused(r) => test_show::refused(r),
     }
-    if what == b'f' {
-        follow(w, 1, number);
-        return;
-    }
-    if what == b'c' {
-        echo(line, 2);
-        echo(line, 4);
-        echo(line, 3);
-        count_rings(w, kind);
-        return;
-    }
-    echo(line, 1);
-    echo(line, 3);
-    let s = step(w, kind);
-    let o = s.outcome;
-    print_outcome(o, s.walk);
-    test_show::newline();
 }
 
 // A line that starts from a reading.
-fn start(line: &[u8]) {
+fn started(line: &[u8], what: u8) {
     let mut s = [0u8; 65];
     let n = test_cases::sectors(line, 1, &mut s);
     let r = walk::start(&s[..n], test_cases::number(line, 2));
-    let a = r.answer;
-    let Checked::Refused(x) = a else {
-        started(line, r.walk);
+    let kind = test_cases::letter(line, 3);
+    if what == b'c' {
+        test_show::text(line);
+        count_rings(r.walk, kind);
         return;
-    };
-    test_show::text(b"start ");
-    test_show::refused(x);
+    }
+    let a = r.answer;
+    print_start(a);
     print_record(r.walk);
-    print_class(r.walk);
-    test_show::newline();
+    follow(r.walk, kind, test_cases::number(line, 4));
 }
 
 fn run(line: &[u8]) {
-    if test_cases::letter(line, 0) == b'm' {
-        made(line);
-        test_show::newline();
+    let what = test_cases::letter(line, 0);
+    if what == b'm' {
+        follow(made(line), test_cases::letter(line, 9), 1);
         return;
     }
-    start(line);
+    started(line, what);
 }
 
 fn main() {

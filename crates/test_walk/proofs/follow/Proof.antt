@@ -5,13 +5,14 @@ use Rattle.test_walk.proofs.follow.Statement.{statement}
 use Rattle.test_walk.proofs.follow.Tie as tie
 
 abbrev Inv-loop : tie.InvT-loop
-Inv-loop marks times w₀ count₀ w count = count ≤ times
+Inv-loop kind times w₀ count₀ w count = count ≤ times
 
 abbrev μ-loop : tie.MeasureT-loop
-μ-loop marks times w₀ count₀ w count = times - count
+μ-loop kind times w₀ count₀ w count = times - count
 
 pub follow-spec : {M : Type 1} → statement M
 follow-spec =
     tie.close
-    (tie.spec Inv-loop μ-loop (λ c. search needs) (λ c κs. search needs) (λ c. search needs) (λ c κs. search needs)
-    (λ c. search needs) (λ c. search needs) (λ c. search needs) (λ c. search needs) (λ c. search needs))
+    (tie.spec Inv-loop μ-loop (λ c. search needs) (λ c κs. search needs) (λ c κs. search needs) (λ c κs. search needs)
+    (λ c. search needs) (λ c. search needs) (λ c. search needs) (λ c. search needs) (λ c. search needs)
+    (λ c. search needs))
