@@ -122,7 +122,8 @@ going-room j p b o i len d g h = omega (arith, placed-length o 0 (g .shown) len 
 
 -- no other record is read
 pub going-stop : (j : Job) (p : ℕ) (b : List ℕ) (last : Bool) (o : List ℕ) (i len : ℕ) (d : List ℕ) (h : How) (v : Taken) (f : List ℕ) →
-    Going j p b o i len d → length b * share + recordRoom ≤ length o → RecordsStopSays j p i h d len v f → ((t : List ℕ) → BehindText j h t → Left j (p + i) (drop i b) last h t) → TakeSays j p b last o v f
+    Going j p b o i len d → length b * share + recordRoom ≤ length o → RecordsStopSays j p i h d len v f →
+    ((t : List ℕ) → BehindText j h t → Left j (p + i) (drop i b) last h t) → TakeSays j p b last o v f
 going-stop j p b last o i len d h v f g room s k =
     let q = s .puts in
     record {

@@ -45,8 +45,20 @@ module _ (limit : ℕ) (s : List ℕ) (p : Planned) (says : PlanSays limit s p) 
 module _ (s : List ℕ) (p : Planned) (says : PlanSays mostCounted s p) where
   -- a refusal's line is what the line prints
   pub answer-refused : (r : Refusal) → p ≡ Refused r → (b : List ℕ) (at x : ℕ) (b′ : List ℕ) → Placed b at (refusedLine (numberOf r)) x b′ → Puts (Answers s) lineRoom b at x b′
-  answer-refused r e b at x b′ q = record { text = refusedLine (numberOf r); says = refused r (rw e at says) refl; short = answer-short s (refusedLine (numberOf r)) (refused r (rw e at says) refl); placed = q }
+  answer-refused r e b at x b′ q = record {
+    text = refusedLine (numberOf r);
+    says = refused r (rw e at says) refl;
+    short = answer-short s
+        (refusedLine (numberOf r)) (refused r (rw e at says) refl);
+    placed = q;
+  }
 
   -- and so is that of two numbers
-  pub answer-counted : (k n : ℕ) → p ≡ Accepted k n → (b : List ℕ) (at x : ℕ) (b′ : List ℕ) → Placed b at (countsLine (howMany necklace n k) (howMany lyndon n k)) x b′ → Puts (Answers s) lineRoom b at x b′
-  answer-counted k n e b at x b′ q = record { text = countsLine (howMany necklace n k) (howMany lyndon n k); says = counted k n (rw e at says) refl; short = counts-short k n (accepted-few mostCounted s p says k n e (omega arith)); placed = q }
+  pub answer-counted : (k n : ℕ) → p ≡ Accepted k n → (b : List ℕ) (at x : ℕ) (b′ : List ℕ) → Placed b at
+      (countsLine (howMany necklace n k) (howMany lyndon n k)) x b′ → Puts (Answers s) lineRoom b at x b′
+  answer-counted k n e b at x b′ q = record {
+    text = countsLine (howMany necklace n k) (howMany lyndon n k);
+    says = counted k n (rw e at says) refl;
+    short = counts-short k n (accepted-few mostCounted s p says k n e (omega arith));
+    placed = q;
+  }

@@ -31,7 +31,12 @@ few kind n k h = omega (arith, count-le kind (λ w. true) (readings n k) (λ w r
 pub counts-short : (k n : ℕ) → Listable mostCounted k n → length (countsLine (howMany necklace n k) (howMany lyndon n k)) ≤ lineRoom
 unfolding countsLine
 counts-short k n h =
-    simp length-append (omega (arith, length-decimal 9 (howMany necklace n k) (omega (arith, few necklace n k (h .few))), length-decimal 9 (howMany lyndon n k) (omega (arith, few lyndon n k (h .few)))))
+    simp length-append (omega (
+      arith,
+      length-decimal 9 (howMany necklace n k) (omega (arith, few necklace n k (h .few))),
+      length-decimal 9
+          (howMany lyndon n k) (omega (arith, few lyndon n k (h .few))),
+    ))
 
 -- the line of a refusal
 pub refused-short : (x : ℕ) → x ≤ 12 → length (refusedLine x) ≤ lineRoom

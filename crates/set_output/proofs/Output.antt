@@ -45,7 +45,8 @@ refused-says r x e h b y b′ q = record { fits = rw e at (refused-room x h); pl
 pub line-malformed : (rule : Rule) (s b : List ℕ) (y : ℕ) (b′ : List ℕ) → setRoom ≤ length b → SpellSays s Malformed → RefusedSetSays Line b y b′ → PrintedBy rule s b y b′
 line-malformed rule s b y b′ h p q = whole h (refusedLine (numberOf Line)) (malformed p refl) (q .fits) (q .placed)
 
-pub line-numbers : (rule : Rule) (s b : List ℕ) (y : ℕ) (b′ : List ℕ) (n k d want : ℕ) → setRoom ≤ length b → SpellSays s (Numbers n k d want) → SetNumbersSay rule n k d want b y b′ → PrintedBy rule s b y b′
+pub line-numbers : (rule : Rule) (s b : List ℕ) (y : ℕ) (b′ : List ℕ) (n k d want : ℕ) → setRoom ≤ length b → SpellSays s (Numbers n k d want) →
+    SetNumbersSay rule n k d want b y b′ → PrintedBy rule s b y b′
 line-numbers rule s b y b′ n k d want h p q = whole h (q .text) (spelt n k d want p (q .says)) (q .fits) (q .placed)
 
 module _ (rule : Rule) (n k d want : ℕ) where

@@ -38,7 +38,8 @@ laid-at n (t ∷ ts) long (suc j) h =
     rw (e, drop-append-add t (endToEnd ts) (n * j)) (laid-at n ts (rest-long n t ts long) j (omega arith))
 
 -- each sector is one of a ring
-pub laid-below : (k : ℕ) (ts : List (List ℕ)) → ((j : ℕ) → j < length ts → (i : ℕ) → i < length (getD ts j []) → getD (getD ts j []) i 0 < k) → (i : ℕ) → i < length (endToEnd ts) → getD (endToEnd ts) i 0 < k
+pub laid-below : (k : ℕ) (ts : List (List ℕ)) → ((j : ℕ) → j < length ts → (i : ℕ) → i < length (getD ts j []) → getD (getD ts j []) i 0 < k) →
+    (i : ℕ) → i < length (endToEnd ts) → getD (endToEnd ts) i 0 < k
 unfolding endToEnd
 laid-below k [] b i h = absurd (omega arith)
 laid-below k (t ∷ ts) b i h =

@@ -111,7 +111,8 @@ module _
       other : apart r (mirrored (placeAt n p j)) ≡ apart (reverse r) (placeAt n p j)
       other = other-side r (placeAt n p j) (omega (arith, read .long)) (read .long ∙ sym (size j h))
 
-      go : OrUnknown a (Back j (nearestTurn (reverse r) (ringAt (length r) rs j)) (apart r (mirrored (ringAt (length r) rs j)))) → OrUnknown a (Back j i (differing (turn i (reverse r)) (placeAt n p j)))
+      go : OrUnknown a (Back j (nearestTurn (reverse r) (ringAt (length r) rs j)) (apart r (mirrored (ringAt (length r) rs j)))) → OrUnknown a
+          (Back j i (differing (turn i (reverse r)) (placeAt n p j)))
       go (missed q) = missed q
       go (told q) =
           let m = back-means rs r k e j _ _ (subst (SightSays rs r k e) q s) .1 in

@@ -92,10 +92,12 @@ module _ (rs r : List ℕ) (k e d x : ℕ) (p : Passed (sightOrder r rs k)) (g :
       (λ o. missed (one-sight rs r k e a Unknown s (p, o)))
 
   -- a ring seen from behind: that ring, from behind, or none
-  pub back-or-none : (t : ℕ) → t < length rings → apart r (mirrored (ringAt (length r) rs t)) ≤ x → OrUnknown a (Back t (nearestTurn (reverse r) (ringAt (length r) rs t)) (apart r (mirrored (ringAt (length r) rs t))))
+  pub back-or-none : (t : ℕ) → t < length rings → apart r (mirrored (ringAt (length r) rs t)) ≤ x → OrUnknown a
+      (Back t (nearestTurn (reverse r) (ringAt (length r) rs t)) (apart r (mirrored (ringAt (length r) rs t))))
   back-or-none t h near =
       settled (length rings + t) (omega (arith, length-sides rings)) (rw (back-at rings t h, placed t h) near)
-      (λ o. told (one-sight rs r k e a (Back t (nearestTurn (reverse r) (ringAt (length r) rs t)) (apart r (mirrored (ringAt (length r) rs t)))) s (p, record { target = h; alone = o; turned = refl; misread = refl })))
+      (λ o. told (one-sight rs r k e a (Back t (nearestTurn (reverse r) (ringAt (length r) rs t)) (apart r (mirrored (ringAt (length r) rs t)))) s
+      (p, record { target = h; alone = o; turned = refl; misread = refl })))
       (λ o. missed (one-sight rs r k e a Unknown s (p, o)))
 
 -- what an answer means, guarded or not

@@ -67,7 +67,8 @@ sector-at (a ∷ w) zero h = refl
 sector-at (a ∷ w) (suc i) h = sector-at w i (omega arith)
 
 -- sectors placed up to i, and one more
-pub placed-sector : (b : List ℕ) (at i : ℕ) (w b′ : List ℕ) (a : ℕ) → i < length w → a ≡ hexOf (getD w i 0) → Placed b at (take i (map hexOf w)) (at + i) b′ → Placed b at (take (i + 1) (map hexOf w)) (at + (i + 1)) (set b′ (at + i) a)
+pub placed-sector : (b : List ℕ) (at i : ℕ) (w b′ : List ℕ) (a : ℕ) → i < length w → a ≡ hexOf (getD w i 0) → Placed b at (take i (map hexOf w))
+    (at + i) b′ → Placed b at (take (i + 1) (map hexOf w)) (at + (i + 1)) (set b′ (at + i) a)
 placed-sector b at i w b′ a h e p =
     let q : getD (map hexOf w) i 0 ≡ a = sector-at w i h ∙ sym e in
     rw q at (placed-copy b at i (map hexOf w) b′ (simp length-map h) p)

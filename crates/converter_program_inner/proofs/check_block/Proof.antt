@@ -5,18 +5,6 @@ use borrow.Author.Needs.{needs}
 use Rattle.converter_program_inner.proofs.check_block.Statement.{statement}
 use Rattle.converter_program_inner.proofs.check_block.Tie as tie
 
-check-requires : tie.Need-check-requires
-check-requires c κs = search needs
-
-enum-known-r : tie.Need-enum-known-r
-enum-known-r c = search needs
-
-number-requires : tie.Need-number-requires
-number-requires c κs = search needs
-
-place-requires : tie.Need-place-requires
-place-requires c κs = search needs
-
 add-t10 : tie.Need-add-t10
 add-t10 c =
     let args = c .before .before .before .before .before .before .before .args in
@@ -24,9 +12,6 @@ add-t10 c =
     let check = c .before .before .before .before .before .check in
     let pre = c .before .before .before .before .before .before .before .pre in
     omega (arith, place-room (args .block .now) (args .last) _ (rw (r .given .1) at (check .ensures)), c .place .ensures, pre)
-
-enum-known-m : tie.Need-enum-known-m
-enum-known-m c = search needs
 
 returns : tie.Need-returns
 returns c =
@@ -53,13 +38,5 @@ returns-3 c =
 pub check-block-spec : {M : Type 1} → statement M
 check-block-spec =
     tie.close
-    (tie.spec
-    check-requires
-    enum-known-r
-    number-requires
-    place-requires
-    add-t10
-    enum-known-m
-    returns
-    returns-2
-    returns-3)
+    (tie.spec (λ c κs. search needs) (λ c. search needs) (λ c κs. search needs) (λ c κs. search needs) add-t10
+    (λ c. search needs) returns returns-2 returns-3)

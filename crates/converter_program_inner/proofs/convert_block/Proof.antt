@@ -8,15 +8,6 @@ use borrow.Author.Needs.{needs}
 use Rattle.converter_program_inner.proofs.convert_block.Statement.{statement}
 use Rattle.converter_program_inner.proofs.convert_block.Tie as tie
 
-convert-requires : tie.Need-convert-requires
-convert-requires c κs = search needs
-
-enum-told : tie.Need-enum-told
-enum-told c = search needs
-
-enum-known-m : tie.Need-enum-known-m
-enum-known-m c = search needs
-
 slice-reshare-prefix-write-all : tie.Need-slice-reshare-prefix-write-all
 slice-reshare-prefix-write-all c =
     let args = c .before .before .before .before .before .before .before .before .before .args in
@@ -33,17 +24,8 @@ slice-aggregate-write-all c =
     let s = write-within (args .at) (args .block .now) (args .new .now) _ _ (args .last) (rw (m .given .1) at (convert .ensures)) in
     simp length-take (omega (arith, s, new .given))
 
-write-all-requires : tie.Need-write-all-requires
-write-all-requires c κs = search needs
-
-same-length : tie.Need-same-length
-same-length c = search needs
-
 returns : tie.Need-returns
 returns c = inr refl
-
-same-length-2 : tie.Need-same-length-2
-same-length-2 c = search needs
 
 returns-2 : tie.Need-returns-2
 returns-2 c =
@@ -52,14 +34,8 @@ returns-2 c =
     let convert = c .before .before .before .before .before .before .before .before .before .convert in
     write-done (args .at) (args .block .now) (args .new .now) _ _ (args .last) (c .if2 .taken) (rw (m .given .1) at (convert .ensures))
 
-same-length-3 : tie.Need-same-length-3
-same-length-3 c = search needs
-
 returns-3 : tie.Need-returns-3
 returns-3 c = inl refl
-
-same-length-4 : tie.Need-same-length-4
-same-length-4 c = search needs
 
 returns-4 : tie.Need-returns-4
 returns-4 c =
@@ -71,18 +47,6 @@ returns-4 c =
 pub convert-block-spec : {M : Type 1} → statement M
 convert-block-spec =
     tie.close
-    (tie.spec
-    convert-requires
-    enum-told
-    enum-known-m
-    slice-reshare-prefix-write-all
-    slice-aggregate-write-all
-    write-all-requires
-    same-length
-    returns
-    same-length-2
-    returns-2
-    same-length-3
-    returns-3
-    same-length-4
-    returns-4)
+    (tie.spec (λ c κs. search needs) (λ c. search needs) (λ c. search needs) slice-reshare-prefix-write-all
+    slice-aggregate-write-all (λ c κs. search needs) (λ c. search needs) returns (λ c. search needs) returns-2
+    (λ c. search needs) returns-3 (λ c. search needs) returns-4)

@@ -23,9 +23,6 @@ loop-holds c = (c .before .before .pre, refl, refl, reached-none (c .before .bef
 take-at-requires : tie.Need-take-at-requires Inv-loop μ-loop
 take-at-requires c κs = (c .before .before .loop-test .taken, c .before .before .before .loop .inv .0)
 
-enum-known-m : tie.Need-enum-known-m Inv-loop μ-loop
-enum-known-m c = search needs
-
 add-at : tie.Need-add-at Inv-loop μ-loop
 add-at c =
     let l = c .before .before .before .before .before .before .before .before .before .before .before .loop in
@@ -56,9 +53,6 @@ loop-again c =
     let g = at-on (args .writing) (l .at) _ _ (take-at .result) (l .inv .3) _ (c .before .m .given .1) (omega (arith, l .inv .0 .some, block′ .given)) (take-at .ensures) in
     (roomy-still _ _ _ _ (l .inv .0) (block′ .given) (new .given), block′ .given ∙ l .inv .1, new .given ∙ l .inv .2, g .2)
 
-enum-known-m-2 : tie.Need-enum-known-m-2 Inv-loop μ-loop
-enum-known-m-2 c = search needs
-
 add-t14 : tie.Need-add-t14 Inv-loop μ-loop
 add-t14 c =
     let l = c .before .before .before .before .before .before .before .before .before .before .before .loop in
@@ -86,9 +80,6 @@ returns c =
     let args = c .before .before .before .before .before .before .before .before .before .before .before .before .before .before .args in
     let take-at = c .before .before .before .before .before .before .before .take-at in
     at-done (args .writing) (l .at) _ _ (take-at .result) (l .inv .3) _ (c .before .m2 .given .1) (take-at .ensures) .1
-
-enum-known-t : tie.Need-enum-known-t Inv-loop μ-loop
-enum-known-t c = search needs
 
 same-length-3 : tie.Need-same-length-3 Inv-loop μ-loop
 same-length-3 c =
@@ -121,24 +112,6 @@ returns-3 c = let l = c .before .loop in (l .at, omega (arith, c .loop-test .lef
 pub go-once-spec : {M : Type 1} → statement M
 go-once-spec =
     tie.close
-    (tie.spec
-    Inv-loop
-    μ-loop
-    loop-holds
-    take-at-requires
-    enum-known-m
-    add-at
-    loop-less
-    loop-again
-    enum-known-m-2
-    add-t14
-    same-length
-    same-length-2
-    returns
-    enum-known-t
-    same-length-3
-    same-length-4
-    returns-2
-    same-length-5
-    same-length-6
-    returns-3)
+    (tie.spec Inv-loop μ-loop loop-holds take-at-requires (λ c. search needs) add-at loop-less loop-again
+    (λ c. search needs) add-t14 same-length same-length-2 returns (λ c. search needs) same-length-3 same-length-4
+    returns-2 same-length-5 same-length-6 returns-3)

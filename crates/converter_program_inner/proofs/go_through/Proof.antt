@@ -8,17 +8,8 @@ use borrow.Author.Needs.{needs}
 use Rattle.converter_program_inner.proofs.go_through.Statement.{statement}
 use Rattle.converter_program_inner.proofs.go_through.Tie as tie
 
-lseek-requires : tie.Need-lseek-requires
-lseek-requires c κs = search needs
-
 returns : tie.Need-returns
 returns c = nowhere refl
-
-go-once-requires : tie.Need-go-once-requires
-go-once-requires c κs = search needs
-
-enum-known-end : tie.Need-enum-known-end
-enum-known-end c = search needs
 
 write-to-requires : tie.Need-write-to-requires
 write-to-requires c κs =
@@ -27,27 +18,12 @@ write-to-requires c κs =
     let new = c .before .before .before .before .before .before .new in
     roomy-still _ _ _ _ pre (block .given) (new .given)
 
-enum-known-t : tie.Need-enum-known-t
-enum-known-t c = search needs
-
-same-length : tie.Need-same-length
-same-length c = search needs
-
-same-length-2 : tie.Need-same-length-2
-same-length-2 c = search needs
-
 returns-2 : tie.Need-returns-2
 returns-2 c =
     let go-once = c .before .before .before .before .before .before .before .before .before .before .before .before .before .before .go-once in
     let end = c .before .before .before .before .before .before .before .before .end in
     let write-to = c .before .before .before .before .write-to in
     through-whole _ _ (once-reached false (go-once .result) _ (end .given .1) (go-once .ensures)) (write-to .ensures)
-
-same-length-3 : tie.Need-same-length-3
-same-length-3 c = search needs
-
-same-length-4 : tie.Need-same-length-4
-same-length-4 c = search needs
 
 returns-3 : tie.Need-returns-3
 returns-3 c =
@@ -57,16 +33,6 @@ returns-3 c =
 pub go-through-spec : {M : Type 1} → statement M
 go-through-spec =
     tie.close
-    (tie.spec
-    lseek-requires
-    returns
-    go-once-requires
-    enum-known-end
-    write-to-requires
-    enum-known-t
-    same-length
-    same-length-2
-    returns-2
-    same-length-3
-    same-length-4
+    (tie.spec (λ c κs. search needs) returns (λ c κs. search needs) (λ c. search needs) write-to-requires
+    (λ c. search needs) (λ c. search needs) (λ c. search needs) returns-2 (λ c. search needs) (λ c. search needs)
     returns-3)

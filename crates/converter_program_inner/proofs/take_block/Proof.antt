@@ -4,12 +4,6 @@ use borrow.Author.Needs.{needs}
 use Rattle.converter_program_inner.proofs.take_block.Statement.{statement}
 use Rattle.converter_program_inner.proofs.take_block.Tie as tie
 
-convert-block-requires : tie.Need-convert-block-requires
-convert-block-requires c κs = search needs
-
-same-length : tie.Need-same-length
-same-length c = search needs
-
 returns : tie.Need-returns
 returns c =
     let args = c .before .before .before .before .before .before .before .args in
@@ -18,9 +12,6 @@ returns c =
     turn-write (args .writing) (args .at) (args .block .now) (args .last) (convert-block .last .1 .1 .1 .0) (convert-block .result) (if1 .taken)
     (convert-block .ensures)
 
-check-block-requires : tie.Need-check-block-requires
-check-block-requires c κs = search needs
-
 returns-2 : tie.Need-returns-2
 returns-2 c =
     let args = c .before .before .before .before .args in
@@ -28,4 +19,5 @@ returns-2 c =
     (c .before .if1 .left) (c .check-block .ensures)
 
 pub take-block-spec : {M : Type 1} → statement M
-take-block-spec = tie.close (tie.spec convert-block-requires same-length returns check-block-requires returns-2)
+take-block-spec = tie.close (tie.spec (λ c κs. search needs) (λ c. search needs) returns (λ c κs. search needs)
+    returns-2)

@@ -3,14 +3,8 @@ use borrow.Author.Needs.{needs}
 use Rattle.door_counts.proofs.rings_lyndon_words.Statement.{statement}
 use Rattle.door_counts.proofs.rings_lyndon_words.Tie as tie
 
-lyndon-words-requires : tie.Need-lyndon-words-requires
-lyndon-words-requires c κs = search needs
-
-flat-counted-requires : tie.Need-flat-counted-requires
-flat-counted-requires c κs = search needs
-
 returns : tie.Need-returns
 returns c = record { answer = c .before .lyndon-words .result; says = c .before .lyndon-words .ensures; same = c .flat-counted .ensures }
 
 pub rings-lyndon-words-spec : {M : Type 1} → statement M
-rings-lyndon-words-spec = tie.close (tie.spec lyndon-words-requires flat-counted-requires returns)
+rings-lyndon-words-spec = tie.close (tie.spec (λ c κs. search needs) (λ c κs. search needs) returns)

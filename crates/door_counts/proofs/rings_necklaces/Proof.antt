@@ -3,14 +3,8 @@ use borrow.Author.Needs.{needs}
 use Rattle.door_counts.proofs.rings_necklaces.Statement.{statement}
 use Rattle.door_counts.proofs.rings_necklaces.Tie as tie
 
-necklaces-requires : tie.Need-necklaces-requires
-necklaces-requires c κs = search needs
-
-flat-counted-requires : tie.Need-flat-counted-requires
-flat-counted-requires c κs = search needs
-
 returns : tie.Need-returns
 returns c = record { answer = c .before .necklaces .result; says = c .before .necklaces .ensures; same = c .flat-counted .ensures }
 
 pub rings-necklaces-spec : {M : Type 1} → statement M
-rings-necklaces-spec = tie.close (tie.spec necklaces-requires flat-counted-requires returns)
+rings-necklaces-spec = tie.close (tie.spec (λ c κs. search needs) (λ c κs. search needs) returns)

@@ -4,15 +4,6 @@ use borrow.Author.Needs.{needs}
 use Rattle.door_density.proofs.flat_sector.Statement.{statement}
 use Rattle.door_density.proofs.flat_sector.Tie as tie
 
-enum-known-s : tie.Need-enum-known-s
-enum-known-s c = search needs
-
-cast-t5 : tie.Need-cast-t5
-cast-t5 c = search needs
-
-enum-known-s-2 : tie.Need-enum-known-s-2
-enum-known-s-2 c = search needs
-
 enum-told : tie.Need-enum-told
 enum-told c = search needs
 
@@ -26,4 +17,5 @@ returns-3 : tie.Need-returns-3
 returns-3 c = rw (c .enum-told .given .1) refl
 
 pub flat-sector-spec : {M : Type 1} → statement M
-flat-sector-spec = tie.close (tie.spec enum-known-s cast-t5 enum-known-s-2 enum-told returns returns-2 returns-3)
+flat-sector-spec = tie.close (tie.spec (λ c. search needs) (λ c. search needs) (λ c. search needs) enum-told returns
+    returns-2 returns-3)

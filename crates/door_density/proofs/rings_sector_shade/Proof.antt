@@ -3,14 +3,8 @@ use borrow.Author.Needs.{needs}
 use Rattle.door_density.proofs.rings_sector_shade.Statement.{statement}
 use Rattle.door_density.proofs.rings_sector_shade.Tie as tie
 
-sector-shade-requires : tie.Need-sector-shade-requires
-sector-shade-requires c κs = search needs
-
-flat-sector-read-requires : tie.Need-flat-sector-read-requires
-flat-sector-read-requires c κs = search needs
-
 returns : tie.Need-returns
 returns c = record { answer = c .before .sector-shade .result; says = c .before .sector-shade .ensures; same = c .flat-sector-read .ensures }
 
 pub rings-sector-shade-spec : {M : Type 1} → statement M
-rings-sector-shade-spec = tie.close (tie.spec sector-shade-requires flat-sector-read-requires returns)
+rings-sector-shade-spec = tie.close (tie.spec (λ c κs. search needs) (λ c κs. search needs) returns)

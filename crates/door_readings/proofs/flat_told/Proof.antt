@@ -7,21 +7,6 @@ use Rattle.door_readings.proofs.flat_told.Tie as tie
 enum-told : tie.Need-enum-told
 enum-told c = search needs
 
-value-requires : tie.Need-value-requires
-value-requires c κs = search needs
-
-enum-told-2 : tie.Need-enum-told-2
-enum-told-2 c = search needs
-
-value-requires-2 : tie.Need-value-requires-2
-value-requires-2 c κs = search needs
-
-enum-known-a : tie.Need-enum-known-a
-enum-known-a c = search needs
-
-refused-requires : tie.Need-refused-requires
-refused-requires c κs = search needs
-
 returns : tie.Need-returns
 returns c = rw (c .before .enum-told .given .1, c .value .ensures) refl
 
@@ -32,4 +17,5 @@ returns-3 : tie.Need-returns-3
 returns-3 c = rw (c .before .before .a .given .1, c .refused .ensures) refl
 
 pub flat-told-spec : {M : Type 1} → statement M
-flat-told-spec = tie.close (tie.spec enum-told value-requires enum-told-2 value-requires-2 enum-known-a refused-requires returns returns-2 returns-3)
+flat-told-spec = tie.close (tie.spec enum-told (λ c κs. search needs) (λ c. search needs) (λ c κs. search needs)
+    (λ c. search needs) (λ c κs. search needs) returns returns-2 returns-3)

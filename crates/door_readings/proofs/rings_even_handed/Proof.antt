@@ -3,14 +3,8 @@ use borrow.Author.Needs.{needs}
 use Rattle.door_readings.proofs.rings_even_handed.Statement.{statement}
 use Rattle.door_readings.proofs.rings_even_handed.Tie as tie
 
-even-handed-requires : tie.Need-even-handed-requires
-even-handed-requires c κs = search needs
-
-flat-told-requires : tie.Need-flat-told-requires
-flat-told-requires c κs = search needs
-
 returns : tie.Need-returns
 returns c = record { answer = c .before .even-handed .result; says = c .before .even-handed .ensures; same = c .flat-told .ensures }
 
 pub rings-even-handed-spec : {M : Type 1} → statement M
-rings-even-handed-spec = tie.close (tie.spec even-handed-requires flat-told-requires returns)
+rings-even-handed-spec = tie.close (tie.spec (λ c κs. search needs) (λ c κs. search needs) returns)

@@ -3,14 +3,8 @@ use borrow.Author.Needs.{needs}
 use Rattle.door_readings.proofs.rings_same.Statement.{statement}
 use Rattle.door_readings.proofs.rings_same.Tie as tie
 
-same-ring-requires : tie.Need-same-ring-requires
-same-ring-requires c κs = search needs
-
-flat-told-requires : tie.Need-flat-told-requires
-flat-told-requires c κs = search needs
-
 returns : tie.Need-returns
 returns c = record { answer = c .before .same-ring .result; says = c .before .same-ring .ensures; same = c .flat-told .ensures }
 
 pub rings-same-spec : {M : Type 1} → statement M
-rings-same-spec = tie.close (tie.spec same-ring-requires flat-told-requires returns)
+rings-same-spec = tie.close (tie.spec (λ c κs. search needs) (λ c κs. search needs) returns)

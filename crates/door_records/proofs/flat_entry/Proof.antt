@@ -4,23 +4,8 @@ use borrow.Author.Needs.{needs}
 use Rattle.door_records.proofs.flat_entry.Statement.{statement}
 use Rattle.door_records.proofs.flat_entry.Tie as tie
 
-enum-known-a : tie.Need-enum-known-a
-enum-known-a c = search needs
-
-kind-number-requires : tie.Need-kind-number-requires
-kind-number-requires c κs = search needs
-
 enum-told : tie.Need-enum-told
 enum-told c = search needs
-
-enum-known-a-2 : tie.Need-enum-known-a-2
-enum-known-a-2 c = search needs
-
-number-requires : tie.Need-number-requires
-number-requires c κs = search needs
-
-place-requires : tie.Need-place-requires
-place-requires c κs = search needs
 
 returns : tie.Need-returns
 returns c = rw (c .before .before .a .given .1, c .kind-number .ensures) refl
@@ -32,4 +17,5 @@ returns-3 : tie.Need-returns-3
 returns-3 c = rw (c .before .before .before .a2 .given .1, c .place .ensures, c .before .number .ensures) refl
 
 pub flat-entry-spec : {M : Type 1} → statement M
-flat-entry-spec = tie.close (tie.spec enum-known-a kind-number-requires enum-told enum-known-a-2 number-requires place-requires returns returns-2 returns-3)
+flat-entry-spec = tie.close (tie.spec (λ c. search needs) (λ c κs. search needs) enum-told (λ c. search needs)
+    (λ c κs. search needs) (λ c κs. search needs) returns returns-2 returns-3)

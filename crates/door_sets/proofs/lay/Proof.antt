@@ -7,14 +7,8 @@ use borrow.Author.Needs.{needs}
 use Rattle.door_sets.proofs.lay.Statement.{statement}
 use Rattle.door_sets.proofs.lay.Tie as tie
 
-enum-known-answer : tie.Need-enum-known-answer
-enum-known-answer c = search needs
-
 enum-told : tie.Need-enum-told
 enum-told c = search needs
-
-slice-aggregate-copy : tie.Need-slice-aggregate-copy
-slice-aggregate-copy c = search needs
 
 copy-requires : tie.Need-copy-requires
 copy-requires c κs =
@@ -26,9 +20,6 @@ returns c =
     let g = c .before .before .before .before in
     λ n k d want ts says. laid-refused n k d want ts (g .args .out .now) (g .pre) _ (rw (c .before .answer .given .1) at says .0)
 
-same-length : tie.Need-same-length
-same-length c = search needs
-
 returns-2 : tie.Need-returns-2
 returns-2 c =
     let g = c .before .before .before .before .before .before .before .before .before in
@@ -37,4 +28,5 @@ returns-2 c =
     (rw (c .before .before .before .before .before .before .enum-told .given .1) at says) (c .before .before .copy .ensures .1)
 
 pub lay-spec : {M : Type 1} → statement M
-lay-spec = tie.close (tie.spec enum-known-answer enum-told slice-aggregate-copy copy-requires returns same-length returns-2)
+lay-spec = tie.close (tie.spec (λ c. search needs) enum-told (λ c. search needs) copy-requires returns
+    (λ c. search needs) returns-2)

@@ -10,14 +10,8 @@ returns c =
     let g = c .before .before in
     laid-room (g .args .n) (g .args .k) (g .args .d) (g .args .wanted) (picked (g .args .n) (g .args .k) (g .args .d) (g .args .wanted)) (g .args .out .now) (c .if1 .taken)
 
-pick-requires : tie.Need-pick-requires
-pick-requires c κs = search needs
-
 lay-requires : tie.Need-lay-requires
 lay-requires c κs = c .before .before .if1 .left
-
-same-length : tie.Need-same-length
-same-length c = search needs
 
 returns-2 : tie.Need-returns-2
 returns-2 c =
@@ -26,4 +20,4 @@ returns-2 c =
     (c .before .before .before .before .pick .ensures)
 
 pub lay-plain-spec : {M : Type 1} → statement M
-lay-plain-spec = tie.close (tie.spec returns pick-requires lay-requires same-length returns-2)
+lay-plain-spec = tie.close (tie.spec returns (λ c κs. search needs) lay-requires (λ c. search needs) returns-2)

@@ -4,38 +4,8 @@ use borrow.Author.Needs.{needs}
 use Rattle.door_sight.proofs.flat_sighting.Statement.{statement}
 use Rattle.door_sight.proofs.flat_sighting.Tie as tie
 
-enum-known-a : tie.Need-enum-known-a
-enum-known-a c = search needs
-
-flat-one-requires : tie.Need-flat-one-requires
-flat-one-requires c κs = search needs
-
-enum-known-a-2 : tie.Need-enum-known-a-2
-enum-known-a-2 c = search needs
-
-flat-one-requires-2 : tie.Need-flat-one-requires-2
-flat-one-requires-2 c κs = search needs
-
 enum-told : tie.Need-enum-told
 enum-told c = search needs
-
-flat-one-requires-3 : tie.Need-flat-one-requires-3
-flat-one-requires-3 c κs = search needs
-
-enum-told-2 : tie.Need-enum-told-2
-enum-told-2 c = search needs
-
-flat-one-requires-4 : tie.Need-flat-one-requires-4
-flat-one-requires-4 c κs = search needs
-
-enum-known-a-3 : tie.Need-enum-known-a-3
-enum-known-a-3 c = search needs
-
-number-requires : tie.Need-number-requires
-number-requires c κs = search needs
-
-place-requires : tie.Need-place-requires
-place-requires c κs = search needs
 
 returns : tie.Need-returns
 returns c = rw (c .before .before .a .given .1, c .flat-one .ensures) refl
@@ -55,20 +25,6 @@ returns-5 c = rw (c .before .before .before .a3 .given .1, c .place .ensures, c 
 pub flat-sighting-spec : {M : Type 1} → statement M
 flat-sighting-spec =
     tie.close
-    (tie.spec
-    enum-known-a
-    flat-one-requires
-    enum-known-a-2
-    flat-one-requires-2
-    enum-told
-    flat-one-requires-3
-    enum-told-2
-    flat-one-requires-4
-    enum-known-a-3
-    number-requires
-    place-requires
-    returns
-    returns-2
-    returns-3
-    returns-4
-    returns-5)
+    (tie.spec (λ c. search needs) (λ c κs. search needs) (λ c. search needs) (λ c κs. search needs) enum-told
+    (λ c κs. search needs) (λ c. search needs) (λ c κs. search needs) (λ c. search needs) (λ c κs. search needs)
+    (λ c κs. search needs) returns returns-2 returns-3 returns-4 returns-5)

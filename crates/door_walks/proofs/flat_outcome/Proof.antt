@@ -4,21 +4,6 @@ use borrow.Author.Needs.{needs}
 use Rattle.door_walks.proofs.flat_outcome.Statement.{statement}
 use Rattle.door_walks.proofs.flat_outcome.Tie as tie
 
-enum-known-a : tie.Need-enum-known-a
-enum-known-a c = search needs
-
-enum-known-a-2 : tie.Need-enum-known-a-2
-enum-known-a-2 c = search needs
-
-enum-known-a-3 : tie.Need-enum-known-a-3
-enum-known-a-3 c = search needs
-
-number-requires : tie.Need-number-requires
-number-requires c κs = search needs
-
-place-requires : tie.Need-place-requires
-place-requires c κs = search needs
-
 returns : tie.Need-returns
 returns c = rw (c .before .a .given .1) refl
 
@@ -29,4 +14,5 @@ returns-3 : tie.Need-returns-3
 returns-3 c = rw (c .before .before .before .a3 .given .1, c .place .ensures, c .before .number .ensures) refl
 
 pub flat-outcome-spec : {M : Type 1} → statement M
-flat-outcome-spec = tie.close (tie.spec enum-known-a enum-known-a-2 enum-known-a-3 number-requires place-requires returns returns-2 returns-3)
+flat-outcome-spec = tie.close (tie.spec (λ c. search needs) (λ c. search needs) (λ c. search needs)
+    (λ c κs. search needs) (λ c κs. search needs) returns returns-2 returns-3)

@@ -22,9 +22,6 @@ loop-holds c = (c .before .before .pre, refl, refl, reached-none (c .before .bef
 take-at-requires : tie.Need-take-at-requires Inv-loop μ-loop
 take-at-requires c κs = (c .before .before .loop-test .taken, c .before .before .before .loop .inv .0)
 
-enum-known-m : tie.Need-enum-known-m Inv-loop μ-loop
-enum-known-m c = search needs
-
 add-at : tie.Need-add-at Inv-loop μ-loop
 add-at c =
     let l = c .before .before .before .before .before .before .before .before .before .before .before .loop in
@@ -57,9 +54,6 @@ loop-again c =
     let loop-test = c .before .before .before .before .before .before .before .before .before .before .loop-test in
     let g = at-on (a .job) (a .time) (l .at) (l .inv .3) (take-at .result) _ _ _ (c .before .m .given .1) (omega (arith, l .inv .0 .some, block′ .given)) (take-at .ensures) in
     (roomy-still _ _ _ _ (l .inv .0) (block′ .given) (out .given), block′ .given ∙ l .inv .1, out .given ∙ l .inv .2, g .2)
-
-enum-known-m-2 : tie.Need-enum-known-m-2 Inv-loop μ-loop
-enum-known-m-2 c = search needs
 
 add-t15 : tie.Need-add-t15 Inv-loop μ-loop
 add-t15 c =
@@ -100,9 +94,6 @@ returns c =
     let out = c .before .before .before .before .out in
     let loop-test = c .before .before .before .before .before .before .before .before .before .before .loop-test in
     at-done (a .job) (a .time) (l .at) (l .inv .3) (take-at .result) _ _ _ (c .before .m2 .given .1) (take-at .ensures) .1
-
-enum-known-t : tie.Need-enum-known-t Inv-loop μ-loop
-enum-known-t c = search needs
 
 same-length-3 : tie.Need-same-length-3 Inv-loop μ-loop
 same-length-3 c =
@@ -146,24 +137,6 @@ returns-3 c = let l = c .before .loop in (l .at, omega (arith, c .loop-test .lef
 pub go-once-spec : {M : Type 1} → statement M
 go-once-spec =
     tie.close
-    (tie.spec
-    Inv-loop
-    μ-loop
-    loop-holds
-    take-at-requires
-    enum-known-m
-    add-at
-    loop-less
-    loop-again
-    enum-known-m-2
-    add-t15
-    same-length
-    same-length-2
-    returns
-    enum-known-t
-    same-length-3
-    same-length-4
-    returns-2
-    same-length-5
-    same-length-6
-    returns-3)
+    (tie.spec Inv-loop μ-loop loop-holds take-at-requires (λ c. search needs) add-at loop-less loop-again
+    (λ c. search needs) add-t15 same-length same-length-2 returns (λ c. search needs) same-length-3 same-length-4
+    returns-2 same-length-5 same-length-6 returns-3)

@@ -7,32 +7,14 @@ use borrow.Author.Needs.{needs}
 use Rattle.files_program_inner.proofs.go_only.Statement.{statement}
 use Rattle.files_program_inner.proofs.go_only.Tie as tie
 
-go-once-requires : tie.Need-go-once-requires
-go-once-requires c κs = search needs
-
 enum-told : tie.Need-enum-told
 enum-told c = search needs
-
-enum-known-t : tie.Need-enum-known-t
-enum-known-t c = search needs
-
-same-length : tie.Need-same-length
-same-length c = search needs
-
-same-length-2 : tie.Need-same-length-2
-same-length-2 c = search needs
 
 returns : tie.Need-returns
 returns c =
     let args = c .before .before .before .before .before .before .before .before .before .before .before .args in
     let go-once = c .before .before .before .before .before .before .go-once in
     whole _ (once-told (args .job) Only (go-once .result) _ (c .enum-told .given .1) (go-once .ensures)) refl
-
-same-length-3 : tie.Need-same-length-3
-same-length-3 c = search needs
-
-same-length-4 : tie.Need-same-length-4
-same-length-4 c = search needs
 
 returns-2 : tie.Need-returns-2
 returns-2 c =
@@ -44,13 +26,5 @@ returns-2 c =
 pub go-only-spec : {M : Type 1} → statement M
 go-only-spec =
     tie.close
-    (tie.spec
-    go-once-requires
-    enum-told
-    enum-known-t
-    same-length
-    same-length-2
-    returns
-    same-length-3
-    same-length-4
-    returns-2)
+    (tie.spec (λ c κs. search needs) enum-told (λ c. search needs) (λ c. search needs) (λ c. search needs) returns
+    (λ c. search needs) (λ c. search needs) returns-2)

@@ -10,20 +10,11 @@ use borrow.Author.Needs.{needs}
 use Rattle.files_program_inner.proofs.take_at.Statement.{statement}
 use Rattle.files_program_inner.proofs.take_at.Tie as tie
 
-read-from-requires : tie.Need-read-from-requires
-read-from-requires c κs = search needs
-
-enum-told : tie.Need-enum-told
-enum-told c = search needs
-
 take-block-requires : tie.Need-take-block-requires
 take-block-requires c κs =
     let pre = c .before .before .before .before .before .before .before .before .before .before .pre in
     let block′ = c .before .before .before .before .before .block in
     (pre .0, record { short = omega (arith, pre .1 .small .short, block′ .given); room = pre .1 .small .room })
-
-enum-known-got : tie.Need-enum-known-got
-enum-known-got c = search needs
 
 slice-reshare-prefix-take-block : tie.Need-slice-reshare-prefix-take-block
 slice-reshare-prefix-take-block c =
@@ -44,26 +35,8 @@ take-block-requires-2 c κs =
     let block′ = c .before .before .before .before .before .before .block in
     (pre .0, record { short = simp length-take (omega (arith, pre .1 .small .short, block′ .given)); room = pre .1 .small .room })
 
-enum-told-2 : tie.Need-enum-told-2
-enum-told-2 c = search needs
-
-failed-requires : tie.Need-failed-requires
-failed-requires c κs = search needs
-
-same-length : tie.Need-same-length
-same-length c = search needs
-
-same-length-2 : tie.Need-same-length-2
-same-length-2 c = search needs
-
 returns : tie.Need-returns
 returns c = full (c .before .before .take-block .ensures)
-
-same-length-3 : tie.Need-same-length-3
-same-length-3 c = search needs
-
-same-length-4 : tie.Need-same-length-4
-same-length-4 c = search needs
 
 returns-2 : tie.Need-returns-2
 returns-2 c =
@@ -72,30 +45,13 @@ returns-2 c =
     let s : MostSays (Ended (got .given .0 .0)) (read-from .last .1 .0) = rw (got .given .1) at (read-from .ensures) in
     ended _ s (c .before .before .take-block2 .ensures)
 
-same-length-5 : tie.Need-same-length-5
-same-length-5 c = search needs
-
 returns-3 : tie.Need-returns-3
 returns-3 c = unread (ap Stopped (c .failed .ensures))
 
 pub take-at-spec : {M : Type 1} → statement M
 take-at-spec =
     tie.close
-    (tie.spec
-    read-from-requires
-    enum-told
-    take-block-requires
-    enum-known-got
-    slice-reshare-prefix-take-block
-    slice-aggregate-take-block
-    take-block-requires-2
-    enum-told-2
-    failed-requires
-    same-length
-    same-length-2
-    returns
-    same-length-3
-    same-length-4
-    returns-2
-    same-length-5
-    returns-3)
+    (tie.spec (λ c κs. search needs) (λ c. search needs) take-block-requires (λ c. search needs)
+    slice-reshare-prefix-take-block slice-aggregate-take-block take-block-requires-2 (λ c. search needs)
+    (λ c κs. search needs) (λ c. search needs) (λ c. search needs) returns (λ c. search needs) (λ c. search needs)
+    returns-2 (λ c. search needs) returns-3)

@@ -11,29 +11,14 @@ use Rattle.files_program_inner.proofs.take_block.Tie as tie
 take-records-requires : tie.Need-take-records-requires
 take-records-requires c κs = (omega (arith, c .before .before .before .pre .0, c .before .before .before .pre .1 .short), taken-room _ _ (c .before .before .before .pre .1))
 
-writes-requires : tie.Need-writes-requires
-writes-requires c κs = search needs
-
 slice-reshare-prefix-write-all : tie.Need-slice-reshare-prefix-write-all
 slice-reshare-prefix-write-all c = omega (arith, c .before .before .before .before .take-records .ensures .fits, c .before .before .before .out .given)
 
 slice-aggregate-write-all : tie.Need-slice-aggregate-write-all
 slice-aggregate-write-all c = simp length-take (omega (arith, c .before .before .before .before .before .take-records .ensures .fits, c .before .before .before .before .out .given))
 
-write-all-requires : tie.Need-write-all-requires
-write-all-requires c κs = search needs
-
-same-length : tie.Need-same-length
-same-length c = search needs
-
 returns : tie.Need-returns
 returns c = unwritten (sym (c .before .before .before .before .writes .ensures) ∙ c .before .before .before .if1 .taken) refl
-
-turn-of-requires : tie.Need-turn-of-requires
-turn-of-requires c κs = search needs
-
-same-length-2 : tie.Need-same-length-2
-same-length-2 c = search needs
 
 returns-2 : tie.Need-returns-2
 returns-2 c =
@@ -44,14 +29,5 @@ returns-2 c =
 pub take-block-spec : {M : Type 1} → statement M
 take-block-spec =
     tie.close
-    (tie.spec
-    take-records-requires
-    writes-requires
-    slice-reshare-prefix-write-all
-    slice-aggregate-write-all
-    write-all-requires
-    same-length
-    returns
-    turn-of-requires
-    same-length-2
-    returns-2)
+    (tie.spec take-records-requires (λ c κs. search needs) slice-reshare-prefix-write-all slice-aggregate-write-all
+    (λ c κs. search needs) (λ c. search needs) returns (λ c κs. search needs) (λ c. search needs) returns-2)

@@ -7,15 +7,6 @@ use Rattle.files_program_inner.proofs.turn_of.Tie as tie
 enum-told : tie.Need-enum-told
 enum-told c = search needs
 
-enum-told-2 : tie.Need-enum-told-2
-enum-told-2 c = search needs
-
-enum-known-how : tie.Need-enum-known-how
-enum-known-how c = search needs
-
-refused-requires : tie.Need-refused-requires
-refused-requires c κs = search needs
-
 returns : tie.Need-returns
 returns c = turn-is-on (c .before .before .args .time) (c .before .before .args .how) (c .before .before .args .used) (c .enum-told .given .1)
 
@@ -31,4 +22,4 @@ returns-3 c =
 pub turn-of-spec : {M : Type 1} → statement M
 turn-of-spec =
     tie.close
-    (tie.spec enum-told enum-told-2 enum-known-how refused-requires returns returns-2 returns-3)
+    (tie.spec enum-told (λ c. search needs) (λ c. search needs) (λ c κs. search needs) returns returns-2 returns-3)

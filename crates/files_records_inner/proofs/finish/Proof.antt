@@ -5,15 +5,6 @@ use borrow.Author.Needs.{needs}
 use Rattle.files_records_inner.proofs.finish.Statement.{statement}
 use Rattle.files_records_inner.proofs.finish.Tie as tie
 
-add-after : tie.Need-add-after
-add-after c = search needs
-
-place-end-requires : tie.Need-place-end-requires
-place-end-requires c κs = search needs
-
-same-length : tie.Need-same-length
-same-length c = search needs
-
 returns : tie.Need-returns
 returns c =
     let args = c .before .before .before .before .before .before .args in
@@ -25,4 +16,4 @@ returns-2 : tie.Need-returns-2
 returns-2 c = let a = c .before .before .args in finish-on (a .job) (a .place) (a .used) (a .last) (a .out .now) (a .len) _ _ (c .if1 .left) refl refl refl refl refl
 
 pub finish-spec : {M : Type 1} → statement M
-finish-spec = tie.close (tie.spec add-after place-end-requires same-length returns returns-2)
+finish-spec = tie.close (tie.spec (λ c. search needs) (λ c κs. search needs) (λ c. search needs) returns returns-2)

@@ -10,12 +10,6 @@ use borrow.Author.Needs.{needs}
 use Rattle.files_records_inner.proofs.take_one.Statement.{statement}
 use Rattle.files_records_inner.proofs.take_one.Tie as tie
 
-read-head-requires : tie.Need-read-head-requires
-read-head-requires c κs = search needs
-
-enum-known-n : tie.Need-enum-known-n
-enum-known-n c = search needs
-
 slice-reshare-prefix-place-record : tie.Need-slice-reshare-prefix-place-record
 slice-reshare-prefix-place-record c =
     let a = c .before .before .before .before .before .before .before .before .before .before .args in
@@ -55,15 +49,6 @@ sub-t21 c =
 enum-told : tie.Need-enum-told
 enum-told c = search needs
 
-enum-known-r : tie.Need-enum-known-r
-enum-known-r c = search needs
-
-same-length : tie.Need-same-length
-same-length c = search needs
-
-same-length-2 : tie.Need-same-length-2
-same-length-2 c = search needs
-
 returns : tie.Need-returns
 returns c =
     let a = c .before .before .before .before .before .before .before .before .before .before .before .before .before .before .before .args in
@@ -74,14 +59,8 @@ returns c =
     let place-record = c .before .before .place-record in
     step-after (a .rest .now) (a .place) (a .ring .now) (g .0 .0) (g .0 .1 .0) (g .0 .1 .1 .0) (g .0 .1 .1 .1 .0) (read-head .last .1 .1 .0) (pre .0 .1) h _ _ _ _ _ (place-record .ensures)
 
-same-length-3 : tie.Need-same-length-3
-same-length-3 c = search needs
-
 returns-2 : tie.Need-returns-2
 returns-2 c = absurd (rw (c .enum-told .given .1) at (c .before .before .before .before .read-head .ensures))
-
-same-length-4 : tie.Need-same-length-4
-same-length-4 c = search needs
 
 returns-3 : tie.Need-returns-3
 returns-3 c =
@@ -93,19 +72,6 @@ returns-3 c =
 pub take-one-spec : {M : Type 1} → statement M
 take-one-spec =
     tie.close
-    (tie.spec
-    read-head-requires
-    enum-known-n
-    slice-reshare-prefix-place-record
-    slice-aggregate-place-record
-    place-record-requires
-    sub-t21
-    enum-told
-    enum-known-r
-    same-length
-    same-length-2
-    returns
-    same-length-3
-    returns-2
-    same-length-4
-    returns-3)
+    (tie.spec (λ c κs. search needs) (λ c. search needs) slice-reshare-prefix-place-record
+    slice-aggregate-place-record place-record-requires sub-t21 enum-told (λ c. search needs) (λ c. search needs)
+    (λ c. search needs) returns (λ c. search needs) returns-2 (λ c. search needs) returns-3)

@@ -21,9 +21,6 @@ loop-holds c = (going-none _ _ _ _, search needs)
 sub-enough : tie.Need-sub-enough Inv-loop μ-loop
 sub-enough c = omega (arith, c .loop .inv .0 .inside)
 
-enough-requires : tie.Need-enough-requires Inv-loop μ-loop
-enough-requires c κs = search needs
-
 add-take-one : tie.Need-add-take-one Inv-loop μ-loop
 add-take-one c = omega (arith, c .before .before .loop .inv .0 .inside, c .before .before .before .before .before .pre .0)
 
@@ -33,12 +30,6 @@ sub-take-one c = omega (arith, c .before .before .loop .inv .0 .inside)
 part-take-one-start : tie.Need-part-take-one-start Inv-loop μ-loop
 part-take-one-start c = omega (arith, c .before .before .loop .inv .0 .inside)
 
-part-take-one-end : tie.Need-part-take-one-end Inv-loop μ-loop
-part-take-one-end c = search needs
-
-slice-aggregate-take-one : tie.Need-slice-aggregate-take-one Inv-loop μ-loop
-slice-aggregate-take-one c = search needs
-
 take-one-requires : tie.Need-take-one-requires Inv-loop μ-loop
 take-one-requires c κs =
     let a = c .before .before .before .before .before .before .before .before .args in
@@ -46,9 +37,6 @@ take-one-requires c κs =
     let g = loop .inv .0 in
     let r = going-room (a .job) (a .place) (a .block .now) (a .out .now) (loop .i) (loop .len) (loop .out) g (c .before .before .before .before .before .before .before .before .pre .1) in
     ((simp (length-take, length-drop) (omega (arith, c .before .before .before .before .before .before .before .before .pre .0, g .inside)), loop .inv .1), r .1)
-
-enum-known-m : tie.Need-enum-known-m Inv-loop μ-loop
-enum-known-m c = search needs
 
 add-i : tie.Need-add-i Inv-loop μ-loop
 add-i c =
@@ -75,9 +63,6 @@ loop-again c =
     let g = loop .inv .0 in
     let take-one = c .before .before .before .before .before .before .take-one in
     (turn-on (a .job) (a .place) (a .block .now) (a .out .now) (loop .i) (loop .len) (loop .out) g (take-one .result) _ (take-one .ensures) _ _ (c .before .m .given .1), search needs)
-
-enum-known-r : tie.Need-enum-known-r Inv-loop μ-loop
-enum-known-r c = search needs
 
 stop-requires : tie.Need-stop-requires Inv-loop μ-loop
 stop-requires c κs =
@@ -142,26 +127,6 @@ returns-2 c =
 pub take-records-spec : {M : Type 1} → statement M
 take-records-spec =
     tie.close
-    (tie.spec
-    Inv-loop
-    μ-loop
-    loop-holds
-    sub-enough
-    enough-requires
-    add-take-one
-    sub-take-one
-    part-take-one-start
-    part-take-one-end
-    slice-aggregate-take-one
-    take-one-requires
-    enum-known-m
-    add-i
-    loop-less
-    loop-again
-    enum-known-r
-    stop-requires
-    same-length
-    returns
-    finish-requires
-    same-length-2
-    returns-2)
+    (tie.spec Inv-loop μ-loop loop-holds sub-enough (λ c κs. search needs) add-take-one sub-take-one
+    part-take-one-start (λ c. search needs) (λ c. search needs) take-one-requires (λ c. search needs) add-i loop-less
+    loop-again (λ c. search needs) stop-requires same-length returns finish-requires same-length-2 returns-2)

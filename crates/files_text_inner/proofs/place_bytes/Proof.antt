@@ -4,17 +4,8 @@ use borrow.Author.Needs.{needs}
 use Rattle.files_text_inner.proofs.place_bytes.Statement.{statement}
 use Rattle.files_text_inner.proofs.place_bytes.Tie as tie
 
-write-record-requires : tie.Need-write-record-requires
-write-record-requires c κs = search needs
-
-enum-known-e : tie.Need-enum-known-e
-enum-known-e c = search needs
-
 enum-told : tie.Need-enum-told
 enum-told c = search needs
-
-same-length : tie.Need-same-length
-same-length c = search needs
 
 returns : tie.Need-returns
 returns c =
@@ -22,9 +13,6 @@ returns c =
     let pre = c .before .before .before .before .before .before .before .before .before .pre in
     let write-record = c .before .before .before .before .before .write-record in
     wrote-puts (a .ring .now) (a .k) (a .kind) (pre .0 .passed) _ _ _ _ (pre .1) (rw (c .before .e .given .1) at (write-record .ensures))
-
-same-length-2 : tie.Need-same-length-2
-same-length-2 c = search needs
 
 returns-2 : tie.Need-returns-2
 returns-2 c =
@@ -36,11 +24,5 @@ returns-2 c =
 pub place-bytes-spec : {M : Type 1} → statement M
 place-bytes-spec =
     tie.close
-    (tie.spec
-    write-record-requires
-    enum-known-e
-    enum-told
-    same-length
-    returns
-    same-length-2
+    (tie.spec (λ c κs. search needs) (λ c. search needs) enum-told (λ c. search needs) returns (λ c. search needs)
     returns-2)

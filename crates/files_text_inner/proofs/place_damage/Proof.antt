@@ -8,30 +8,12 @@ use Rattle.files_text_inner.proofs.place_damage.Tie as tie
 enum-told : tie.Need-enum-told
 enum-told c = search needs
 
-number-requires : tie.Need-number-requires
-number-requires c κs = search needs
-
-place-requires : tie.Need-place-requires
-place-requires c κs = search needs
-
-slice-aggregate-place-two : tie.Need-slice-aggregate-place-two
-slice-aggregate-place-two c = search needs
-
-slice-aggregate-place-two-2 : tie.Need-slice-aggregate-place-two-2
-slice-aggregate-place-two-2 c = search needs
-
 place-two-requires : tie.Need-place-two-requires
 place-two-requires c κs =
     let x = c .before .before .before .before .number .result in
     let p = c .before .before .before .place .result in
     let pre = c .before .before .before .before .before .before .before .before .pre in
     omega (arith, pre, damage-short x p (search needs) (search needs), damage-short p x (search needs) (search needs))
-
-enum-told-2 : tie.Need-enum-told-2
-enum-told-2 c = search needs
-
-same-length : tie.Need-same-length
-same-length c = search needs
 
 returns : tie.Need-returns
 returns c =
@@ -47,14 +29,5 @@ returns-2 c = damage-move _ _ _ _ (c .enum-told2 .given .1)
 pub place-damage-spec : {M : Type 1} → statement M
 place-damage-spec =
     tie.close
-    (tie.spec
-    enum-told
-    number-requires
-    place-requires
-    slice-aggregate-place-two
-    slice-aggregate-place-two-2
-    place-two-requires
-    enum-told-2
-    same-length
-    returns
-    returns-2)
+    (tie.spec enum-told (λ c κs. search needs) (λ c κs. search needs) (λ c. search needs) (λ c. search needs)
+    place-two-requires (λ c. search needs) (λ c. search needs) returns returns-2)

@@ -9,12 +9,6 @@ use Rattle.files_text_inner.proofs.place_line.Tie as tie
 enum-told : tie.Need-enum-told
 enum-told c = search needs
 
-slice-aggregate-place-filled : tie.Need-slice-aggregate-place-filled
-slice-aggregate-place-filled c = search needs
-
-slice-aggregate-place-filled-2 : tie.Need-slice-aggregate-place-filled-2
-slice-aggregate-place-filled-2 c = search needs
-
 place-filled-requires : tie.Need-place-filled-requires
 place-filled-requires c κs =
     let a = c .before .before .before .before .before .before .before .args in
@@ -23,15 +17,6 @@ place-filled-requires c κs =
     let f = line-short (a .at-record) Front (a .n) (a .k) (a .ring .now) (search needs) (search needs) (search needs) few in
     let p = line-short (a .at-record) Packed (a .n) (a .k) (a .ring .now) (search needs) (search needs) (search needs) few in
     omega (arith, pre .1, f, p)
-
-enum-told-2 : tie.Need-enum-told-2
-enum-told-2 c = search needs
-
-slice-aggregate-place-filled-3 : tie.Need-slice-aggregate-place-filled-3
-slice-aggregate-place-filled-3 c = search needs
-
-slice-aggregate-place-filled-4 : tie.Need-slice-aggregate-place-filled-4
-slice-aggregate-place-filled-4 c = search needs
 
 place-filled-requires-2 : tie.Need-place-filled-requires-2
 place-filled-requires-2 c κs =
@@ -42,14 +27,8 @@ place-filled-requires-2 c κs =
     let p = line-short (a .at-record) Packed (a .n) (a .k) (a .ring .now) (search needs) (search needs) (search needs) few in
     omega (arith, pre .1, f, p)
 
-same-length : tie.Need-same-length
-same-length c = search needs
-
 returns : tie.Need-returns
 returns c = rw (c .before .before .before .before .before .before .enum-told .given .1) (c .before .before .place-filled .ensures)
-
-same-length-2 : tie.Need-same-length-2
-same-length-2 c = search needs
 
 returns-2 : tie.Need-returns-2
 returns-2 c = rw (c .before .before .before .before .before .before .enum-told2 .given .1) (c .before .before .place-filled2 .ensures)
@@ -57,16 +36,6 @@ returns-2 c = rw (c .before .before .before .before .before .before .enum-told2 
 pub place-line-spec : {M : Type 1} → statement M
 place-line-spec =
     tie.close
-    (tie.spec
-    enum-told
-    slice-aggregate-place-filled
-    slice-aggregate-place-filled-2
-    place-filled-requires
-    enum-told-2
-    slice-aggregate-place-filled-3
-    slice-aggregate-place-filled-4
-    place-filled-requires-2
-    same-length
-    returns
-    same-length-2
+    (tie.spec enum-told (λ c. search needs) (λ c. search needs) place-filled-requires (λ c. search needs)
+    (λ c. search needs) (λ c. search needs) place-filled-requires-2 (λ c. search needs) returns (λ c. search needs)
     returns-2)

@@ -51,18 +51,6 @@ returns-3 c =
 pub place-line-spec : {M : Type 1} → statement M
 place-line-spec =
     tie.close
-    (tie.spec
-    returns
-    (λ c κs. search needs)
-    (λ c. search needs)
-    (λ c. search needs)
-    sub-n
-    sub-write-spelt
-    part-write-spelt-start
-    (λ c. search needs)
-    (λ c. search needs)
-    slice-aggregate-write-spelt
-    write-spelt-requires
-    returns-2
-    (λ c. search needs)
-    returns-3)
+    (tie.spec returns (λ c κs. search needs) (λ c. search needs) (λ c. search needs) sub-n sub-write-spelt
+    part-write-spelt-start (λ c. search needs) (λ c. search needs) slice-aggregate-write-spelt write-spelt-requires
+    returns-2 (λ c. search needs) returns-3)

@@ -116,20 +116,6 @@ returns-2 c =
 pub take-bytes-spec : {M : Type 1} → statement M
 take-bytes-spec =
     tie.close
-    (tie.spec
-    Inv-loop
-    μ-loop
-    loop-holds
-    (λ c. search needs)
-    take-byte-requires
-    (λ c. search needs)
-    same-length
-    same-length-2
-    returns
-    (λ c. search needs)
-    (λ c. search needs)
-    (λ c. search needs)
-    loop-again
-    same-length-3
-    same-length-4
-    returns-2)
+    (tie.spec Inv-loop μ-loop loop-holds (λ c. search needs) take-byte-requires (λ c. search needs) same-length
+    same-length-2 returns (λ c. search needs) (λ c. search needs) (λ c. search needs) loop-again same-length-3
+    same-length-4 returns-2)

@@ -161,26 +161,6 @@ returns-3 c =
 pub go-once-spec : {M : Type 1} → statement M
 go-once-spec =
     tie.close
-    (tie.spec
-    Inv-loop
-    μ-loop
-    loop-holds
-    take-at-requires
-    (λ c. search needs)
-    add-at
-    loop-less
-    loop-again
-    (λ c. search needs)
-    same-length
-    same-length-2
-    same-length-3
-    returns
-    (λ c. search needs)
-    same-length-4
-    same-length-5
-    same-length-6
-    returns-2
-    same-length-7
-    same-length-8
-    same-length-9
-    returns-3)
+    (tie.spec Inv-loop μ-loop loop-holds take-at-requires (λ c. search needs) add-at loop-less loop-again
+    (λ c. search needs) same-length same-length-2 same-length-3 returns (λ c. search needs) same-length-4
+    same-length-5 same-length-6 returns-2 same-length-7 same-length-8 same-length-9 returns-3)

@@ -12,8 +12,4 @@ returns-2 c = let w = c .before .before .writes in λ e. absurd (true≢false (s
 pub hand-on-spec : {M : Type 1} → statement M
 hand-on-spec =
     tie.close
-    (tie.spec
-    (λ c κs. search needs)
-    (λ c. search needs)
-    (λ c κs. search needs)
-    returns-2)
+    (tie.spec (λ c κs. search needs) (λ c. search needs) (λ c κs. search needs) returns-2)

@@ -13,8 +13,4 @@ returns-2 c = rw (c .enum-told2 .given .1) refl
 pub refused-spec : {M : Type 1} → statement M
 refused-spec =
     tie.close
-    (tie.spec
-    (λ c. search needs)
-    (λ c. search needs)
-    returns
-    returns-2)
+    (tie.spec (λ c. search needs) (λ c. search needs) returns returns-2)

@@ -31,12 +31,5 @@ returns c =
 pub say-line-spec : {M : Type 1} → statement M
 say-line-spec =
     tie.close
-    (tie.spec
-    (λ c κs. search needs)
-    (λ c κs. search needs)
-    (λ c. search needs)
-    (λ c. search needs)
-    (λ c. search needs)
-    place-filled-requires
-    (λ c. search needs)
-    returns)
+    (tie.spec (λ c κs. search needs) (λ c κs. search needs) (λ c. search needs) (λ c. search needs)
+    (λ c. search needs) place-filled-requires (λ c. search needs) returns)

@@ -47,17 +47,6 @@ returns-3 c =
 pub take-end-spec : {M : Type 1} → statement M
 take-end-spec =
     tie.close
-    (tie.spec
-    (λ c κs. search needs)
-    (λ c. search needs)
-    (λ c κs. search needs)
-    (λ c. search needs)
-    slice-reshare-prefix-hand-on
-    slice-aggregate-hand-on
-    (λ c κs. search needs)
-    (λ c. search needs)
-    returns
-    (λ c. search needs)
-    returns-2
-    (λ c. search needs)
-    returns-3)
+    (tie.spec (λ c κs. search needs) (λ c. search needs) (λ c κs. search needs) (λ c. search needs)
+    slice-reshare-prefix-hand-on slice-aggregate-hand-on (λ c κs. search needs) (λ c. search needs) returns
+    (λ c. search needs) returns-2 (λ c. search needs) returns-3)

@@ -23,9 +23,6 @@ place-tail-requires c κs =
           (arith, z .1 .1)),
     )
 
-same-length : tie.Need-same-length
-same-length c = search needs
-
 returns : tie.Need-returns
 unfolding pictureText
 returns c = fits-append (fits-append (c .before .before .before .before .before .before .before .before .before .before .place-head .ensures)
@@ -34,4 +31,4 @@ returns c = fits-append (fits-append (c .before .before .before .before .before 
 pub place-picture-spec : {M : Type 1} → statement M
 place-picture-spec =
     tie.close
-    (tie.spec place-head-requires place-ring-requires place-tail-requires same-length returns)
+    (tie.spec place-head-requires place-ring-requires place-tail-requires (λ c. search needs) returns)

@@ -8,24 +8,9 @@ use borrow.Author.Needs.{needs}
 use Rattle.picture_inner.proofs.place_tail.Statement.{statement}
 use Rattle.picture_inner.proofs.place_tail.Tie as tie
 
-slice-aggregate-place-form : tie.Need-slice-aggregate-place-form
-slice-aggregate-place-form c = search needs
-
-mul-t11 : tie.Need-mul-t11
-mul-t11 c = search needs
-
-slice-aggregate-place-form-2 : tie.Need-slice-aggregate-place-form-2
-slice-aggregate-place-form-2 c = search needs
-
-slice-aggregate-place-form-3 : tie.Need-slice-aggregate-place-form-3
-slice-aggregate-place-form-3 c = search needs
-
 place-form-requires : tie.Need-place-form-requires
 unfolding longest slots
 place-form-requires c κs = search needs
-
-same-length : tie.Need-same-length
-same-length c = search needs
 
 returns : tie.Need-returns
 unfolding longest slots tailText
@@ -34,11 +19,5 @@ returns c = fits-more (c .before .before .place-form .ensures) 64 (omega arith)
 pub place-tail-spec : {M : Type 1} → statement M
 place-tail-spec =
     tie.close
-    (tie.spec
-    slice-aggregate-place-form
-    mul-t11
-    slice-aggregate-place-form-2
-    slice-aggregate-place-form-3
-    place-form-requires
-    same-length
-    returns)
+    (tie.spec (λ c. search needs) (λ c. search needs) (λ c. search needs) (λ c. search needs) place-form-requires
+    (λ c. search needs) returns)

@@ -7,28 +7,32 @@ use Rattle.picture_print_inner.proofs.print_input.Statement.{statement}
 use Rattle.picture_print_inner.proofs.print_input.Tie as tie
 
 returns : tie.Need-returns
-returns c = print-bad _ _ _ _ _ (no-line (c .before .before .before .before .before .before .before .before .before .args .s .now) _ (c .before .before .before .before .before .piece-end .ensures) (c .before .before .before .before .if1 .taken)) (c .before .before .place-malformed .ensures)
+returns c =
+    print-bad _ _ _ _ _ (no-line (c .before .before .before .before .before .before .before .before .before .args .s .now) _
+    (c .before .before .before .before .before .piece-end .ensures) (c .before .before .before .before .if1 .taken))
+    (c .before .before .place-malformed .ensures)
 
 slice-aggregate-print-line : tie.Need-slice-aggregate-print-line
 slice-aggregate-print-line c = simp length-take (omega (arith, c .before .before .piece-end .ensures .within))
 
 print-line-requires : tie.Need-print-line-requires
-print-line-requires c κs = (simp length-take (omega (arith, c .before .before .before .before .before .before .before .before .pre .0, c .before .before .before .before .piece-end .ensures .within)), c .before .before .before .before .before .before .before .before .pre .1)
+print-line-requires c κs = (
+  simp length-take (omega (
+    arith,
+    c .before .before .before .before .before .before .before .before .pre .0,
+    c .before .before .before .before .piece-end .ensures .within,
+  )),
+  c .before .before .before .before .before .before .before .before .pre .1,
+)
 
 returns-2 : tie.Need-returns-2
-returns-2 c = put-input (c .before .before .before .before .before .before .before .before .before .before .before .before .before .args .s .now) _ (c .before .before .before .before .before .before .before .before .before .piece-end .ensures) (c .before .before .before .before .before .before .before .before .if1 .left) _ _ _ (c .before .before .before .before .print-line .ensures)
+returns-2 c =
+    put-input (c .before .before .before .before .before .before .before .before .before .before .before .before .before .args .s .now) _
+    (c .before .before .before .before .before .before .before .before .before .piece-end .ensures)
+    (c .before .before .before .before .before .before .before .before .if1 .left) _ _ _ (c .before .before .before .before .print-line .ensures)
 
 pub print-input-spec : {M : Type 1} → statement M
 print-input-spec =
     tie.close
-    (tie.spec
-    (λ c κs. search needs)
-    (λ c. search needs)
-    (λ c κs. search needs)
-    (λ c. search needs)
-    returns
-    slice-aggregate-print-line
-    print-line-requires
-    (λ c. search needs)
-    (λ c. search needs)
-    returns-2)
+    (tie.spec (λ c κs. search needs) (λ c. search needs) (λ c κs. search needs) (λ c. search needs) returns
+    slice-aggregate-print-line print-line-requires (λ c. search needs) (λ c. search needs) returns-2)

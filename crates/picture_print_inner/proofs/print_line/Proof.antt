@@ -13,30 +13,28 @@ part-print-words-start : tie.Need-part-print-words-start
 part-print-words-start c = let h = rw (c .before .k .given .1) at (c .before .before .before .head-of .ensures) in omega (arith, h .1)
 
 print-words-requires : tie.Need-print-words-requires
-print-words-requires c κs = (simp (length-take, length-drop) (omega (arith, c .before .before .before .before .before .before .before .before .before .before .pre .0)), c .before .before .before .before .before .before .before .before .before .before .pre .1)
+print-words-requires c κs = (
+  simp (length-take, length-drop) (omega (arith, c .before .before .before .before .before .before .before .before .before .before .pre .0)),
+  c .before .before .before .before .before .before .before .before .before .before .pre .1,
+)
 
 returns : tie.Need-returns
-returns c = print-bad _ _ _ _ _ (no-number (c .before .before .before .before .before .before .before .before .before .before .args .l .now) (rw (c .before .before .before .before .enum-told .given .1) at (c .before .before .before .before .before .before .head-of .ensures))) (c .before .before .place-malformed .ensures)
+returns c =
+    print-bad _ _ _ _ _ (no-number (c .before .before .before .before .before .before .before .before .before .before .args .l .now)
+    (rw (c .before .before .before .before .enum-told .given .1) at (c .before .before .before .before .before .before .head-of .ensures)))
+    (c .before .before .place-malformed .ensures)
 
 returns-2 : tie.Need-returns-2
 returns-2 c =
     let g = c .before .before .before .before .before .before .before .before .before .k .given in
-    put-line (c .before .before .before .before .before .before .before .before .before .before .before .before .before .before .before .args .l .now) (g .0 .0) (g .0 .1 .0) (rw (g .1) at (c .before .before .before .before .before .before .before .before .before .before .before .head-of .ensures)) _ _ _ (c .before .before .before .before .print-words .ensures)
+    put-line (c .before .before .before .before .before .before .before .before .before .before .before .before .before .before .before .args .l .now)
+    (g .0 .0) (g .0 .1 .0) (rw (g .1) at
+    (c .before .before .before .before .before .before .before .before .before .before .before .head-of .ensures)) _ _ _
+    (c .before .before .before .before .print-words .ensures)
 
 pub print-line-spec : {M : Type 1} → statement M
 print-line-spec =
     tie.close
-    (tie.spec
-    (λ c κs. search needs)
-    (λ c. search needs)
-    (λ c κs. search needs)
-    (λ c. search needs)
-    sub-print-words
-    part-print-words-start
-    (λ c. search needs)
-    print-words-requires
-    (λ c. search needs)
-    returns
-    (λ c. search needs)
-    (λ c. search needs)
-    returns-2)
+    (tie.spec (λ c κs. search needs) (λ c. search needs) (λ c κs. search needs) (λ c. search needs) sub-print-words
+    part-print-words-start (λ c. search needs) print-words-requires (λ c. search needs) returns (λ c. search needs)
+    (λ c. search needs) returns-2)

@@ -7,24 +7,19 @@ use Rattle.picture_print_inner.proofs.print_spelt.Tie as tie
 
 returns : tie.Need-returns
 returns c =
-    let no = rw (not-true (c .before .before .before .before .before .before .before .spell .result) (c .before .before .before .before .if1 .taken)) at (c .before .before .before .before .before .before .before .spell .ensures) in
+    let no = rw (not-true (c .before .before .before .before .before .before .before .spell .result) (c .before .before .before .before .if1 .taken))
+    at (c .before .before .before .before .before .before .before .spell .ensures) in
     print-bad _ _ _ _ _ no (c .before .before .place-malformed .ensures)
 
 returns-2 : tie.Need-returns-2
 returns-2 c =
-    let yes′ = rw (not-false (c .before .before .before .before .before .before .before .before .spell .result) (c .before .before .before .before .before .if1 .left)) at (c .before .before .before .before .before .before .before .before .spell .ensures) in
+    let yes′ = rw (not-false (c .before .before .before .before .before .before .before .before .spell .result)
+    (c .before .before .before .before .before .if1 .left)) at (c .before .before .before .before .before .before .before .before .spell .ensures)
+    in
     print-good _ _ _ _ _ _ yes′ (c .before .before .print-target .ensures)
 
 pub print-spelt-spec : {M : Type 1} → statement M
 print-spelt-spec =
     tie.close
-    (tie.spec
-    (λ c κs. search needs)
-    (λ c κs. search needs)
-    (λ c. search needs)
-    (λ c. search needs)
-    returns
-    (λ c κs. search needs)
-    (λ c. search needs)
-    (λ c. search needs)
-    returns-2)
+    (tie.spec (λ c κs. search needs) (λ c κs. search needs) (λ c. search needs) (λ c. search needs) returns
+    (λ c κs. search needs) (λ c. search needs) (λ c. search needs) returns-2)

@@ -12,14 +12,18 @@ use Rattle.picture_program_inner.proofs.output_of_input.Tie as tie
 slice-aggregate-print-input : tie.Need-slice-aggregate-print-input
 slice-aggregate-print-input c =
     let g = c .before .before .most .given in
-    let m : MostSays (Ended (g .0 .0)) (c .before .before .before .before .before .before .before .args .line .now) = rw (g .1) at (c .before .before .before .before .before .before .before .pre .0) in
+    let m : MostSays (Ended (g .0 .0)) (c .before .before .before .before .before .before .before .args .line .now) = rw (g .1) at
+    (c .before .before .before .before .before .before .before .pre .0) in
     simp length-take (omega (arith, m))
 
 print-input-requires : tie.Need-print-input-requires
 print-input-requires c κs =
     let g = c .before .before .before .before .most .given in
-    let m : MostSays (Ended (g .0 .0)) (c .before .before .before .before .before .before .before .before .before .args .line .now) = rw (g .1) at (c .before .before .before .before .before .before .before .before .before .pre .0) in
-    (simp length-take (omega (arith, m, c .before .before .before .before .before .before .before .before .before .pre .1 .0)), c .before .before .before .before .before .before .before .before .before .pre .1 .1)
+    let m : MostSays (Ended (g .0 .0)) (c .before .before .before .before .before .before .before .before .before .args .line .now) = rw (g .1) at
+    (c .before .before .before .before .before .before .before .before .before .pre .0) in (
+      simp length-take (omega (arith, m, c .before .before .before .before .before .before .before .before .before .pre .1 .0)),
+      c .before .before .before .before .before .before .before .before .before .pre .1 .1,
+    )
 
 returns : tie.Need-returns
 returns c = picture-by (c .before .before .before .before .before .args .line .now) _ _ _ (c .before .before .before .before .before .args .most) Full (c .enum-told .given .1) (refl, refl)
@@ -27,7 +31,10 @@ returns c = picture-by (c .before .before .before .before .before .args .line .n
 returns-2 : tie.Need-returns-2
 returns-2 c =
     let g = c .before .before .before .before .before .before .before .before .before .most .given in
-    picture-by (c .before .before .before .before .before .before .before .before .before .before .before .before .before .before .args .line .now) (c .before .before .before .before .before .before .before .before .before .before .before .before .before .before .args .buf .now) _ _ (c .before .before .before .before .before .before .before .before .before .before .before .before .before .before .args .most) (Ended (g .0 .0)) (g .1) (c .before .before .before .before .print-input .ensures)
+    picture-by (c .before .before .before .before .before .before .before .before .before .before .before .before .before .before .args .line .now)
+    (c .before .before .before .before .before .before .before .before .before .before .before .before .before .before .args .buf .now) _ _
+    (c .before .before .before .before .before .before .before .before .before .before .before .before .before .before .args .most)
+    (Ended (g .0 .0)) (g .1) (c .before .before .before .before .print-input .ensures)
 
 returns-3 : tie.Need-returns-3
 returns-3 c = picture-by (c .before .before .before .before .before .args .line .now) _ _ _ (c .before .before .before .before .before .args .most) Failed (c .enum-told2 .given .1) (refl, refl)
@@ -35,14 +42,5 @@ returns-3 c = picture-by (c .before .before .before .before .before .args .line 
 pub output-of-input-spec : {M : Type 1} → statement M
 output-of-input-spec =
     tie.close
-    (tie.spec
-    (λ c. search needs)
-    (λ c. search needs)
-    slice-aggregate-print-input
-    print-input-requires
-    (λ c. search needs)
-    returns
-    (λ c. search needs)
-    (λ c. search needs)
-    returns-2
-    returns-3)
+    (tie.spec (λ c. search needs) (λ c. search needs) slice-aggregate-print-input print-input-requires
+    (λ c. search needs) returns (λ c. search needs) (λ c. search needs) returns-2 returns-3)

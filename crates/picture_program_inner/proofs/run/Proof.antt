@@ -9,12 +9,15 @@ use Rattle.picture_program_inner.proofs.run.Tie as tie
 
 array-share-prefix-buf : tie.Need-array-share-prefix-buf
 array-share-prefix-buf c =
-    let i = picture-inside _ _ _ _ (c .before .before .before .before .before .before .before .before .before .read-most .result) (omega (arith, c .before .before .before .before .before .before .large-buffer .ensures)) (c .before .before .output-of-input .ensures) in
+    let i = picture-inside _ _ _ _ (c .before .before .before .before .before .before .before .before .before .read-most .result)
+    (omega (arith, c .before .before .before .before .before .before .large-buffer .ensures)) (c .before .before .output-of-input .ensures) in
     omega (arith, i, c .before .before .before .before .before .before .large-buffer .ensures)
 
 slice-aggregate-write-all : tie.Need-slice-aggregate-write-all
 slice-aggregate-write-all c =
-    let i = picture-inside _ _ _ _ (c .before .before .before .before .before .before .before .before .before .before .read-most .result) (omega (arith, c .before .before .before .before .before .before .before .large-buffer .ensures)) (c .before .before .before .output-of-input .ensures) in
+    let i = picture-inside _ _ _ _ (c .before .before .before .before .before .before .before .before .before .before .read-most .result)
+    (omega (arith, c .before .before .before .before .before .before .before .large-buffer .ensures))
+    (c .before .before .before .output-of-input .ensures) in
     simp length-take (omega (arith, i, c .before .before .before .before .before .before .before .large-buffer .ensures))
 
 array-share-prefix-buf-2 : tie.Need-array-share-prefix-buf-2
@@ -26,23 +29,8 @@ slice-aggregate-write-all-2 c = simp length-take (omega (arith, say-within _ _ _
 pub run-spec : {M : Type 1} → statement M
 run-spec =
     tie.close
-    (tie.spec
-    (λ c κs. search needs)
-    (λ c. search needs)
-    (λ c κs. search needs)
-    (λ c κs. search needs)
-    (λ c κs. search needs)
-    (λ c. search needs)
-    (λ c. search needs)
-    (λ c. search needs)
-    (λ c κs. search needs)
-    array-share-prefix-buf
-    slice-aggregate-write-all
-    (λ c κs. search needs)
-    (λ c κs. search needs)
-    (λ c. search needs)
-    (λ c κs. search needs)
-    array-share-prefix-buf-2
-    slice-aggregate-write-all-2
-    (λ c κs. search needs)
+    (tie.spec (λ c κs. search needs) (λ c. search needs) (λ c κs. search needs) (λ c κs. search needs)
+    (λ c κs. search needs) (λ c. search needs) (λ c. search needs) (λ c. search needs) (λ c κs. search needs)
+    array-share-prefix-buf slice-aggregate-write-all (λ c κs. search needs) (λ c κs. search needs) (λ c. search needs)
+    (λ c κs. search needs) array-share-prefix-buf-2 slice-aggregate-write-all-2 (λ c κs. search needs)
     (λ c. search needs))

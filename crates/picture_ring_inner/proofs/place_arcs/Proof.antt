@@ -31,15 +31,6 @@ place-sector-requires c κs =
       ),
     )
 
-shared-slice-read-before : tie.Need-shared-slice-read-before Inv-loop μ-loop
-shared-slice-read-before c = search needs
-
-add-i : tie.Need-add-i Inv-loop μ-loop
-add-i c = search needs
-
-loop-less : tie.Need-loop-less Inv-loop μ-loop
-loop-less c = search needs
-
 loop-again : tie.Need-loop-again Inv-loop μ-loop
 loop-again c = (
   omega arith,
@@ -58,14 +49,5 @@ returns c = drawing-end _ _ _ _ _ _ _ _ _ _ (c .before .loop .inv .1) (c .loop-t
 pub place-arcs-spec : {M : Type 1} → statement M
 place-arcs-spec =
     tie.close
-    (tie.spec
-    Inv-loop
-    μ-loop
-    loop-holds
-    place-sector-requires
-    shared-slice-read-before
-    add-i
-    loop-less
-    loop-again
-    same-length
-    returns)
+    (tie.spec Inv-loop μ-loop loop-holds place-sector-requires (λ c. search needs) (λ c. search needs)
+    (λ c. search needs) loop-again same-length returns)

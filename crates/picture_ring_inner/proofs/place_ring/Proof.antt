@@ -49,9 +49,6 @@ place-arcs-requires c κs =
       (turned-below w _ l _ (take-at _ _ (length w) v ∙ t) _ (z .0 .2) (z .1 .0), z .1 .1),
     )
 
-same-length : tie.Need-same-length
-same-length c = search needs
-
 returns : tie.Need-returns
 returns c =
     let w = c .before .before .before .before .before .before .before .before .before .before .before .args .ring .now in
@@ -64,13 +61,5 @@ returns c =
 pub place-ring-spec : {M : Type 1} → statement M
 place-ring-spec =
     tie.close
-    (tie.spec
-    run-at-requires
-    array-borrow-prefix-turned
-    slice-aggregate-write-turn
-    write-turn-requires
-    array-share-prefix-turned
-    slice-aggregate-place-arcs
-    place-arcs-requires
-    same-length
-    returns)
+    (tie.spec run-at-requires array-borrow-prefix-turned slice-aggregate-write-turn write-turn-requires
+    array-share-prefix-turned slice-aggregate-place-arcs place-arcs-requires (λ c. search needs) returns)

@@ -6,23 +6,17 @@ use borrow.Author.Needs.{needs}
 use Rattle.picture_ring_inner.proofs.place_sector.Statement.{statement}
 use Rattle.picture_ring_inner.proofs.place_sector.Tie as tie
 
-shared-slice-read-s : tie.Need-shared-slice-read-s
-shared-slice-read-s c = search needs
-
 returns : tie.Need-returns
 returns c =
     let a = c .before .before .before .before .args in
     fits-on (a .tone) _ (a .k) (a .before) (a .o + a .i) (a .ring .now) (a .i) (c .before .before .before .before .pre .0 .4) (a .buf .now) (a .at) (c .if1 .taken)
 
-run-at-requires : tie.Need-run-at-requires
-run-at-requires c κs = search needs
-
 gray-of-requires : tie.Need-gray-of-requires
-gray-of-requires c κs =
-    (c .before .before .before .before .before .pre .0 .0, c .before .before .before .before .before .pre .0 .1, c .before .before .before .before .before .pre .1 .0 _ (c .before .before .before .before .before .pre .0 .4))
-
-add-place-arc : tie.Need-add-place-arc
-add-place-arc c = search needs
+gray-of-requires c κs = (
+  c .before .before .before .before .before .pre .0 .0,
+  c .before .before .before .before .before .pre .0 .1,
+  c .before .before .before .before .before .pre .1 .0 _ (c .before .before .before .before .before .pre .0 .4),
+)
 
 place-arc-requires : tie.Need-place-arc-requires
 place-arc-requires c κs =
@@ -36,9 +30,6 @@ place-arc-requires c κs =
       z .1 .1,
     )
 
-same-length : tie.Need-same-length
-same-length c = search needs
-
 returns-2 : tie.Need-returns-2
 returns-2 c =
     let a = c .before .before .before .before .before .before .before .before .before .before .args in
@@ -49,12 +40,5 @@ returns-2 c =
 pub place-sector-spec : {M : Type 1} → statement M
 place-sector-spec =
     tie.close
-    (tie.spec
-    shared-slice-read-s
-    returns
-    run-at-requires
-    gray-of-requires
-    add-place-arc
-    place-arc-requires
-    same-length
-    returns-2)
+    (tie.spec (λ c. search needs) returns (λ c κs. search needs) gray-of-requires (λ c. search needs)
+    place-arc-requires (λ c. search needs) returns-2)

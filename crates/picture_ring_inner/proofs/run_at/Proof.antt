@@ -15,26 +15,14 @@ Inv-loop ring i s j₀ j = (i ≤ j) × (j ≤ length ring) × (reach s (drop i 
 abbrev μ-loop : tie.MeasureT-loop
 μ-loop ring i s j₀ j = length ring - j
 
-shared-slice-read-s : tie.Need-shared-slice-read-s Inv-loop μ-loop
-shared-slice-read-s c = search needs
-
 loop-holds : tie.Need-loop-holds Inv-loop μ-loop
 loop-holds c = (omega arith, omega arith, omega arith)
-
-shared-slice-read-if1 : tie.Need-shared-slice-read-if1 Inv-loop μ-loop
-shared-slice-read-if1 c = search needs
 
 sub-result : tie.Need-sub-result Inv-loop μ-loop
 sub-result c = omega (arith, c .before .before .before .loop .inv .0)
 
 returns : tie.Need-returns Inv-loop μ-loop
 returns c = run-cut _ _ _ _ (c .before .before .loop-test .taken) (c .if1 .taken) (c .before .before .before .loop .inv .2)
-
-add-j : tie.Need-add-j Inv-loop μ-loop
-add-j c = search needs
-
-loop-less : tie.Need-loop-less Inv-loop μ-loop
-loop-less c = search needs
 
 loop-again : tie.Need-loop-again Inv-loop μ-loop
 loop-again c = (
@@ -44,25 +32,11 @@ loop-again c = (
       (c .before .before .loop-test .taken) (c .if1 .left) (c .before .before .before .loop .inv .2),
 )
 
-sub-result-2 : tie.Need-sub-result-2 Inv-loop μ-loop
-sub-result-2 c = search needs
-
 returns-2 : tie.Need-returns-2 Inv-loop μ-loop
 returns-2 c = run-out _ _ _ _ (c .loop-test .left) (c .before .loop .inv .2)
 
 pub run-at-spec : {M : Type 1} → statement M
 run-at-spec =
     tie.close
-    (tie.spec
-    Inv-loop
-    μ-loop
-    shared-slice-read-s
-    loop-holds
-    shared-slice-read-if1
-    sub-result
-    returns
-    add-j
-    loop-less
-    loop-again
-    sub-result-2
-    returns-2)
+    (tie.spec Inv-loop μ-loop (λ c. search needs) loop-holds (λ c. search needs) sub-result returns
+    (λ c. search needs) (λ c. search needs) loop-again (λ c. search needs) returns-2)

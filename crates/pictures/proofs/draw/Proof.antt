@@ -9,12 +9,6 @@ use borrow.Author.Needs.{needs}
 use Rattle.pictures.proofs.draw.Statement.{statement}
 use Rattle.pictures.proofs.draw.Tie as tie
 
-check-reading-requires : tie.Need-check-reading-requires
-check-reading-requires c κs = search needs
-
-enum-known-r : tie.Need-enum-known-r
-enum-known-r c = search needs
-
 enum-told : tie.Need-enum-told
 enum-told c = search needs
 
@@ -38,9 +32,6 @@ returns-2 c =
     let g : Given (oneReading (a .reading .now) (a .k)) _ = rw (c .before .r .given .1) at (c .before .before .before .check-reading .ensures) in
     (inl g, refl)
 
-same-length : tie.Need-same-length
-same-length c = search needs
-
 returns-3 : tie.Need-returns-3
 returns-3 c =
     let a = c .before .before .before .before .before .before .before .before .before .before .args in
@@ -52,12 +43,5 @@ returns-3 c =
 pub draw-spec : {M : Type 1} → statement M
 draw-spec =
     tie.close
-    (tie.spec
-    check-reading-requires
-    enum-known-r
-    enum-told
-    returns
-    place-picture-requires
-    returns-2
-    same-length
-    returns-3)
+    (tie.spec (λ c κs. search needs) (λ c. search needs) enum-told returns place-picture-requires returns-2
+    (λ c. search needs) returns-3)

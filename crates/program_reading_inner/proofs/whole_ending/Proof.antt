@@ -15,4 +15,5 @@ returns-3 c = whole-read (c .before .before .before .args .wrote) (c .before .be
 pub whole-ending-spec : {M : Type 1} → statement M
 whole-ending-spec =
     tie.close
-    (tie.spec (λ c. search needs) (λ c. search needs) (λ c κs. search needs) (λ c. search needs) (λ c κs. search needs) (λ c. search needs) returns-2 returns-3)
+    (tie.spec (λ c. search needs) (λ c. search needs) (λ c κs. search needs) (λ c. search needs)
+    (λ c κs. search needs) (λ c. search needs) returns-2 returns-3)

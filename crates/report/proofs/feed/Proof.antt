@@ -8,15 +8,6 @@ use borrow.Author.Needs.{needs}
 use Rattle.report.proofs.feed.Statement.{statement}
 use Rattle.report.proofs.feed.Tie as tie
 
-smaller-of-requires : tie.Need-smaller-of-requires
-smaller-of-requires c κs = search needs
-
-smaller-of-requires-2 : tie.Need-smaller-of-requires-2
-smaller-of-requires-2 c κs = search needs
-
-slice-aggregate-take-bytes : tie.Need-slice-aggregate-take-bytes
-slice-aggregate-take-bytes c = search needs
-
 slice-aggregate-take-bytes-2 : tie.Need-slice-aggregate-take-bytes-2
 slice-aggregate-take-bytes-2 c =
     let args = c .before .before .before .before .before .before .before .args in
@@ -35,15 +26,6 @@ take-bytes-requires c κs =
       (omega (arith, l, smaller-of2 .ensures, smaller-right (a .p .len) 9), taken-room (a .block .now) (a .buf .now) (smaller-of .result) (smaller-of .ensures)),
     )
 
-slice-aggregate-tidied : tie.Need-slice-aggregate-tidied
-slice-aggregate-tidied c = search needs
-
-tidied-requires : tie.Need-tidied-requires
-tidied-requires c κs = search needs
-
-same-length : tie.Need-same-length
-same-length c = search needs
-
 returns : tie.Need-returns
 returns c =
     let args = c .before .before .before .before .before .before .before .before .before .before .before .before .before .before .args in
@@ -56,4 +38,6 @@ returns c =
     (c .tidied .ensures)
 
 pub feed-spec : {M : Type 1} → statement M
-feed-spec = tie.close (tie.spec smaller-of-requires smaller-of-requires-2 slice-aggregate-take-bytes slice-aggregate-take-bytes-2 take-bytes-requires slice-aggregate-tidied tidied-requires same-length returns)
+feed-spec = tie.close (tie.spec (λ c κs. search needs) (λ c κs. search needs) (λ c. search needs)
+    slice-aggregate-take-bytes-2 take-bytes-requires (λ c. search needs) (λ c κs. search needs) (λ c. search needs)
+    returns)

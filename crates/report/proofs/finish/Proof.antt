@@ -12,9 +12,6 @@ use Rattle.report.proofs.finish.Tie as tie
 returns : tie.Need-returns
 returns c = small (c .if1 .taken) refl refl
 
-smaller-of-requires : tie.Need-smaller-of-requires
-smaller-of-requires c κs = search needs
-
 array-share-prefix-line : tie.Need-array-share-prefix-line
 array-share-prefix-line c =
     let l : length (c .before .before .before .before .args .p .line) ≡ 9 = search needs in
@@ -28,9 +25,6 @@ slice-aggregate-place-last c =
 place-last-requires : tie.Need-place-last-requires
 place-last-requires c κs = c .before .before .before .before .if1 .left
 
-same-length : tie.Need-same-length
-same-length c = search needs
-
 returns-2 : tie.Need-returns-2
 returns-2 c =
     let args = c .before .before .before .before .before .before .before .before .before .args in
@@ -42,4 +36,5 @@ returns-2 c =
     end-says (a .p) (a .buf .now) l (if1 .left) _ (smaller-of .ensures) _ _ (place-last .ensures)
 
 pub finish-spec : {M : Type 1} → statement M
-finish-spec = tie.close (tie.spec returns smaller-of-requires array-share-prefix-line slice-aggregate-place-last place-last-requires same-length returns-2)
+finish-spec = tie.close (tie.spec returns (λ c κs. search needs) array-share-prefix-line slice-aggregate-place-last
+    place-last-requires (λ c. search needs) returns-2)

@@ -26,9 +26,6 @@ array-write-line c = omega (arith, c .before .before .before .pre, c .before .lo
 add-i : tie.Need-add-i Inv-loop μ-loop
 add-i c = omega (arith, c .before .before .before .pre, c .before .loop-test .taken)
 
-loop-less : tie.Need-loop-less Inv-loop μ-loop
-loop-less c = search needs
-
 loop-again : tie.Need-loop-again Inv-loop μ-loop
 loop-again c =
     let loop′ = c .before .before .loop in
@@ -49,4 +46,5 @@ returns c =
     tidied-is (a .bytes .now) (a .len) (l .line) (c .before .before .pre .0) (c .before .before .pre .1) (rw e at (l .inv .2))
 
 pub tidied-spec : {M : Type 1} → statement M
-tidied-spec = tie.close (tie.spec Inv-loop μ-loop loop-holds shared-slice-read-line array-write-line add-i loop-less loop-again returns)
+tidied-spec = tie.close (tie.spec Inv-loop μ-loop loop-holds shared-slice-read-line array-write-line add-i
+    (λ c. search needs) loop-again returns)

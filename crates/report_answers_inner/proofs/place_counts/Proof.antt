@@ -13,9 +13,6 @@ place-decimal-requires c κs =
     let l = length-counts (a .x) (a .y) in
     omega (arith, c .before .before .pre, l)
 
-slice-aggregate-place-text : tie.Need-slice-aggregate-place-text
-slice-aggregate-place-text c = search needs
-
 place-text-requires : tie.Need-place-text-requires
 place-text-requires c κs =
     let a = c .before .before .before .before .before .before .before .args in
@@ -26,10 +23,15 @@ place-decimal-requires-2 : tie.Need-place-decimal-requires-2
 place-decimal-requires-2 c κs =
     let a = c .before .before .before .before .before .before .before .before .before .before .before .args in
     let l = length-counts (a .x) (a .y) in
-    omega (arith, c .before .before .before .before .before .before .before .before .before .before .before .pre, l, placed-length _ _ _ _ _ (c .before .before .before .before .before .before .before .before .place-decimal .ensures), placed-length _ _ _ _ _ (c .before .before .before .place-text .ensures))
-
-slice-aggregate-place-text-2 : tie.Need-slice-aggregate-place-text-2
-slice-aggregate-place-text-2 c = search needs
+    omega (
+      arith,
+      c .before .before .before .before .before .before .before .before .before .before .before .pre,
+      l,
+      placed-length _ _ _ _ _
+          (c .before .before .before .before .before .before .before .before .place-decimal .ensures),
+      placed-length _ _ _ _ _
+          (c .before .before .before .place-text .ensures),
+    )
 
 place-text-requires-2 : tie.Need-place-text-requires-2
 place-text-requires-2 c κs =
@@ -57,4 +59,5 @@ returns c =
 pub place-counts-spec : {M : Type 1} → statement M
 place-counts-spec =
     tie.close
-    (tie.spec place-decimal-requires slice-aggregate-place-text place-text-requires place-decimal-requires-2 slice-aggregate-place-text-2 place-text-requires-2 same-length returns)
+    (tie.spec place-decimal-requires (λ c. search needs) place-text-requires place-decimal-requires-2
+    (λ c. search needs) place-text-requires-2 same-length returns)

@@ -8,12 +8,6 @@ use borrow.Author.Needs.{needs}
 use Rattle.report_answers_inner.proofs.place_numbers.Statement.{statement}
 use Rattle.report_answers_inner.proofs.place_numbers.Tie as tie
 
-necklaces-of-requires : tie.Need-necklaces-of-requires
-necklaces-of-requires c κs = search needs
-
-lyndon-of-requires : tie.Need-lyndon-of-requires
-lyndon-of-requires c κs = search needs
-
 place-counts-requires : tie.Need-place-counts-requires
 place-counts-requires c κs =
     let a = c .before .before .before .before .args in
@@ -27,4 +21,5 @@ returns : tie.Need-returns
 returns c = rw (c .before .before .before .before .before .necklaces-of .ensures, c .before .before .before .before .lyndon-of .ensures) at (c .before .before .place-counts .ensures)
 
 pub place-numbers-spec : {M : Type 1} → statement M
-place-numbers-spec = tie.close (tie.spec necklaces-of-requires lyndon-of-requires place-counts-requires same-length returns)
+place-numbers-spec = tie.close (tie.spec (λ c κs. search needs) (λ c κs. search needs) place-counts-requires
+    same-length returns)

@@ -4,9 +4,6 @@ use borrow.Author.Needs.{needs}
 use Rattle.report_answers_inner.proofs.place_refusal.Statement.{statement}
 use Rattle.report_answers_inner.proofs.place_refusal.Tie as tie
 
-number-requires : tie.Need-number-requires
-number-requires c κs = search needs
-
 place-refused-requires : tie.Need-place-refused-requires
 place-refused-requires c κs = rw (c .before .number .ensures) (c .before .before .before .pre)
 
@@ -17,4 +14,4 @@ returns : tie.Need-returns
 returns c = rw (c .before .before .before .before .number .ensures) at (c .before .before .place-refused .ensures)
 
 pub place-refusal-spec : {M : Type 1} → statement M
-place-refusal-spec = tie.close (tie.spec number-requires place-refused-requires same-length returns)
+place-refusal-spec = tie.close (tie.spec (λ c κs. search needs) place-refused-requires same-length returns)

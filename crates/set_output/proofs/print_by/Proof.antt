@@ -9,44 +9,26 @@ use Rattle.set_output.proofs.print_by.Tie as tie
 returns : tie.Need-returns
 returns c = small (c .if1 .taken) refl refl
 
-parse-set-requires : tie.Need-parse-set-requires
-parse-set-requires c κs = search needs
-
 enum-told : tie.Need-enum-told
 enum-told c = search needs
 
-print-refused-requires : tie.Need-print-refused-requires
-print-refused-requires c κs = search needs
-
-enum-known-n : tie.Need-enum-known-n
-enum-known-n c = search needs
-
-print-numbers-requires : tie.Need-print-numbers-requires
-print-numbers-requires c κs = search needs
-
-same-length : tie.Need-same-length
-same-length c = search needs
-
 returns-2 : tie.Need-returns-2
-returns-2 c = let a = c .before .before .before .before .before .before .before .before .before .before .args in line-malformed (a .rule) (a .line .now) (a .buf .now) _ _ (c .before .before .before .before .before .before .before .if1 .left) (rw (c .before .before .before .before .enum-told .given .1) at (c .before .before .before .before .before .before .parse-set .ensures)) (c .before .before .print-refused .ensures)
-
-same-length-2 : tie.Need-same-length-2
-same-length-2 c = search needs
+returns-2 c =
+    let a = c .before .before .before .before .before .before .before .before .before .before .args in
+    line-malformed (a .rule) (a .line .now) (a .buf .now) _ _ (c .before .before .before .before .before .before .before .if1 .left)
+    (rw (c .before .before .before .before .enum-told .given .1) at (c .before .before .before .before .before .before .parse-set .ensures))
+    (c .before .before .print-refused .ensures)
 
 returns-3 : tie.Need-returns-3
-returns-3 c = let a = c .before .before .before .before .before .before .before .before .before .before .before .args in let g = c .before .before .before .before .before .n .given in line-numbers (a .rule) (a .line .now) (a .buf .now) _ _ (g .0 .0) (g .0 .1 .0) (g .0 .1 .1 .0) (g .0 .1 .1 .1 .0) (c .before .before .before .before .before .before .before .before .if1 .left) (rw (g .1) at (c .before .before .before .before .before .before .before .parse-set .ensures)) (c .before .before .print-numbers .ensures)
+returns-3 c =
+    let a = c .before .before .before .before .before .before .before .before .before .before .before .args in
+    let g = c .before .before .before .before .before .n .given in
+    line-numbers (a .rule) (a .line .now) (a .buf .now) _ _ (g .0 .0) (g .0 .1 .0) (g .0 .1 .1 .0) (g .0 .1 .1 .1 .0)
+    (c .before .before .before .before .before .before .before .before .if1 .left)
+    (rw (g .1) at (c .before .before .before .before .before .before .before .parse-set .ensures)) (c .before .before .print-numbers .ensures)
 
 pub print-by-spec : {M : Type 1} → statement M
 print-by-spec =
     tie.close
-    (tie.spec
-    returns
-    parse-set-requires
-    enum-told
-    print-refused-requires
-    enum-known-n
-    print-numbers-requires
-    same-length
-    returns-2
-    same-length-2
-    returns-3)
+    (tie.spec returns (λ c κs. search needs) enum-told (λ c κs. search needs) (λ c. search needs)
+    (λ c κs. search needs) (λ c. search needs) returns-2 (λ c. search needs) returns-3)

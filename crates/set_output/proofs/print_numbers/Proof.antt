@@ -4,26 +4,17 @@ use borrow.Author.Needs.{needs}
 use Rattle.set_output.proofs.print_numbers.Statement.{statement}
 use Rattle.set_output.proofs.print_numbers.Tie as tie
 
-pick-by-requires : tie.Need-pick-by-requires
-pick-by-requires c κs = search needs
-
-enum-known-answer : tie.Need-enum-known-answer
-enum-known-answer c = search needs
-
-print-refused-requires : tie.Need-print-refused-requires
-print-refused-requires c κs = search needs
-
 enum-told : tie.Need-enum-told
 enum-told c = search needs
 
 place-set-requires : tie.Need-place-set-requires
 place-set-requires c κs =
     let a = c .before .before .before .before .before .before .before .before .args in
-    let r = c .before .before .before .before .before .before .pick-by .result in
-    (places-fit (a .rule) (a .n) (a .k) (a .d) (a .wanted) (r .places) (r .taken) (r .full) (rw (c .before .before .before .before .enum-told .given .1) at (c .before .before .before .before .before .before .pick-by .ensures)), c .before .before .before .before .before .before .before .before .pre)
-
-same-length : tie.Need-same-length
-same-length c = search needs
+    let r = c .before .before .before .before .before .before .pick-by .result in (
+      places-fit (a .rule) (a .n) (a .k) (a .d) (a .wanted) (r .places) (r .taken) (r .full)
+          (rw (c .before .before .before .before .enum-told .given .1) at (c .before .before .before .before .before .before .pick-by .ensures)),
+      c .before .before .before .before .before .before .before .before .pre,
+    )
 
 returns : tie.Need-returns
 returns c =
@@ -32,25 +23,17 @@ returns c =
     let p = rw (g .1) at (c .before .before .before .before .before .before .before .pick-by .ensures) in
     numbers-refused (a .rule) (a .n) (a .k) (a .d) (a .wanted) (g .0 .0) (p .0) (a .buf .now) _ _ (c .before .before .print-refused .ensures)
 
-same-length-2 : tie.Need-same-length-2
-same-length-2 c = search needs
-
 returns-2 : tie.Need-returns-2
 returns-2 c =
     let a = c .before .before .before .before .before .before .before .before .before .before .before .args in
     let r = c .before .before .before .before .before .before .before .before .before .pick-by .result in
-    numbers-chosen (a .rule) (a .n) (a .k) (a .d) (a .wanted) (r .places) (r .taken) (r .full) (rw (c .before .before .before .before .before .before .before .enum-told .given .1) at (c .before .before .before .before .before .before .before .before .before .pick-by .ensures)) (a .buf .now) _ _ (c .before .before .place-set .ensures)
+    numbers-chosen (a .rule) (a .n) (a .k) (a .d) (a .wanted) (r .places) (r .taken) (r .full)
+    (rw (c .before .before .before .before .before .before .before .enum-told .given .1) at
+    (c .before .before .before .before .before .before .before .before .before .pick-by .ensures)) (a .buf .now) _ _
+    (c .before .before .place-set .ensures)
 
 pub print-numbers-spec : {M : Type 1} → statement M
 print-numbers-spec =
     tie.close
-    (tie.spec
-    pick-by-requires
-    enum-known-answer
-    print-refused-requires
-    enum-told
-    place-set-requires
-    same-length
-    returns
-    same-length-2
-    returns-2)
+    (tie.spec (λ c κs. search needs) (λ c. search needs) (λ c κs. search needs) enum-told place-set-requires
+    (λ c. search needs) returns (λ c. search needs) returns-2)

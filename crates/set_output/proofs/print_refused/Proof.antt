@@ -7,18 +7,16 @@ use borrow.Author.Needs.{needs}
 use Rattle.set_output.proofs.print_refused.Statement.{statement}
 use Rattle.set_output.proofs.print_refused.Tie as tie
 
-number-requires : tie.Need-number-requires
-number-requires c κs = search needs
-
 place-refused-requires : tie.Need-place-refused-requires
 place-refused-requires c κs = let h : c .number .result < 10 ^ 20 = search needs in omega (arith, refused-room (c .number .result) h, c .before .before .before .pre)
 
-same-length : tie.Need-same-length
-same-length c = search needs
-
 returns : tie.Need-returns
-returns c = let h : c .before .before .before .number .result < 10 ^ 20 = search needs in refused-says (c .before .before .before .before .before .before .args .r) (c .before .before .before .number .result) (c .before .before .before .number .ensures) h (c .before .before .before .before .before .before .args .buf .now) _ _ (c .before .before .place-refused .ensures)
+returns c =
+    let h : c .before .before .before .number .result < 10 ^ 20 = search needs in
+    refused-says (c .before .before .before .before .before .before .args .r) (c .before .before .before .number .result)
+    (c .before .before .before .number .ensures) h (c .before .before .before .before .before .before .args .buf .now) _ _
+    (c .before .before .place-refused .ensures)
 
 pub print-refused-spec : {M : Type 1} → statement M
 print-refused-spec =
-    tie.close (tie.spec number-requires place-refused-requires same-length returns)
+    tie.close (tie.spec (λ c κs. search needs) place-refused-requires (λ c. search needs) returns)

@@ -12,12 +12,6 @@ use Rattle.set_program_inner.proofs.output_of_input.Tie as tie
 enum-told : tie.Need-enum-told
 enum-told c = search needs
 
-print-by-requires : tie.Need-print-by-requires
-print-by-requires c κs = search needs
-
-enum-known-most : tie.Need-enum-known-most
-enum-known-most c = search needs
-
 slice-aggregate-print-by : tie.Need-slice-aggregate-print-by
 slice-aggregate-print-by c =
     let most = c .before .before .most in
@@ -26,15 +20,6 @@ slice-aggregate-print-by c =
     let m : MostSays (Ended (most .given .0 .0)) (args .line .now) = rw (most .given .1) at (pre .1) in
     simp length-take (omega (arith, m))
 
-print-by-requires-2 : tie.Need-print-by-requires-2
-print-by-requires-2 c κs = search needs
-
-enum-told-2 : tie.Need-enum-told-2
-enum-told-2 c = search needs
-
-same-length : tie.Need-same-length
-same-length c = search needs
-
 returns : tie.Need-returns
 returns c =
     let args = c .before .before .before .before .before .before .before .before .args in
@@ -42,9 +27,6 @@ returns c =
     let pre = c .before .before .before .before .before .before .before .before .pre in
     let print-by = c .before .before .print-by in
     input-by (args .rule) _ _ _ _ (args .most) Full (enum-told .given .1) (input-full (args .rule) (args .line .now) (args .buf .now) _ _ (pre .0) (print-by .ensures))
-
-same-length-2 : tie.Need-same-length-2
-same-length-2 c = search needs
 
 returns-2 : tie.Need-returns-2
 returns-2 c =
@@ -62,15 +44,5 @@ returns-3 c =
 pub output-of-input-spec : {M : Type 1} → statement M
 output-of-input-spec =
     tie.close
-    (tie.spec
-    enum-told
-    print-by-requires
-    enum-known-most
-    slice-aggregate-print-by
-    print-by-requires-2
-    enum-told-2
-    same-length
-    returns
-    same-length-2
-    returns-2
-    returns-3)
+    (tie.spec enum-told (λ c κs. search needs) (λ c. search needs) slice-aggregate-print-by (λ c κs. search needs)
+    (λ c. search needs) (λ c. search needs) returns (λ c. search needs) returns-2 returns-3)

@@ -4,12 +4,6 @@ use Rattle.sight.proofs.Passing.{passed-seen}
 use Rattle.sight.proofs.sight.Statement.{statement}
 use Rattle.sight.proofs.sight.Tie as tie
 
-check-rings-requires : tie.Need-check-rings-requires
-check-rings-requires c κs = search needs
-
-enum-known-r : tie.Need-enum-known-r
-enum-known-r c = search needs
-
 enum-told : tie.Need-enum-told
 enum-told c = search needs
 
@@ -26,4 +20,4 @@ returns-2 c =
 
 pub sight-spec : {M : Type 1} → statement M
 sight-spec =
-    tie.close (tie.spec check-rings-requires enum-known-r enum-told look-requires returns returns-2)
+    tie.close (tie.spec (λ c κs. search needs) (λ c. search needs) enum-told look-requires returns returns-2)

@@ -13,9 +13,6 @@ returns c = inl (inl (inl (refl, λ s. omega (arith, s .0, c .if1 .taken))))
 returns-2 : tie.Need-returns-2
 returns-2 c = inl (inl (inl (refl, λ s. omega (arith, s .1, c .if2 .taken))))
 
-rem-if3 : tie.Need-rem-if3
-rem-if3 c = search needs
-
 returns-3 : tie.Need-returns-3
 returns-3 c = inl (inl (inr ((omega (arith, c .before .before .if1 .left), omega (arith, c .before .if2 .left)), (refl, c .if3 .taken))))
 
@@ -24,14 +21,23 @@ returns-4 c = inl (inr (((omega (arith, c .before .before .before .if1 .left), o
 
 returns-5 : tie.Need-returns-5
 returns-5 c =
-    inl (inr (((omega (arith, c .before .before .before .before .if1 .left), omega (arith, c .before .before .before .if2 .left)), c .before .before .if3 .left), (refl, λ s. omega (arith, s .1, c .if5 .taken))))
-
-check-sectors-requires : tie.Need-check-sectors-requires
-check-sectors-requires c κs = search needs
+    inl (inr (
+      (
+        (omega (arith, c .before .before .before .before .if1 .left), omega (arith, c .before .before .before .if2 .left)),
+        c .before .before .if3 .left,
+      ),
+      (refl, λ s. omega (arith, s .1, c .if5 .taken)),
+    ))
 
 returns-6 : tie.Need-returns-6
 returns-6 c =
-    sectors-settle (c .before .before .before .before .before .before .before .before .args .reading .now) (c .before .before .before .before .before .before .before .before .args .rings .now) (c .before .before .before .before .before .before .before .before .args .k) (omega (arith, c .before .before .before .before .before .if1 .left), omega (arith, c .before .before .before .before .if2 .left)) (c .before .before .before .if3 .left) (omega (arith, c .before .before .if4 .left), omega (arith, c .before .if5 .left)) (c .check-sectors .result) (c .check-sectors .ensures)
+    sectors-settle (c .before .before .before .before .before .before .before .before .args .reading .now)
+    (c .before .before .before .before .before .before .before .before .args .rings .now)
+    (c .before .before .before .before .before .before .before .before .args .k)
+    (omega (arith, c .before .before .before .before .before .if1 .left), omega (arith, c .before .before .before .before .if2 .left))
+    (c .before .before .before .if3 .left) (omega (arith, c .before .before .if4 .left), omega (arith, c .before .if5 .left))
+    (c .check-sectors .result) (c .check-sectors .ensures)
 
 pub check-rings-spec : {M : Type 1} → statement M
-check-rings-spec = tie.close (tie.spec returns returns-2 rem-if3 returns-3 returns-4 returns-5 check-sectors-requires returns-6)
+check-rings-spec = tie.close (tie.spec returns returns-2 (λ c. search needs) returns-3 returns-4 returns-5
+    (λ c κs. search needs) returns-6)

@@ -17,18 +17,6 @@ which-near-requires-2 c κs =
 enum-told : tie.Need-enum-told
 enum-told c = search needs
 
-enum-known-front : tie.Need-enum-known-front
-enum-known-front c = search needs
-
-enum-told-2 : tie.Need-enum-told-2
-enum-told-2 c = search needs
-
-enum-told-3 : tie.Need-enum-told-3
-enum-told-3 c = search needs
-
-enum-told-4 : tie.Need-enum-told-4
-enum-told-4 c = search needs
-
 nearest-to-requires : tie.Need-nearest-to-requires
 nearest-to-requires c κs =
     let a = c .before .before .before .before .before .before .before .before .before .before .args in
@@ -38,26 +26,17 @@ nearest-to-requires c κs =
     let o = c .before .before .before .front .given in
     (p .0, alone-inside (a .most) (length (a .reading .now)) (a .rings .now) (a .reading .now) (o .0 .0) (rw (o .1) at (f .ensures)))
 
-enum-told-5 : tie.Need-enum-told-5
-enum-told-5 c = search needs
-
-enum-told-6 : tie.Need-enum-told-6
-enum-told-6 c = search needs
-
-enum-known-behind : tie.Need-enum-known-behind
-enum-known-behind c = search needs
-
 nearest-to-requires-2 : tie.Need-nearest-to-requires-2
 nearest-to-requires-2 c κs =
     let a = c .before .before .before .before .before .before .before .before .before .before .args in
     let p = c .before .before .before .before .before .before .before .before .before .before .pre in
     let f = c .before .before .before .before .before .before .which-near in
     let g = c .before .before .before .before .before .which-near2 in
-    let o = c .before .behind .given in
-    (back-some (a .most) (a .rings .now) (a .reading .now) (a .back .now) (p .0) (p .2), alone-inside (a .most) (length (a .back .now)) (a .rings .now) (a .back .now) (o .0 .0) (rw (o .1) at (g .ensures)))
-
-enum-told-7 : tie.Need-enum-told-7
-enum-told-7 c = search needs
+    let o = c .before .behind .given in (
+      back-some (a .most) (a .rings .now) (a .reading .now) (a .back .now) (p .0) (p .2),
+      alone-inside (a .most) (length (a .back .now))
+          (a .rings .now) (a .back .now) (o .0 .0) (rw (o .1) at (g .ensures)),
+    )
 
 returns : tie.Need-returns
 returns c =
@@ -92,7 +71,8 @@ returns-4 c =
     let f = c .before .before .before .before .before .before .before .which-near in
     let g = c .before .before .before .before .before .before .which-near2 in
     let o = c .before .before .before .before .front .given in
-    seen-front (a .most) (a .rings .now) (a .reading .now) (a .back .now) (p .0) (p .2) (o .0 .0) _ _ (rw (o .1) at (f .ensures)) (rw (c .before .enum-told4 .given .1) at (g .ensures)) (c .nearest-to .ensures)
+    seen-front (a .most) (a .rings .now) (a .reading .now) (a .back .now) (p .0) (p .2) (o .0 .0) _ _ (rw (o .1) at (f .ensures))
+    (rw (c .before .enum-told4 .given .1) at (g .ensures)) (c .nearest-to .ensures)
 
 returns-5 : tie.Need-returns-5
 returns-5 c =
@@ -109,7 +89,8 @@ returns-6 c =
     let f = c .before .before .before .before .before .before .before .which-near in
     let g = c .before .before .before .before .before .before .which-near2 in
     let o = c .before .before .behind .given in
-    seen-back (a .most) (a .rings .now) (a .reading .now) (a .back .now) (p .0) (p .2) (o .0 .0) _ _ (rw (c .before .before .before .before .enum-told5 .given .1) at (f .ensures)) (rw (o .1) at (g .ensures)) (c .nearest-to2 .ensures)
+    seen-back (a .most) (a .rings .now) (a .reading .now) (a .back .now) (p .0) (p .2) (o .0 .0) _ _
+    (rw (c .before .before .before .before .enum-told5 .given .1) at (f .ensures)) (rw (o .1) at (g .ensures)) (c .nearest-to2 .ensures)
 
 returns-7 : tie.Need-returns-7
 returns-7 c =
@@ -122,24 +103,7 @@ returns-7 c =
 pub decide-spec : {M : Type 1} → statement M
 decide-spec =
     tie.close
-    (tie.spec
-    which-near-requires
-    which-near-requires-2
-    enum-told
-    enum-known-front
-    enum-told-2
-    enum-told-3
-    enum-told-4
-    nearest-to-requires
-    enum-told-5
-    enum-told-6
-    enum-known-behind
-    nearest-to-requires-2
-    enum-told-7
-    returns
-    returns-2
-    returns-3
-    returns-4
-    returns-5
-    returns-6
-    returns-7)
+    (tie.spec which-near-requires which-near-requires-2 enum-told (λ c. search needs) (λ c. search needs)
+    (λ c. search needs) (λ c. search needs) nearest-to-requires (λ c. search needs) (λ c. search needs)
+    (λ c. search needs) nearest-to-requires-2 (λ c. search needs) returns returns-2 returns-3 returns-4 returns-5
+    returns-6 returns-7)

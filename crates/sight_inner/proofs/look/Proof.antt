@@ -34,17 +34,8 @@ decide-requires c κs =
     let y = ap (λ (v : List ℕ). length v) (x .ensures) ∙ length-reverse w in
     (c .before .before .before .before .before .before .pre .0, c .before .before .before .before .before .before .pre .1, take-at _ _ (length w) y ∙ x .ensures)
 
-returns : tie.Need-returns
-returns c = search needs
-
 pub look-spec : {M : Type 1} → statement M
 look-spec =
     tie.close
-    (tie.spec
-    array-borrow-prefix-back
-    slice-aggregate-write-reversed
-    write-reversed-requires
-    array-share-prefix-back
-    slice-aggregate-decide
-    decide-requires
-    returns)
+    (tie.spec array-borrow-prefix-back slice-aggregate-write-reversed write-reversed-requires array-share-prefix-back
+    slice-aggregate-decide decide-requires (λ c. search needs))

@@ -25,8 +25,15 @@ part-nearest-end : tie.Need-part-nearest-end
 part-nearest-end c = omega (arith, ring-fits (length (c .before .before .args .reading .now)) (c .before .before .args .rings .now) (c .before .before .args .j) (c .before .before .pre .1))
 
 nearest-requires : tie.Need-nearest-requires
-nearest-requires c κs =
-    (c .before .before .before .pre .0, simp (length-take, length-drop) (omega (arith, ring-fits (length (c .before .before .before .args .reading .now)) (c .before .before .before .args .rings .now) (c .before .before .before .args .j) (c .before .before .before .pre .1))))
+nearest-requires c κs = (
+  c .before .before .before .pre .0,
+  simp (length-take, length-drop)
+      (omega (
+        arith,
+        ring-fits (length (c .before .before .before .args .reading .now)) (c .before .before .before .args .rings .now)
+            (c .before .before .before .args .j) (c .before .before .before .pre .1),
+      )),
+)
 
 returns : tie.Need-returns
 returns c =
@@ -37,11 +44,4 @@ returns c =
 pub nearest-to-spec : {M : Type 1} → statement M
 nearest-to-spec =
     tie.close
-    (tie.spec
-    mul-at
-    add-end
-    sub-nearest
-    part-nearest-start
-    part-nearest-end
-    nearest-requires
-    returns)
+    (tie.spec mul-at add-end sub-nearest part-nearest-start part-nearest-end nearest-requires returns)

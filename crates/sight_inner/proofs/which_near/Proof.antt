@@ -7,9 +7,6 @@ use Rattle.sight_inner.proofs.Looking.{near-none, near-two, near-one}
 use Rattle.sight_inner.proofs.which_near.Statement.{statement}
 use Rattle.sight_inner.proofs.which_near.Tie as tie
 
-div-m : tie.Need-div-m
-div-m c = search needs
-
 first-near-requires : tie.Need-first-near-requires
 first-near-requires c κs = (c .before .before .pre .0, c .before .before .pre .1, omega arith)
 
@@ -41,11 +38,5 @@ returns-3 c =
 pub which-near-spec : {M : Type 1} → statement M
 which-near-spec =
     tie.close
-    (tie.spec
-    div-m
-    first-near-requires
-    returns
-    add-first-near
-    first-near-requires-2
-    returns-2
+    (tie.spec (λ c. search needs) first-near-requires returns add-first-near first-near-requires-2 returns-2
     returns-3)

@@ -6,9 +6,6 @@ use Rattle.stream_asking_inner.proofs.block_length.Tie as tie
 enum-told : tie.Need-enum-told
 enum-told c = search needs
 
-enum-told-2 : tie.Need-enum-told-2
-enum-told-2 c = search needs
-
 returns : tie.Need-returns
 returns c = rw (c .enum-told .given .1) (search needs)
 
@@ -16,4 +13,4 @@ returns-2 : tie.Need-returns-2
 returns-2 c = rw (c .enum-told2 .given .1) (search needs)
 
 pub block-length-spec : {M : Type 1} → statement M
-block-length-spec = tie.close (tie.spec enum-told enum-told-2 returns returns-2)
+block-length-spec = tie.close (tie.spec enum-told (λ c. search needs) returns returns-2)

@@ -9,20 +9,11 @@ enum-told c = search needs
 place-answer-requires : tie.Need-place-answer-requires
 place-answer-requires c κs = rw (c .before .enum-told .given .1) at (c .before .before .before .before .before .pre)
 
-enum-told-2 : tie.Need-enum-told-2
-enum-told-2 c = search needs
-
 place-answer-requires-2 : tie.Need-place-answer-requires-2
 place-answer-requires-2 c κs = rw (c .before .enum-told2 .given .1) at (c .before .before .before .before .before .pre)
 
-same-length : tie.Need-same-length
-same-length c = search needs
-
 returns : tie.Need-returns
 returns c = rw (c .before .before .before .before .enum-told .given .1) (c .before .before .place-answer .ensures)
-
-same-length-2 : tie.Need-same-length-2
-same-length-2 c = search needs
 
 returns-2 : tie.Need-returns-2
 returns-2 c = rw (c .before .before .before .before .enum-told2 .given .1) (c .before .before .place-answer2 .ensures)
@@ -30,12 +21,5 @@ returns-2 c = rw (c .before .before .before .before .enum-told2 .given .1) (c .b
 pub place-text-spec : {M : Type 1} → statement M
 place-text-spec =
     tie.close
-    (tie.spec
-    enum-told
-    place-answer-requires
-    enum-told-2
-    place-answer-requires-2
-    same-length
-    returns
-    same-length-2
-    returns-2)
+    (tie.spec enum-told place-answer-requires (λ c. search needs) place-answer-requires-2 (λ c. search needs) returns
+    (λ c. search needs) returns-2)

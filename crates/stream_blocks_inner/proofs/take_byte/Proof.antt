@@ -18,23 +18,11 @@ slice-aggregate-place-text c = simp length-take (omega (arith, c .before .before
 place-text-requires : tie.Need-place-text-requires
 place-text-requires c κs = omega (arith, c .before .before .before .before .before .pre .1 .1)
 
-same-length : tie.Need-same-length
-same-length c = search needs
-
 same-length-2 : tie.Need-same-length-2
 same-length-2 c = placed-length _ _ _ _ _ (c .before .before .place-text .ensures .placed)
 
 returns : tie.Need-returns
 returns c = (omega arith, ends (c .before .before .before .before .before .if1 .taken) refl (c .before .before .place-text .ensures))
-
-slice-write-line : tie.Need-slice-write-line
-slice-write-line c = search needs
-
-add-t15 : tie.Need-add-t15
-add-t15 c = search needs
-
-same-length-3 : tie.Need-same-length-3
-same-length-3 c = search needs
 
 returns-2 : tie.Need-returns-2
 returns-2 c =
@@ -54,15 +42,5 @@ returns-3 c =
 pub take-byte-spec : {M : Type 1} → statement M
 take-byte-spec =
     tie.close
-    (tie.spec
-    slice-reshare-prefix-place-text
-    slice-aggregate-place-text
-    place-text-requires
-    same-length
-    same-length-2
-    returns
-    slice-write-line
-    add-t15
-    same-length-3
-    returns-2
-    returns-3)
+    (tie.spec slice-reshare-prefix-place-text slice-aggregate-place-text place-text-requires (λ c. search needs)
+    same-length-2 returns (λ c. search needs) (λ c. search needs) (λ c. search needs) returns-2 returns-3)

@@ -36,9 +36,6 @@ loop-holds c =
       refl,
     )
 
-shared-slice-read-take-byte : tie.Need-shared-slice-read-take-byte Inv-loop μ-loop
-shared-slice-read-take-byte c = search needs
-
 take-byte-requires : tie.Need-take-byte-requires Inv-loop μ-loop
 take-byte-requires c κs =
     let before = c .before .before .before .before .before .before .before .before in
@@ -49,12 +46,6 @@ take-byte-requires c κs =
       l .inv .1,
       (omega (arith, l .inv .1, l .inv .2), taking-room _ _ _ (said-tells (g .args .kind)) _ _ _ _ _ _ _ (l .inv .3) (loop-test .taken) (g .pre .1 .1)),
     )
-
-add-i : tie.Need-add-i Inv-loop μ-loop
-add-i c = search needs
-
-loop-less : tie.Need-loop-less Inv-loop μ-loop
-loop-less c = search needs
 
 loop-again : tie.Need-loop-again Inv-loop μ-loop
 loop-again c =
@@ -87,15 +78,5 @@ returns c =
 pub take-bytes-spec : {M : Type 1} → statement M
 take-bytes-spec =
     tie.close
-    (tie.spec
-    Inv-loop
-    μ-loop
-    loop-holds
-    shared-slice-read-take-byte
-    take-byte-requires
-    add-i
-    loop-less
-    loop-again
-    same-length
-    same-length-2
-    returns)
+    (tie.spec Inv-loop μ-loop loop-holds (λ c. search needs) take-byte-requires (λ c. search needs)
+    (λ c. search needs) loop-again same-length same-length-2 returns)

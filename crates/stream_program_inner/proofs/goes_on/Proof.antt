@@ -12,12 +12,6 @@ returns c = let a = c .before .args in goes-unwritten (a .wrote) (a .got) (a .re
 enum-told : tie.Need-enum-told
 enum-told c = search needs
 
-enum-told-2 : tie.Need-enum-told-2
-enum-told-2 c = search needs
-
-enum-told-3 : tie.Need-enum-told-3
-enum-told-3 c = search needs
-
 returns-2 : tie.Need-returns-2
 returns-2 c =
     let args = c .before .before .before .args in
@@ -36,4 +30,5 @@ returns-4 c =
     goes-failed (a .wrote) (a .got) (a .reads) (not-false _ (c .before .before .if1 .left)) (c .enum-told3 .given .1)
 
 pub goes-on-spec : {M : Type 1} → statement M
-goes-on-spec = tie.close (tie.spec returns enum-told enum-told-2 enum-told-3 returns-2 returns-3 returns-4)
+goes-on-spec = tie.close (tie.spec returns enum-told (λ c. search needs) (λ c. search needs) returns-2 returns-3
+    returns-4)

@@ -7,9 +7,6 @@ use borrow.Author.Needs.{needs}
 use Rattle.stream_program_inner.proofs.place_turn.Statement.{statement}
 use Rattle.stream_program_inner.proofs.place_turn.Tie as tie
 
-enum-known-got : tie.Need-enum-known-got
-enum-known-got c = search needs
-
 slice-aggregate-take-bytes : tie.Need-slice-aggregate-take-bytes
 slice-aggregate-take-bytes c =
     let args = c .before .before .before .before .before .before .before .before .args in
@@ -29,9 +26,6 @@ take-bytes-requires c κs =
 enum-told : tie.Need-enum-told
 enum-told c = search needs
 
-slice-reshare-prefix-place-last : tie.Need-slice-reshare-prefix-place-last
-slice-reshare-prefix-place-last c = search needs
-
 slice-aggregate-place-last : tie.Need-slice-aggregate-place-last
 slice-aggregate-place-last c = simp length-take (omega (arith, c .before .before .before .before .before .before .pre .1 .0))
 
@@ -40,27 +34,12 @@ place-last-requires c κs =
     let pre = c .before .before .before .before .before .before .before .pre in
     line-room _ _ _ (pre .1 .1 .some) (pre .1 .1 .room)
 
-enum-told-2 : tie.Need-enum-told-2
-enum-told-2 c = search needs
-
-same-length : tie.Need-same-length
-same-length c = search needs
-
-same-length-2 : tie.Need-same-length-2
-same-length-2 c = search needs
-
 returns : tie.Need-returns
 returns c =
     let take-bytes = c .before .before .before .before .take-bytes in
     let args = c .before .before .before .before .before .before .before .before .before .before .before .before .before .before .args in
     let got = c .before .before .before .before .before .before .before .before .before .got in
     (take-bytes .ensures .0, turn-bytes (args .kind) _ (args .block .now) _ _ _ _ (args .got) _ (got .given .1) (take-bytes .ensures .1))
-
-same-length-3 : tie.Need-same-length-3
-same-length-3 c = search needs
-
-same-length-4 : tie.Need-same-length-4
-same-length-4 c = search needs
 
 returns-2 : tie.Need-returns-2
 returns-2 c =
@@ -78,19 +57,6 @@ returns-3 c =
 pub place-turn-spec : {M : Type 1} → statement M
 place-turn-spec =
     tie.close
-    (tie.spec
-    enum-known-got
-    slice-aggregate-take-bytes
-    take-bytes-requires
-    enum-told
-    slice-reshare-prefix-place-last
-    slice-aggregate-place-last
-    place-last-requires
-    enum-told-2
-    same-length
-    same-length-2
-    returns
-    same-length-3
-    same-length-4
-    returns-2
-    returns-3)
+    (tie.spec (λ c. search needs) slice-aggregate-take-bytes take-bytes-requires enum-told (λ c. search needs)
+    slice-aggregate-place-last place-last-requires (λ c. search needs) (λ c. search needs) (λ c. search needs) returns
+    (λ c. search needs) (λ c. search needs) returns-2 returns-3)

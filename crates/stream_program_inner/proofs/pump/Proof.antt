@@ -71,16 +71,5 @@ loop-again c =
 pub pump-spec : {M : Type 1} → statement M
 pump-spec =
     tie.close
-    (tie.spec
-    Inv-loop
-    μ-loop
-    loop-holds
-    turn-requires
-    (λ c κs. search needs)
-    same-length
-    same-length-2
-    same-length-3
-    returns
-    add-reads
-    loop-less
-    loop-again)
+    (tie.spec Inv-loop μ-loop loop-holds turn-requires (λ c κs. search needs) same-length same-length-2 same-length-3
+    returns add-reads loop-less loop-again)

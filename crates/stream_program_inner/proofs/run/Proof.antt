@@ -31,20 +31,7 @@ slice-aggregate-write-all c = let s = c .before .before .say in simp length-take
 pub run-spec : {M : Type 1} → statement M
 run-spec =
     tie.close
-    (tie.spec
-    (λ c κs. search needs)
-    (λ c κs. search needs)
-    (λ c κs. search needs)
-    (λ c. search needs)
-    slice-aggregate-pump
-    (λ c. search needs)
-    slice-aggregate-pump-2
-    (λ c. search needs)
-    pump-requires
-    (λ c κs. search needs)
-    (λ c. search needs)
-    (λ c κs. search needs)
-    array-share-prefix-buf
-    slice-aggregate-write-all
-    (λ c κs. search needs)
-    (λ c. search needs))
+    (tie.spec (λ c κs. search needs) (λ c κs. search needs) (λ c κs. search needs) (λ c. search needs)
+    slice-aggregate-pump (λ c. search needs) slice-aggregate-pump-2 (λ c. search needs) pump-requires
+    (λ c κs. search needs) (λ c. search needs) (λ c κs. search needs) array-share-prefix-buf slice-aggregate-write-all
+    (λ c κs. search needs) (λ c. search needs))

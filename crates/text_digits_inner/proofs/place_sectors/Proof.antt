@@ -19,50 +19,28 @@ abbrev μ-loop : tie.MeasureT-loop
 loop-holds : tie.Need-loop-holds Inv-loop μ-loop
 loop-holds c = (omega arith, placed-none ((c .before .before .args) .buf .now) ((c .before .before .args) .at))
 
-shared-slice-read-hex : tie.Need-shared-slice-read-hex Inv-loop μ-loop
-shared-slice-read-hex c = search needs
-
-hex-requires : tie.Need-hex-requires Inv-loop μ-loop
-hex-requires c κs = search needs
-
-add-buf : tie.Need-add-buf Inv-loop μ-loop
-add-buf c = search needs
-
 slice-write-buf : tie.Need-slice-write-buf Inv-loop μ-loop
 slice-write-buf c = omega (arith, (c .before .before .before .before .before .before .pre), placed-length _ _ _ _ _ ((c .before .before .before .loop) .inv .1))
 
-add-i : tie.Need-add-i Inv-loop μ-loop
-add-i c = search needs
-
-loop-less : tie.Need-loop-less Inv-loop μ-loop
-loop-less c = search needs
-
 loop-again : tie.Need-loop-again Inv-loop μ-loop
-loop-again c = (omega arith, placed-sector ((c .before .before .before .before .before .before .args) .buf .now) ((c .before .before .before .before .before .before .args) .at) ((c .before .before .before .loop) .i) ((c .before .before .before .before .before .before .args) .ring .now) ((c .before .before .before .loop) .buf) (c .hex .result) (omega arith) (c .hex .ensures) ((c .before .before .before .loop) .inv .1))
-
-add-result : tie.Need-add-result Inv-loop μ-loop
-add-result c = search needs
+loop-again c = (
+  omega arith,
+  placed-sector ((c .before .before .before .before .before .before .args) .buf .now)
+      ((c .before .before .before .before .before .before .args) .at) ((c .before .before .before .loop) .i)
+      ((c .before .before .before .before .before .before .args) .ring .now) ((c .before .before .before .loop) .buf) (c .hex .result) (omega arith)
+      (c .hex .ensures) ((c .before .before .before .loop) .inv .1),
+)
 
 same-length : tie.Need-same-length Inv-loop μ-loop
 same-length c = placed-length _ _ _ _ _ ((c .before .loop) .inv .1)
 
 returns : tie.Need-returns Inv-loop μ-loop
-returns c = placed-sectors ((c .before .before .before .before .args) .buf .now) ((c .before .before .before .before .args) .at) ((c .before .loop) .i) ((c .before .before .before .before .args) .ring .now) ((c .before .loop) .buf) (omega arith) ((c .before .loop) .inv .1)
+returns c =
+    placed-sectors ((c .before .before .before .before .args) .buf .now) ((c .before .before .before .before .args) .at) ((c .before .loop) .i)
+    ((c .before .before .before .before .args) .ring .now) ((c .before .loop) .buf) (omega arith) ((c .before .loop) .inv .1)
 
 pub place-sectors-spec : {M : Type 1} → statement M
 place-sectors-spec =
     tie.close
-    (tie.spec
-    Inv-loop
-    μ-loop
-    loop-holds
-    shared-slice-read-hex
-    hex-requires
-    add-buf
-    slice-write-buf
-    add-i
-    loop-less
-    loop-again
-    add-result
-    same-length
-    returns)
+    (tie.spec Inv-loop μ-loop loop-holds (λ c. search needs) (λ c κs. search needs) (λ c. search needs)
+    slice-write-buf (λ c. search needs) (λ c. search needs) loop-again (λ c. search needs) same-length returns)

@@ -17,46 +17,35 @@ abbrev μ-loop : tie.MeasureT-loop
 loop-holds : tie.Need-loop-holds Inv-loop μ-loop
 loop-holds c = (omega arith, placed-none (c .args .buf .now) (c .args .at))
 
-shared-slice-read-buf : tie.Need-shared-slice-read-buf Inv-loop μ-loop
-shared-slice-read-buf c = search needs
-
-add-buf : tie.Need-add-buf Inv-loop μ-loop
-add-buf c = search needs
-
 slice-write-buf : tie.Need-slice-write-buf Inv-loop μ-loop
-slice-write-buf c = omega (arith, c .before .before .before .pre, placed-length (c .before .before .before .args .buf .now) (c .before .before .before .args .at) (take (c .before .before .loop .i) (c .before .before .before .args .text .now)) ((c .before .before .before .args .at) + c .before .before .loop .i) (c .before .before .loop .buf) (c .before .before .loop .inv .1))
-
-add-i : tie.Need-add-i Inv-loop μ-loop
-add-i c = search needs
-
-loop-less : tie.Need-loop-less Inv-loop μ-loop
-loop-less c = search needs
+slice-write-buf c =
+    omega (
+      arith,
+      c .before .before .before .pre,
+      placed-length (c .before .before .before .args .buf .now) (c .before .before .before .args .at)
+          (take (c .before .before .loop .i) (c .before .before .before .args .text .now))
+          ((c .before .before .before .args .at) + c .before .before .loop .i) (c .before .before .loop .buf) (c .before .before .loop .inv .1),
+    )
 
 loop-again : tie.Need-loop-again Inv-loop μ-loop
-loop-again c = (omega arith, placed-copy (c .before .before .before .args .buf .now) (c .before .before .before .args .at) (c .before .before .loop .i) (c .before .before .before .args .text .now) (c .before .before .loop .buf) (omega arith) (c .before .before .loop .inv .1))
-
-add-result : tie.Need-add-result Inv-loop μ-loop
-add-result c = search needs
+loop-again c = (
+  omega arith,
+  placed-copy (c .before .before .before .args .buf .now) (c .before .before .before .args .at) (c .before .before .loop .i)
+      (c .before .before .before .args .text .now) (c .before .before .loop .buf) (omega arith) (c .before .before .loop .inv .1),
+)
 
 same-length : tie.Need-same-length Inv-loop μ-loop
-same-length c = placed-length (c .before .before .args .buf .now) (c .before .before .args .at) (take (c .before .loop .i) (c .before .before .args .text .now)) ((c .before .before .args .at) + c .before .loop .i) (c .before .loop .buf) (c .before .loop .inv .1)
+same-length c =
+    placed-length (c .before .before .args .buf .now) (c .before .before .args .at) (take (c .before .loop .i) (c .before .before .args .text .now))
+    ((c .before .before .args .at) + c .before .loop .i) (c .before .loop .buf) (c .before .loop .inv .1)
 
 returns : tie.Need-returns Inv-loop μ-loop
-returns c = placed-whole (c .before .before .args .buf .now) (c .before .before .args .at) (c .before .loop .i) (c .before .before .args .text .now) (c .before .loop .buf) (omega arith) (c .before .loop .inv .1)
+returns c =
+    placed-whole (c .before .before .args .buf .now) (c .before .before .args .at) (c .before .loop .i) (c .before .before .args .text .now)
+    (c .before .loop .buf) (omega arith) (c .before .loop .inv .1)
 
 pub place-text-spec : {M : Type 1} → statement M
 place-text-spec =
     tie.close
-    (tie.spec
-    Inv-loop
-    μ-loop
-    loop-holds
-    shared-slice-read-buf
-    add-buf
-    slice-write-buf
-    add-i
-    loop-less
-    loop-again
-    add-result
-    same-length
-    returns)
+    (tie.spec Inv-loop μ-loop loop-holds (λ c. search needs) (λ c. search needs) slice-write-buf (λ c. search needs)
+    (λ c. search needs) loop-again (λ c. search needs) same-length returns)

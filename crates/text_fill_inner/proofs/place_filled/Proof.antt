@@ -21,32 +21,28 @@ loop-holds c =
     let a = c .before .before .before .before .args in
     (omega arith, omega arith, omega arith, filling-none (a .text .now) (a .numbers .now) (a .n) (a .rings .now) (a .buf .now) (a .at), refl)
 
-shared-slice-read-c : tie.Need-shared-slice-read-c Inv-loop μ-loop
-shared-slice-read-c c = search needs
-
-add-i : tie.Need-add-i Inv-loop μ-loop
-add-i c = search needs
-
-number-at-requires : tie.Need-number-at-requires Inv-loop μ-loop
-number-at-requires c κs = search needs
-
 place-decimal-requires : tie.Need-place-decimal-requires Inv-loop μ-loop
 place-decimal-requires c κs =
     let l = c .before .before .before .before .before .loop in
-    room-number _ _ _ _ _ _ _ _ _ _ _ (l .inv .3) (c .before .before .before .before .loop-test .taken) (c .before .before .if1 .taken) (c .number-at .result) (c .number-at .ensures) (c .before .before .before .before .before .before .before .before .before .before .pre)
+    room-number _ _ _ _ _ _ _ _ _ _ _ (l .inv .3) (c .before .before .before .before .loop-test .taken) (c .before .before .if1 .taken)
+    (c .number-at .result) (c .number-at .ensures) (c .before .before .before .before .before .before .before .before .before .before .pre)
 
 add-j : tie.Need-add-j Inv-loop μ-loop
 add-j c = omega (arith, c .before .before .before .before .before .before .before .before .loop .inv .1, c .before .before .before .before .before .before .before .loop-test .taken)
-
-loop-less : tie.Need-loop-less Inv-loop μ-loop
-loop-less c = search needs
 
 loop-again : tie.Need-loop-again Inv-loop μ-loop
 loop-again c =
     let l = c .before .before .before .before .before .before .before .before .loop in
     let n = c .before .before .before .number-at in
-    let d = c .before .before .place-decimal in
-    (omega arith, omega (arith, l .inv .1), l .inv .2, filling-number _ _ _ _ _ _ _ _ _ _ _ (l .inv .3) (c .before .before .before .before .before .before .before .loop-test .taken) (c .before .before .before .before .before .if1 .taken) (n .result) (n .ensures) _ _ (d .ensures), placed-length _ _ _ _ _ (d .ensures) ∙ l .inv .4)
+    let d = c .before .before .place-decimal in (
+      omega arith,
+      omega (arith, l .inv .1),
+      l .inv .2,
+      filling-number _ _ _ _ _ _ _ _ _ _ _ (l .inv .3)
+          (c .before .before .before .before .before .before .before .loop-test .taken) (c .before .before .before .before .before .if1 .taken)
+          (n .result) (n .ensures) _ _ (d .ensures),
+      placed-length _ _ _ _ _ (d .ensures) ∙ l .inv .4,
+    )
 
 ring-end-requires : tie.Need-ring-end-requires Inv-loop μ-loop
 ring-end-requires c κs = c .before .before .before .before .loop .inv .2
@@ -54,18 +50,12 @@ ring-end-requires c κs = c .before .before .before .before .loop .inv .2
 sub-place-sectors : tie.Need-sub-place-sectors Inv-loop μ-loop
 sub-place-sectors c = c .before .ring-end .ensures .0
 
-part-place-sectors-start : tie.Need-part-place-sectors-start Inv-loop μ-loop
-part-place-sectors-start c = search needs
-
-part-place-sectors-end : tie.Need-part-place-sectors-end Inv-loop μ-loop
-part-place-sectors-end c = search needs
-
 place-sectors-requires : tie.Need-place-sectors-requires Inv-loop μ-loop
 place-sectors-requires c κs =
-    room-ring _ _ _ _ _ _ _ _ _ _ _ (c .before .before .before .before .before .before .before .loop .inv .3) (c .before .before .before .before .before .before .loop-test .taken) (c .before .before .before .before .if1 .left) (c .before .before .before .if2 .taken) (c .before .before .ring-end .result) (c .before .before .ring-end .ensures) (c .before .before .before .before .before .before .before .before .before .before .before .before .pre)
-
-loop-less-2 : tie.Need-loop-less-2 Inv-loop μ-loop
-loop-less-2 c = search needs
+    room-ring _ _ _ _ _ _ _ _ _ _ _ (c .before .before .before .before .before .before .before .loop .inv .3)
+    (c .before .before .before .before .before .before .loop-test .taken) (c .before .before .before .before .if1 .left)
+    (c .before .before .before .if2 .taken) (c .before .before .ring-end .result) (c .before .before .ring-end .ensures)
+    (c .before .before .before .before .before .before .before .before .before .before .before .before .pre)
 
 loop-again-2 : tie.Need-loop-again-2 Inv-loop μ-loop
 loop-again-2 c =
@@ -75,27 +65,38 @@ loop-again-2 c =
       omega arith,
       omega (arith, l .inv .1),
       e .ensures .1,
-      filling-ring _ _ _ _ _ _ _ _ _ _ _ (l .inv .3) (c .before .before .before .before .before .before .before .before .before .loop-test .taken) (c .before .before .before .before .before .before .before .if1 .left) (c .before .before .before .before .before .before .if2 .taken) (e .result) (e .ensures) _ _ (d .ensures),
+      filling-ring _ _ _ _ _ _ _ _ _ _ _ (l .inv .3) (c .before .before .before .before .before .before .before .before .before .loop-test .taken)
+          (c .before .before .before .before .before .before .before .if1 .left) (c .before .before .before .before .before .before .if2 .taken)
+          (e .result) (e .ensures) _ _ (d .ensures),
       placed-length _ _ _ _ _ (d .ensures) ∙ l .inv .4,
     )
 
 slice-write-buf : tie.Need-slice-write-buf Inv-loop μ-loop
 slice-write-buf c =
     let l = c .before .before .before .before .loop in
-    room-other _ _ _ _ _ _ _ _ _ _ _ (l .inv .3) (c .before .before .before .loop-test .taken) (c .before .if1 .left) (c .if2 .left) (c .before .before .before .before .before .before .before .before .before .pre)
+    room-other _ _ _ _ _ _ _ _ _ _ _ (l .inv .3) (c .before .before .before .loop-test .taken) (c .before .if1 .left) (c .if2 .left)
+    (c .before .before .before .before .before .before .before .before .before .pre)
 
 add-p : tie.Need-add-p Inv-loop μ-loop
 add-p c =
     let l = c .before .before .before .before .loop in
-    omega (arith, l .inv .4, room-other _ _ _ _ _ _ _ _ _ _ _ (l .inv .3) (c .before .before .before .loop-test .taken) (c .before .if1 .left) (c .if2 .left) (c .before .before .before .before .before .before .before .before .before .pre))
-
-loop-less-3 : tie.Need-loop-less-3 Inv-loop μ-loop
-loop-less-3 c = search needs
+    omega (
+      arith,
+      l .inv .4,
+      room-other _ _ _ _ _ _ _ _ _ _ _ (l .inv .3) (c .before .before .before .loop-test .taken) (c .before .if1 .left)
+          (c .if2 .left) (c .before .before .before .before .before .before .before .before .before .pre),
+    )
 
 loop-again-3 : tie.Need-loop-again-3 Inv-loop μ-loop
 loop-again-3 c =
-    let l = c .before .before .before .before .loop in
-    (omega arith, omega (arith, l .inv .1), l .inv .2, filling-other _ _ _ _ _ _ _ _ _ _ _ (l .inv .3) (c .before .before .before .loop-test .taken) (c .before .if1 .left) (c .if2 .left), simp length-set (l .inv .4))
+    let l = c .before .before .before .before .loop in (
+      omega arith,
+      omega (arith, l .inv .1),
+      l .inv .2,
+      filling-other _ _ _ _ _ _ _ _ _ _ _ (l .inv .3) (c .before .before .before .loop-test .taken)
+          (c .before .if1 .left) (c .if2 .left),
+      simp length-set (l .inv .4),
+    )
 
 same-length : tie.Need-same-length Inv-loop μ-loop
 same-length c = c .before .loop .inv .4
@@ -106,27 +107,7 @@ returns c = filling-end _ _ _ _ _ _ _ _ _ _ _ (c .before .loop .inv .3) (c .loop
 pub place-filled-spec : {M : Type 1} → statement M
 place-filled-spec =
     tie.close
-    (tie.spec
-    Inv-loop
-    μ-loop
-    loop-holds
-    shared-slice-read-c
-    add-i
-    number-at-requires
-    place-decimal-requires
-    add-j
-    loop-less
-    loop-again
-    ring-end-requires
-    sub-place-sectors
-    part-place-sectors-start
-    part-place-sectors-end
-    place-sectors-requires
-    loop-less-2
-    loop-again-2
-    slice-write-buf
-    add-p
-    loop-less-3
-    loop-again-3
-    same-length
-    returns)
+    (tie.spec Inv-loop μ-loop loop-holds (λ c. search needs) (λ c. search needs) (λ c κs. search needs)
+    place-decimal-requires add-j (λ c. search needs) loop-again ring-end-requires sub-place-sectors
+    (λ c. search needs) (λ c. search needs) place-sectors-requires (λ c. search needs) loop-again-2 slice-write-buf
+    add-p (λ c. search needs) loop-again-3 same-length returns)

@@ -6,17 +6,11 @@ use borrow.Author.Needs.{needs}
 use Rattle.text_fill_inner.proofs.ring_end.Statement.{statement}
 use Rattle.text_fill_inner.proofs.ring_end.Tie as tie
 
-sub-if1 : tie.Need-sub-if1
-sub-if1 c = search needs
-
 returns : tie.Need-returns
 returns c = (search needs, search needs, inr (refl, omega arith))
-
-add-result : tie.Need-add-result
-add-result c = search needs
 
 returns-2 : tie.Need-returns-2
 returns-2 c = (search needs, search needs, inl refl)
 
 pub ring-end-spec : {M : Type 1} → statement M
-ring-end-spec = tie.close (tie.spec sub-if1 returns add-result returns-2)
+ring-end-spec = tie.close (tie.spec (λ c. search needs) returns (λ c. search needs) returns-2)

@@ -13,9 +13,6 @@ place-filled-requires c κs =
     let known = c .before .before .shared-slice-known2 .given in
     omega (arith, c .before .before .before .before .before .pre, filled-short (a .text .now) (a .numbers .now) (a .n) (a .rings .now) (λ i. omega (arith, known i)))
 
-same-length : tie.Need-same-length
-same-length c = search needs
-
 returns : tie.Need-returns
 returns c =
     let a = c .before .before .before .before .before .before .before .before .args in
@@ -23,4 +20,4 @@ returns c =
     record { short = filled-short (a .text .now) (a .numbers .now) (a .n) (a .rings .now) (λ i. omega (arith, known i)); placed = c .before .before .place-filled .ensures }
 
 pub place-form-spec : {M : Type 1} → statement M
-place-form-spec = tie.close (tie.spec place-filled-requires same-length returns)
+place-form-spec = tie.close (tie.spec place-filled-requires (λ c. search needs) returns)

@@ -6,9 +6,6 @@ use Rattle.text_spec.proofs.Put.{length-refused, placed-length, placed-append}
 use Rattle.text_lines_inner.proofs.place_refused.Statement.{statement}
 use Rattle.text_lines_inner.proofs.place_refused.Tie as tie
 
-slice-aggregate-place-text : tie.Need-slice-aggregate-place-text
-slice-aggregate-place-text c = search needs
-
 place-text-requires : tie.Need-place-text-requires
 place-text-requires c κs =
     let a = c .before .before .before .args in
@@ -19,9 +16,6 @@ place-decimal-requires c κs =
     let a = c .before .before .before .before .before .before .before .args in
     let p1 = c .before .before .before .place-text .ensures in
     omega (arith, c .before .before .before .before .before .before .before .pre, length-refused (a .x), placed-length _ _ _ _ _ p1)
-
-slice-aggregate-place-text-2 : tie.Need-slice-aggregate-place-text-2
-slice-aggregate-place-text-2 c = search needs
 
 place-text-requires-2 : tie.Need-place-text-requires-2
 place-text-requires-2 c κs =
@@ -49,11 +43,5 @@ returns c =
 pub place-refused-spec : {M : Type 1} → statement M
 place-refused-spec =
     tie.close
-    (tie.spec
-    slice-aggregate-place-text
-    place-text-requires
-    place-decimal-requires
-    slice-aggregate-place-text-2
-    place-text-requires-2
-    same-length
-    returns)
+    (tie.spec (λ c. search needs) place-text-requires place-decimal-requires (λ c. search needs) place-text-requires-2
+    same-length returns)

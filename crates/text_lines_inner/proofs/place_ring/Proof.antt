@@ -43,51 +43,57 @@ add-place-decimal-2 c =
     let g = c .before .before .before .before .before .before .before .before .before .before .before in
     let a = g .args in
     let l = length-ring (a .ring .now) (a .moves) (a .period) in
-    omega (arith, room-second _ _ (a .ring .now) _ _ (c .before .before .before .before .before .before .before .place-sectors .ensures) _ _ _ (c .before .before .before .place-decimal .ensures) (omega (arith, g .pre, l)) .0)
+    omega (
+      arith,
+      room-second _ _ (a .ring .now) _ _ (c .before .before .before .before .before .before .before .place-sectors .ensures) _ _ _
+          (c .before .before .before .place-decimal .ensures) (omega (arith, g .pre, l)) .0,
+    )
 
 place-decimal-requires-2 : tie.Need-place-decimal-requires-2
 place-decimal-requires-2 c κs =
     let g = c .before .before .before .before .before .before .before .before .before .before .before in
     let a = g .args in
     let l = length-ring (a .ring .now) (a .moves) (a .period) in
-    room-period _ _ (a .ring .now) _ _ (c .before .before .before .before .before .before .before .place-sectors .ensures) _ _ _ (c .before .before .before .place-decimal .ensures) _ (omega (arith, g .pre, l))
+    room-period _ _ (a .ring .now) _ _ (c .before .before .before .before .before .before .before .place-sectors .ensures) _ _ _
+    (c .before .before .before .place-decimal .ensures) _ (omega (arith, g .pre, l))
 
 slice-write-buf-3 : tie.Need-slice-write-buf-3
 slice-write-buf-3 c =
     let g = c .before .before .before .before .before .before .before .before .before .before .before .before .before .before in
     let a = g .args in
     let l = length-ring (a .ring .now) (a .moves) (a .period) in
-    room-end _ _ (a .ring .now) _ _ (c .before .before .before .before .before .before .before .before .before .before .place-sectors .ensures) _ _ _ (c .before .before .before .before .before .before .place-decimal .ensures) _ _ _ (c .before .before .place-decimal2 .ensures) (omega (arith, g .pre, l)) .1
+    room-end _ _ (a .ring .now) _ _ (c .before .before .before .before .before .before .before .before .before .before .place-sectors .ensures) _ _ _
+    (c .before .before .before .before .before .before .place-decimal .ensures) _ _ _ (c .before .before .place-decimal2 .ensures)
+    (omega (arith, g .pre, l)) .1
 
 add-result : tie.Need-add-result
 add-result c =
     let g = c .before .before .before .before .before .before .before .before .before .before .before .before .before .before in
     let a = g .args in
     let l = length-ring (a .ring .now) (a .moves) (a .period) in
-    omega (arith, room-end _ _ (a .ring .now) _ _ (c .before .before .before .before .before .before .before .before .before .before .place-sectors .ensures) _ _ _ (c .before .before .before .before .before .before .place-decimal .ensures) _ _ _ (c .before .before .place-decimal2 .ensures) (omega (arith, g .pre, l)) .0)
+    omega (
+      arith,
+      room-end _ _ (a .ring .now) _ _
+          (c .before .before .before .before .before .before .before .before .before .before .place-sectors .ensures) _ _ _
+          (c .before .before .before .before .before .before .place-decimal .ensures) _ _ _ (c .before .before .place-decimal2 .ensures)
+          (omega (arith, g .pre, l)) .0,
+    )
 
 same-length : tie.Need-same-length
 same-length c =
     let a = c .before .before .before .before .before .before .before .before .before .before .before .before .before .before .args in
-    placed-length _ _ _ _ _ (placed-ring _ _ (a .ring .now) _ _ (c .before .before .before .before .before .before .before .before .before .before .place-sectors .ensures) _ _ _ (c .before .before .before .before .before .before .place-decimal .ensures) _ _ _ (c .before .before .place-decimal2 .ensures))
+    placed-length _ _ _ _ _ (placed-ring _ _ (a .ring .now) _ _
+    (c .before .before .before .before .before .before .before .before .before .before .place-sectors .ensures) _ _ _
+    (c .before .before .before .before .before .before .place-decimal .ensures) _ _ _ (c .before .before .place-decimal2 .ensures))
 
 returns : tie.Need-returns
 returns c =
     let a = c .before .before .before .before .before .before .before .before .before .before .before .before .before .before .args in
-    placed-ring _ _ (a .ring .now) _ _ (c .before .before .before .before .before .before .before .before .before .before .place-sectors .ensures) _ _ _ (c .before .before .before .before .before .before .place-decimal .ensures) _ _ _ (c .before .before .place-decimal2 .ensures)
+    placed-ring _ _ (a .ring .now) _ _ (c .before .before .before .before .before .before .before .before .before .before .place-sectors .ensures) _ _
+    _ (c .before .before .before .before .before .before .place-decimal .ensures) _ _ _ (c .before .before .place-decimal2 .ensures)
 
 pub place-ring-spec : {M : Type 1} → statement M
 place-ring-spec =
     tie.close
-    (tie.spec
-    place-sectors-requires
-    slice-write-buf
-    add-place-decimal
-    place-decimal-requires
-    slice-write-buf-2
-    add-place-decimal-2
-    place-decimal-requires-2
-    slice-write-buf-3
-    add-result
-    same-length
-    returns)
+    (tie.spec place-sectors-requires slice-write-buf add-place-decimal place-decimal-requires slice-write-buf-2
+    add-place-decimal-2 place-decimal-requires-2 slice-write-buf-3 add-result same-length returns)

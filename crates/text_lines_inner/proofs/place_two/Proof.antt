@@ -22,7 +22,14 @@ place-text-requires-2 c κs =
     let a = c .before .before .before .before .before .before .before .before .before .before .before .before .args in
     let p1 = c .before .before .before .before .before .before .before .place-text .ensures in
     let p2 = c .before .before .before .place-decimal .ensures in
-    omega (arith, c .before .before .before .before .before .before .before .before .before .before .before .before .pre, length-two (a .head .now) (a .x) (a .middle .now) (a .y), placed-length _ _ _ _ _ p1, placed-length _ _ _ _ _ p2)
+    omega (
+      arith,
+      c .before .before .before .before .before .before .before .before .before .before .before .before .pre,
+      length-two (a .head .now)
+          (a .x) (a .middle .now) (a .y),
+      placed-length _ _ _ _ _ p1,
+      placed-length _ _ _ _ _ p2,
+    )
 
 place-decimal-requires-2 : tie.Need-place-decimal-requires-2
 place-decimal-requires-2 c κs =
@@ -31,9 +38,6 @@ place-decimal-requires-2 c κs =
     let p2 = c .before .before .before .before .before .before .before .place-decimal .ensures in
     let p3 = c .before .before .before .place-text2 .ensures in
     omega (arith, c .before .before .before .before .before .before .before .before .before .before .before .before .before .before .before .before .pre, length-two (a .head .now) (a .x) (a .middle .now) (a .y), placed-length _ _ _ _ _ p1, placed-length _ _ _ _ _ p2, placed-length _ _ _ _ _ p3)
-
-slice-aggregate-place-text : tie.Need-slice-aggregate-place-text
-slice-aggregate-place-text c = search needs
 
 place-text-requires-3 : tie.Need-place-text-requires-3
 place-text-requires-3 c κs =
@@ -67,12 +71,5 @@ returns c =
 pub place-two-spec : {M : Type 1} → statement M
 place-two-spec =
     tie.close
-    (tie.spec
-    place-text-requires
-    place-decimal-requires
-    place-text-requires-2
-    place-decimal-requires-2
-    slice-aggregate-place-text
-    place-text-requires-3
-    same-length
-    returns)
+    (tie.spec place-text-requires place-decimal-requires place-text-requires-2 place-decimal-requires-2
+    (λ c. search needs) place-text-requires-3 same-length returns)

@@ -8,24 +8,18 @@ use Rattle.text_lines_inner.proofs.place_zero_ring.Tie as tie
 place-sectors-requires : tie.Need-place-sectors-requires
 place-sectors-requires c κs = let g = c .before .before .before in omega (arith, g .pre, length-ring (g .args .ring .now) 0 1)
 
-slice-aggregate-place-text : tie.Need-slice-aggregate-place-text
-slice-aggregate-place-text c = search needs
-
 place-text-requires : tie.Need-place-text-requires
-place-text-requires c κs = let g = c .before .before .before .before .before .before .before .before in let a = g .args in zero-room (a .buf .now) (a .at) (a .ring .now) (g .pre) _ _ (c .before .before .before .before .place-sectors .ensures)
-
-same-length : tie.Need-same-length
-same-length c = search needs
+place-text-requires c κs =
+    let g = c .before .before .before .before .before .before .before .before in let a = g .args in
+    zero-room (a .buf .now) (a .at) (a .ring .now) (g .pre) _ _ (c .before .before .before .before .place-sectors .ensures)
 
 returns : tie.Need-returns
-returns c = let g = c .before .before .before .before .before .before .before .before .before .before .before in let a = g .args in placed-zero (a .buf .now) (a .at) (a .ring .now) (g .pre) _ _ (c .before .before .before .before .before .before .before .place-sectors .ensures) _ _ (c .before .before .place-text .ensures)
+returns c =
+    let g = c .before .before .before .before .before .before .before .before .before .before .before in let a = g .args in
+    placed-zero (a .buf .now) (a .at) (a .ring .now) (g .pre) _ _ (c .before .before .before .before .before .before .before .place-sectors .ensures)
+    _ _ (c .before .before .place-text .ensures)
 
 pub place-zero-ring-spec : {M : Type 1} → statement M
 place-zero-ring-spec =
     tie.close
-    (tie.spec
-    place-sectors-requires
-    slice-aggregate-place-text
-    place-text-requires
-    same-length
-    returns)
+    (tie.spec place-sectors-requires (λ c. search needs) place-text-requires (λ c. search needs) returns)

@@ -21,28 +21,26 @@ returns c = let a = c .before .args in sym (differ-long (a .a .now) (a .b .now) 
 loop-holds : tie.Need-loop-holds Inv-loop μ-loop
 loop-holds c = (omega arith, refl, search needs, λ j h. absurd (omega arith))
 
-shared-slice-read-if2 : tie.Need-shared-slice-read-if2 Inv-loop μ-loop
-shared-slice-read-if2 c = search needs
-
 shared-slice-read-if2-2 : tie.Need-shared-slice-read-if2-2 Inv-loop μ-loop
 shared-slice-read-if2-2 c = omega (arith, c .before .before .before .loop .inv .2)
 
 returns-2 : tie.Need-returns-2 Inv-loop μ-loop
 returns-2 c = let a = c .before .before .before .before .before .before .args in sym (differ-at (a .a .now) (a .b .now) (c .before .before .before .before .loop .i) (c .if2 .taken))
 
-add-i : tie.Need-add-i Inv-loop μ-loop
-add-i c = search needs
-
-loop-less : tie.Need-loop-less Inv-loop μ-loop
-loop-less c = search needs
-
 loop-again : tie.Need-loop-again Inv-loop μ-loop
-loop-again c =
-    (omega arith, c .before .before .before .before .loop .inv .1, c .before .before .before .before .loop .inv .2, agree-on (c .before .before .before .before .before .before .args .a .now) (c .before .before .before .before .before .before .args .b .now) (c .before .before .before .before .loop .i) (c .before .before .before .before .loop .inv .3) (c .if2 .left))
+loop-again c = (
+  omega arith,
+  c .before .before .before .before .loop .inv .1,
+  c .before .before .before .before .loop .inv .2,
+  agree-on
+      (c .before .before .before .before .before .before .args .a .now) (c .before .before .before .before .before .before .args .b .now)
+      (c .before .before .before .before .loop .i) (c .before .before .before .before .loop .inv .3) (c .if2 .left),
+)
 
 returns-3 : tie.Need-returns-3 Inv-loop μ-loop
 returns-3 c =
     sym (agree-all (c .before .before .before .args .a .now) (c .before .before .before .args .b .now) (c .before .loop .i) (c .before .loop .inv .2) (c .loop-test .left) (c .before .loop .inv .3))
 
 pub same-text-spec : {M : Type 1} → statement M
-same-text-spec = tie.close (tie.spec Inv-loop μ-loop returns loop-holds shared-slice-read-if2 shared-slice-read-if2-2 returns-2 add-i loop-less loop-again returns-3)
+same-text-spec = tie.close (tie.spec Inv-loop μ-loop returns loop-holds (λ c. search needs) shared-slice-read-if2-2
+    returns-2 (λ c. search needs) (λ c. search needs) loop-again returns-3)

@@ -18,31 +18,27 @@ abbrev μ-loop : tie.MeasureT-loop
 loop-holds : tie.Need-loop-holds Inv-loop μ-loop
 loop-holds c = (omega arith, c .before .before .pre, λ j h. absurd (omega arith))
 
-shared-slice-read-value-of : tie.Need-shared-slice-read-value-of Inv-loop μ-loop
-shared-slice-read-value-of c = search needs
-
-value-of-requires : tie.Need-value-of-requires Inv-loop μ-loop
-value-of-requires c κs = search needs
-
 same-length : tie.Need-same-length Inv-loop μ-loop
 same-length c = c .before .before .before .before .loop .inv .1 ∙ sym (c .before .before .before .before .before .before .before .pre)
 
 returns : tie.Need-returns Inv-loop μ-loop
 returns c =
-    upto-not (c .before .before .before .before .before .before .before .args .t .now) (c .before .before .before .before .loop .i) (c .before .value-of .result) (c .before .before .before .loop-test .taken) (c .if1 .taken) (c .before .value-of .ensures)
+    upto-not (c .before .before .before .before .before .before .before .args .t .now) (c .before .before .before .before .loop .i)
+    (c .before .value-of .result) (c .before .before .before .loop-test .taken) (c .if1 .taken) (c .before .value-of .ensures)
 
 slice-write-out : tie.Need-slice-write-out Inv-loop μ-loop
 slice-write-out c = omega (arith, c .before .before .before .before .loop .inv .1, c .before .before .before .loop-test .taken)
 
-add-i : tie.Need-add-i Inv-loop μ-loop
-add-i c = search needs
-
-loop-less : tie.Need-loop-less Inv-loop μ-loop
-loop-less c = search needs
-
 loop-again : tie.Need-loop-again Inv-loop μ-loop
-loop-again c =
-    (omega arith, simp length-set (c .before .before .before .before .loop .inv .1), upto-on (c .before .before .before .before .before .before .before .args .t .now) (c .before .before .before .before .loop .out) (c .before .before .before .before .loop .i) (c .before .value-of .result) (omega (arith, c .before .before .before .before .loop .inv .1, c .before .before .before .loop-test .taken)) (c .before .before .before .before .loop .inv .2) (c .if1 .left) (c .before .value-of .ensures))
+loop-again c = (
+  omega arith,
+  simp length-set (c .before .before .before .before .loop .inv .1),
+  upto-on
+      (c .before .before .before .before .before .before .before .args .t .now) (c .before .before .before .before .loop .out)
+      (c .before .before .before .before .loop .i) (c .before .value-of .result)
+      (omega (arith, c .before .before .before .before .loop .inv .1, c .before .before .before .loop-test .taken))
+      (c .before .before .before .before .loop .inv .2) (c .if1 .left) (c .before .value-of .ensures),
+)
 
 same-length-2 : tie.Need-same-length-2 Inv-loop μ-loop
 same-length-2 c = c .before .loop .inv .1 ∙ sym (c .before .before .before .before .pre)
@@ -51,4 +47,5 @@ returns-2 : tie.Need-returns-2 Inv-loop μ-loop
 returns-2 c = spelt-all (c .before .before .before .before .args .t .now) (c .before .loop .out) (c .before .loop .inv .1) (λ i h. c .before .loop .inv .2 i (omega (arith, c .loop-test .left)))
 
 pub spell-spec : {M : Type 1} → statement M
-spell-spec = tie.close (tie.spec Inv-loop μ-loop loop-holds shared-slice-read-value-of value-of-requires same-length returns slice-write-out add-i loop-less loop-again same-length-2 returns-2)
+spell-spec = tie.close (tie.spec Inv-loop μ-loop loop-holds (λ c. search needs) (λ c κs. search needs) same-length
+    returns slice-write-out (λ c. search needs) (λ c. search needs) loop-again same-length-2 returns-2)

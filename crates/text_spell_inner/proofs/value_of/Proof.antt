@@ -14,9 +14,6 @@ returns-2 c = digit-low (c .before .before .args .c) (c .before .if1 .left) (c .
 returns-3 : tie.Need-returns-3
 returns-3 c = digit-between (c .before .before .before .args .c) (c .before .if2 .left) (c .if3 .taken)
 
-sub-result : tie.Need-sub-result
-sub-result c = search needs
-
 returns-4 : tie.Need-returns-4
 returns-4 c = digit-high (c .before .before .before .before .args .c) (c .before .if3 .left) (c .if4 .taken)
 
@@ -24,4 +21,4 @@ returns-5 : tie.Need-returns-5
 returns-5 c = digit-above (c .before .before .before .before .args .c) (c .if4 .left)
 
 pub value-of-spec : {M : Type 1} → statement M
-value-of-spec = tie.close (tie.spec returns returns-2 returns-3 sub-result returns-4 returns-5)
+value-of-spec = tie.close (tie.spec returns returns-2 returns-3 (λ c. search needs) returns-4 returns-5)
