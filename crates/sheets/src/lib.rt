@@ -33,8 +33,8 @@ fn fitting(size: usize, columns: usize) -> bool
     true
 }
 
-// The checks of a target, for a buffer of `room` bytes.
-fn check_target(sheet: Sheet, ring: &[u8], i: usize, room: usize) -> Checked
+// The checks of a target, for a buffer of `room` bytes: for a caller that will have all of a sheet or nothing.
+pub fn check_target(sheet: Sheet, ring: &[u8], i: usize, room: usize) -> Checked
     ensures { λ r. ⌜ CheckSays (sheetOrder sheet (now (ring .entry)) i room) r ⌝ }
 {
     match check_readings_inner::check_reading(ring, sheet.k) {

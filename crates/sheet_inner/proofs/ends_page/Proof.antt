@@ -4,17 +4,8 @@ use borrow.Author.Needs.{needs}
 use Rattle.sheet_inner.proofs.ends_page.Statement.{statement}
 use Rattle.sheet_inner.proofs.ends_page.Tie as tie
 
-returns : tie.Need-returns
-returns c = search needs
-
-add-result : tie.Need-add-result
-add-result c = search needs
-
-rem-result : tie.Need-rem-result
-rem-result c = search needs
-
 returns-2 : tie.Need-returns-2
 returns-2 c = rw (c .if1 .left) refl
 
 pub ends-page-spec : {M : Type 1} → statement M
-ends-page-spec = tie.close (tie.spec returns add-result rem-result returns-2)
+ends-page-spec = tie.close (tie.spec (λ c. search needs) (λ c. search needs) (λ c. search needs) returns-2)

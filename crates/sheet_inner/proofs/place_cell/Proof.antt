@@ -8,12 +8,6 @@ use borrow.Author.Needs.{needs}
 use Rattle.sheet_inner.proofs.place_cell.Statement.{statement}
 use Rattle.sheet_inner.proofs.place_cell.Tie as tie
 
-per-page-requires : tie.Need-per-page-requires
-per-page-requires c κs = search needs
-
-rem-j : tie.Need-rem-j
-rem-j c = search needs
-
 across-of-requires : tie.Need-across-of-requires
 across-of-requires c κs = (c .before .before .before .pre .1 .1 .0, omega (arith, mod-lt (c .before .before .before .args .i) (c .per-page .ensures .1), c .per-page .ensures .2))
 
@@ -28,22 +22,10 @@ down-of-requires c κs = (
   ),
 )
 
-place-cell-head-requires : tie.Need-place-cell-head-requires
-place-cell-head-requires c κs = search needs
-
 place-ring-requires : tie.Need-place-ring-requires
 place-ring-requires c κs =
     let z = c .before .before .before .before .before .before .before .before .before .before .pre in
     ((z .0 .0, z .0 .1, z .0 .2, z .0 .3), (z .1 .0, fits-room (c .before .before .before .place-cell-head .ensures) 16384 (omega (arith, z .1 .1 .1))))
-
-place-tail-requires : tie.Need-place-tail-requires
-place-tail-requires c κs = search needs
-
-place-cell-foot-requires : tie.Need-place-cell-foot-requires
-place-cell-foot-requires c κs = search needs
-
-same-length : tie.Need-same-length
-same-length c = search needs
 
 returns : tie.Need-returns
 returns c =
@@ -57,14 +39,5 @@ returns c =
 pub place-cell-spec : {M : Type 1} → statement M
 place-cell-spec =
     tie.close
-    (tie.spec
-    per-page-requires
-    rem-j
-    across-of-requires
-    down-of-requires
-    place-cell-head-requires
-    place-ring-requires
-    place-tail-requires
-    place-cell-foot-requires
-    same-length
-    returns)
+    (tie.spec (λ c κs. search needs) (λ c. search needs) across-of-requires down-of-requires (λ c κs. search needs)
+    place-ring-requires (λ c κs. search needs) (λ c κs. search needs) (λ c. search needs) returns)

@@ -7,18 +7,9 @@ use Rattle.sheet_inner.proofs.place_closing.Tie as tie
 returns : tie.Need-returns
 returns c = fits-skip 320 _ _ _ _ (c .if1 .taken)
 
-add-place-foot : tie.Need-add-place-foot
-add-place-foot c = search needs
-
-place-foot-requires : tie.Need-place-foot-requires
-place-foot-requires c κs = search needs
-
-same-length : tie.Need-same-length
-same-length c = search needs
-
 returns-2 : tie.Need-returns-2
 returns-2 c = fits-where 320 _ _ _ _ _ _ (c .before .before .before .before .if1 .left) (c .before .before .place-foot .ensures)
 
 pub place-closing-spec : {M : Type 1} → statement M
 place-closing-spec =
-    tie.close (tie.spec returns add-place-foot place-foot-requires same-length returns-2)
+    tie.close (tie.spec returns (λ c. search needs) (λ c κs. search needs) (λ c. search needs) returns-2)

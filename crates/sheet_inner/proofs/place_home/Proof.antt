@@ -51,9 +51,6 @@ place-cell-requires c κs =
       (turned-below w _ l _ (take-at _ _ (length w) v ∙ t) _ (z .0 .2) (z .1 .0), z .1 .1),
     )
 
-same-length : tie.Need-same-length
-same-length c = search needs
-
 returns : tie.Need-returns
 returns c =
     let w = c .before .before .before .before .before .before .before .before .before .before .before .args .ring .now in
@@ -67,13 +64,5 @@ returns c =
 pub place-home-spec : {M : Type 1} → statement M
 place-home-spec =
     tie.close
-    (tie.spec
-    least-shift-requires
-    array-borrow-prefix-turned
-    slice-aggregate-write-turn
-    write-turn-requires
-    array-share-prefix-turned
-    slice-aggregate-place-cell
-    place-cell-requires
-    same-length
-    returns)
+    (tie.spec least-shift-requires array-borrow-prefix-turned slice-aggregate-write-turn write-turn-requires
+    array-share-prefix-turned slice-aggregate-place-cell place-cell-requires (λ c. search needs) returns)

@@ -9,17 +9,9 @@ use Rattle.sheet_inner.proofs.place_opening.Tie as tie
 returns : tie.Need-returns
 returns c = fits-skip 320 _ _ _ _ (c .if1 .taken)
 
-slice-aggregate-place-text : tie.Need-slice-aggregate-place-text
-slice-aggregate-place-text c = search needs
-
-place-text-requires : tie.Need-place-text-requires
-place-text-requires c κs = search needs
-
-same-length : tie.Need-same-length
-same-length c = search needs
-
 returns-2 : tie.Need-returns-2
 returns-2 c = fits-where 320 _ _ _ _ _ _ (c .before .before .before .before .before .if1 .left) (record { short = omega arith; placed = c .before .before .place-text .ensures })
 
 pub place-opening-spec : {M : Type 1} → statement M
-place-opening-spec = tie.close (tie.spec returns slice-aggregate-place-text place-text-requires same-length returns-2)
+place-opening-spec = tie.close (tie.spec returns (λ c. search needs) (λ c κs. search needs) (λ c. search needs)
+    returns-2)

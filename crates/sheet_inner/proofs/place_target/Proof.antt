@@ -8,25 +8,10 @@ use borrow.Author.Needs.{needs}
 use Rattle.sheet_inner.proofs.place_target.Statement.{statement}
 use Rattle.sheet_inner.proofs.place_target.Tie as tie
 
-per-page-requires : tie.Need-per-page-requires
-per-page-requires c κs = search needs
-
-rem-place-opening : tie.Need-rem-place-opening
-rem-place-opening c = search needs
-
-place-opening-requires : tie.Need-place-opening-requires
-place-opening-requires c κs = search needs
-
 place-home-requires : tie.Need-place-home-requires
 place-home-requires c κs =
     let z = c .before .before .before .before .before .before .before .before .pre in
     (z .0, (z .1 .0, (z .1 .1 .0, fits-room (c .before .before .before .place-opening .ensures) 17792 (omega (arith, z .1 .1 .1)))))
-
-ends-page-requires : tie.Need-ends-page-requires
-ends-page-requires c κs = search needs
-
-div-place-closing : tie.Need-div-place-closing
-div-place-closing c = search needs
 
 place-closing-requires : tie.Need-place-closing-requires
 place-closing-requires c κs =
@@ -41,9 +26,6 @@ place-closing-requires c κs =
           (omega (arith, z .1 .1 .1)),
     )
 
-same-length : tie.Need-same-length
-same-length c = search needs
-
 returns : tie.Need-returns
 returns c =
     let w = c .before .before .before .before .before .before .before .before .before .before .before .before .before .before .before .before .args .ring .now in
@@ -55,13 +37,5 @@ returns c =
 pub place-target-spec : {M : Type 1} → statement M
 place-target-spec =
     tie.close
-    (tie.spec
-    per-page-requires
-    rem-place-opening
-    place-opening-requires
-    place-home-requires
-    ends-page-requires
-    div-place-closing
-    place-closing-requires
-    same-length
-    returns)
+    (tie.spec (λ c κs. search needs) (λ c. search needs) (λ c κs. search needs) place-home-requires
+    (λ c κs. search needs) (λ c. search needs) place-closing-requires (λ c. search needs) returns)

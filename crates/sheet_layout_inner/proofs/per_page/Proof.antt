@@ -8,15 +8,6 @@ use borrow.Author.Needs.{needs}
 use Rattle.sheet_layout_inner.proofs.per_page.Statement.{statement}
 use Rattle.sheet_layout_inner.proofs.per_page.Tie as tie
 
-mul-rows : tie.Need-mul-rows
-mul-rows c = search needs
-
-add-rows : tie.Need-add-rows
-add-rows c = search needs
-
-div-rows : tie.Need-div-rows
-div-rows c = search needs
-
 mul-result : tie.Need-mul-result
 mul-result c =
     let a = c .args in
@@ -28,4 +19,4 @@ returns c =
     (refl, per-some (a .size) (a .columns) (c .pre), per-most (a .size) (a .columns) (c .pre))
 
 pub per-page-spec : {M : Type 1} → statement M
-per-page-spec = tie.close (tie.spec mul-rows add-rows div-rows mul-result returns)
+per-page-spec = tie.close (tie.spec (λ c. search needs) (λ c. search needs) (λ c. search needs) mul-result returns)

@@ -10,12 +10,6 @@ use borrow.Author.Needs.{needs}
 use Rattle.sheets.proofs.check_target.Statement.{statement}
 use Rattle.sheets.proofs.check_target.Tie as tie
 
-check-reading-requires : tie.Need-check-reading-requires
-check-reading-requires c κs = search needs
-
-enum-known-r : tie.Need-enum-known-r
-enum-known-r c = search needs
-
 enum-told : tie.Need-enum-told
 enum-told c = search needs
 
@@ -30,9 +24,6 @@ returns-2 c =
     let a = c .before .before .before .before .before .before .before .args in
     let p : Passed (oneReading (a .ring .now) (a .sheet .k)) = rw (c .before .before .before .enum-told .given .1) at (c .before .before .before .before .before .check-reading .ensures) in
     inl (inl (inr ((p, c .before .if1 .left), (refl, λ h. omega (arith, h, c .if2 .taken)))))
-
-fitting-requires : tie.Need-fitting-requires
-fitting-requires c κs = search needs
 
 returns-3 : tie.Need-returns-3
 returns-3 c =
@@ -84,14 +75,5 @@ returns-6 c =
 pub check-target-spec : {M : Type 1} → statement M
 check-target-spec =
     tie.close
-    (tie.spec
-    check-reading-requires
-    enum-known-r
-    enum-told
-    returns
-    returns-2
-    fitting-requires
-    returns-3
-    returns-4
-    returns-5
-    returns-6)
+    (tie.spec (λ c κs. search needs) (λ c. search needs) enum-told returns returns-2 (λ c κs. search needs) returns-3
+    returns-4 returns-5 returns-6)

@@ -10,12 +10,6 @@ use borrow.Author.Needs.{needs}
 use Rattle.sheets.proofs.target.Statement.{statement}
 use Rattle.sheets.proofs.target.Tie as tie
 
-check-target-requires : tie.Need-check-target-requires
-check-target-requires c κs = search needs
-
-enum-known-r : tie.Need-enum-known-r
-enum-known-r c = search needs
-
 enum-told : tie.Need-enum-told
 enum-told c = search needs
 
@@ -34,9 +28,6 @@ returns c =
     let g : Given (sheetOrder (a .sheet) (a .ring .now) (a .i) (length (a .buf .now))) _ = rw (c .before .r .given .1) at (c .before .before .before .check-target .ensures) in
     (g, refl)
 
-same-length : tie.Need-same-length
-same-length c = search needs
-
 returns-2 : tie.Need-returns-2
 returns-2 c =
     let a = c .before .before .before .before .before .before .before .before .before .args in
@@ -48,11 +39,5 @@ returns-2 c =
 pub target-spec : {M : Type 1} → statement M
 target-spec =
     tie.close
-    (tie.spec
-    check-target-requires
-    enum-known-r
-    enum-told
-    place-target-requires
-    returns
-    same-length
+    (tie.spec (λ c κs. search needs) (λ c. search needs) enum-told place-target-requires returns (λ c. search needs)
     returns-2)

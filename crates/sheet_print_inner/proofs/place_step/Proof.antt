@@ -1,0 +1,58 @@
+-- `sheet_print_inner::place_step` meets its contract.
+use native.Mathlib.Omega.{arith}
+use Rattle.sheet_print_inner.proofs.Ready.{slice-at, step-never}
+use borrow.Author.Needs.{needs}
+use Rattle.sheet_print_inner.proofs.place_step.Statement.{statement}
+use Rattle.sheet_print_inner.proofs.place_step.Tie as tie
+
+mul-from : tie.Need-mul-from
+mul-from c = omega (arith, c .before .before .pre .0 .most, c .before .before .pre .1 .0)
+
+add-to : tie.Need-add-to
+add-to c = omega (arith, c .before .before .pre .0 .most, c .before .before .pre .0 .short, c .before .before .pre .1 .0)
+
+sub-target : tie.Need-sub-target
+sub-target c = omega arith
+
+part-target-start : tie.Need-part-target-start
+part-target-start c = omega arith
+
+part-target-end : tie.Need-part-target-end
+part-target-end c = omega (arith, c .before .before .pre .0 .size, c .before .before .pre .0 .most, c .before .before .pre .0 .short, c .before .before .pre .1 .0)
+
+add-target : tie.Need-add-target
+add-target c = omega (arith, c .before .before .before .pre .0 .most, c .before .before .before .pre .1 .0)
+
+returns : tie.Need-returns
+returns c =
+    rw (
+      slice-at (c .before .before .before .before .before .before .before .before .before .before .args .sheet .n)
+          (c .before .before .before .before .before .before .before .before .before .before .args .i)
+          (c .before .before .before .before .before .before .before .before .before .before .args .places .now),
+      c .before .m .given .1,
+    ) at
+    (c .before .before .before .before .before .target .ensures)
+
+returns-2 : tie.Need-returns-2
+returns-2 c =
+    let s = rw (
+      slice-at (c .before .before .before .before .before .before .before .before .before .args .sheet .n)
+          (c .before .before .before .before .before .before .before .before .before .args .i)
+          (c .before .before .before .before .before .before .before .before .before .args .places .now),
+      c .enum-told .given .1,
+    ) at
+    (c .before .before .before .before .target .ensures) in
+    absurd (step-never (c .before .before .before .before .before .before .before .before .before .args .sheet)
+    (c .before .before .before .before .before .before .before .before .before .args .places .now)
+    (c .before .before .before .before .before .before .before .before .before .args .count)
+    (c .before .before .before .before .before .before .before .before .before .args .i)
+    (c .before .before .before .before .before .before .before .before .before .pre .1 .0 .0)
+    (c .before .before .before .before .before .before .before .before .before .args .buf .now)
+    (c .before .before .before .before .before .before .before .before .before .pre .1 .0 .1)
+    (c .before .before .before .before .before .before .before .before .before .pre .1 .1) (c .enum-told .given .0 .0) (s .0))
+
+pub place-step-spec : {M : Type 1} → statement M
+place-step-spec =
+    tie.close
+    (tie.spec mul-from add-to sub-target part-target-start part-target-end add-target (λ c κs. search needs)
+    (λ c. search needs) (λ c. search needs) (λ c. search needs) returns (λ c. search needs) returns-2)

@@ -1,0 +1,2 @@
+-- That an input prints one text (Unique).
+pub mod Unique

@@ -1,0 +1,2 @@
+-- What the command for a sheet reads and prints (Prints).
+pub mod Prints

@@ -1,0 +1,1 @@
+// What the command for a sheet reads and prints. No functions.

@@ -1,0 +1,2 @@
+-- The words of a line one after another (Reading).
+pub mod Reading
