@@ -4,6 +4,7 @@
 --     picked-places                   the places of a set that was picked
 --     judge-refused, judge-none, judge-checked    what is ready, or printed instead
 --     no-input, not-read, own-rings, prepared     what an input asks for
+--     step-placed                     a target that is placed
 --     step-never                      no target of a sheet that is ready is refused
 --     steps-sheet, steps-printed      the steps one after another are the sheet, and what the input prints
 use Prim.Native.Nat.{ℕ, zero, suc, _+_, _-_, _*_, _<_, _≤_}
@@ -32,12 +33,13 @@ use Rattle.guard_spec.specs.Choice.{chosenBy}
 use Rattle.set_pick_spec.specs.Order.{setOrder}
 use Rattle.set_pick_spec.specs.Says.{SetChosen, SetAnswers}
 use Rattle.set_pick_spec.proofs.Worth.{rule-most, rule-set}
+use Rattle.picture_spec.specs.declared.Drawn.{Drawn}
 use Rattle.sheet_spec.specs.declared.Source.{Source}
 use Rattle.sheet_spec.specs.declared.Source.the-variants as S
 use Rattle.sheet_spec.specs.declared.Sheet.{Sheet}
 use Rattle.sheet_spec.specs.Text.{sheetText, sheetFrom}
 use Rattle.sheet_spec.specs.Text as text
-use Rattle.sheet_spec.specs.Says.{targetRoom, sheetOrder}
+use Rattle.sheet_spec.specs.Says.{targetRoom, sheetOrder, TargetSays}
 use Rattle.sheet_laws.specs.Placing.{Placing, all, then}
 use Rattle.sheet_laws.proofs.Placing.{placing-sheet}
 use Rattle.sheet_words_spec.proofs.Unique.{one-sheet}
@@ -156,6 +158,11 @@ pub prepared-none : (s : List ℕ) (o : Sheet) (p : List ℕ) (t : ℕ) (v : Che
 prepared-none s o p t v e x = rw e x
 
 -- ---- a step
+
+-- what the call says of its slice, said of the place
+pub step-placed : (o : Sheet) (p : List ℕ) (i : ℕ) (last : Bool) (b : List ℕ) (d e : Drawn) (b′ : List ℕ) →
+    TargetSays o (take (24 * i + o .n - 24 * i) (drop (24 * i) p)) i last b d b′ → d ≡ e → TargetSays o (placeAt (o .n) p i) i last b e b′
+step-placed o p i last b d e b′ s q = rw (slice-at (o .n) i p, q) at s
 
 module _ (o : Sheet) (p : List ℕ) (t i : ℕ) (h : i < t) (b : List ℕ) (room : targetRoom ≤ length b) (pass : Passed (targetOrder o (setIn (o .n) p t) i)) where
   in-room : Passed (sheetOrder o (placeAt (o .n) p i) i (length b))

@@ -1,6 +1,7 @@
 -- `sheet_print_inner::place_step` meets its contract.
 use native.Mathlib.Omega.{arith}
-use Rattle.sheet_print_inner.proofs.Ready.{slice-at, step-never}
+use Rattle.picture_spec.specs.declared.Drawn.the-variants.{Whole, Refused}
+use Rattle.sheet_print_inner.proofs.Ready.{step-placed, step-never}
 use borrow.Author.Needs.{needs}
 use Rattle.sheet_print_inner.proofs.place_step.Statement.{statement}
 use Rattle.sheet_print_inner.proofs.place_step.Tie as tie
@@ -25,23 +26,21 @@ add-target c = omega (arith, c .before .before .before .pre .0 .most, c .before 
 
 returns : tie.Need-returns
 returns c =
-    rw (
-      slice-at (c .before .before .before .before .before .before .before .before .before .before .args .sheet .n)
-          (c .before .before .before .before .before .before .before .before .before .before .args .i)
-          (c .before .before .before .before .before .before .before .before .before .before .args .places .now),
-      c .before .m .given .1,
-    ) at
-    (c .before .before .before .before .before .target .ensures)
+    step-placed (c .before .before .before .before .before .before .before .before .before .before .args .sheet)
+    (c .before .before .before .before .before .before .before .before .before .before .args .places .now)
+    (c .before .before .before .before .before .before .before .before .before .before .args .i) _
+    (c .before .before .before .before .before .before .before .before .before .before .args .buf .now)
+    (c .before .before .before .before .before .target .result) (Whole (c .before .m .given .0 .0)) _
+    (c .before .before .before .before .before .target .ensures) (c .before .m .given .1)
 
 returns-2 : tie.Need-returns-2
 returns-2 c =
-    let s = rw (
-      slice-at (c .before .before .before .before .before .before .before .before .before .args .sheet .n)
-          (c .before .before .before .before .before .before .before .before .before .args .i)
-          (c .before .before .before .before .before .before .before .before .before .args .places .now),
-      c .enum-told .given .1,
-    ) at
-    (c .before .before .before .before .target .ensures) in
+    let s = step-placed (c .before .before .before .before .before .before .before .before .before .args .sheet)
+    (c .before .before .before .before .before .before .before .before .before .args .places .now)
+    (c .before .before .before .before .before .before .before .before .before .args .i) _
+    (c .before .before .before .before .before .before .before .before .before .args .buf .now)
+    (c .before .before .before .before .target .result) (Refused (c .enum-told .given .0 .0)) _
+    (c .before .before .before .before .target .ensures) (c .enum-told .given .1) in
     absurd (step-never (c .before .before .before .before .before .before .before .before .before .args .sheet)
     (c .before .before .before .before .before .before .before .before .before .args .places .now)
     (c .before .before .before .before .before .before .before .before .before .args .count)
