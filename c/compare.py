@@ -275,6 +275,12 @@ def desk(line):
         a = rings.sight(others, r, k, most)
         return a.kind if a.target is None else f"{a.kind} {a.target} turned {a.shift} misread {a.misread}"
 
+    def shaded(k, dark, light, *values):
+        if len(values) > 1:
+            return "ring " + shown(rings.ring_shades(values, k, dark, light))
+        s = rings.sector_shade(values[0], k, dark, light)
+        return f"outside {struct.pack('>f', s.value).hex()}" if s.kind == "outside" else f"shade {s.value}" if s.kind == "shade" else s.kind
+
     def bracelet(k, r):
         v = rings.next_bracelet(r, k)
         return f"next {shown(v)}" if v is not None else "done"
@@ -293,6 +299,8 @@ def desk(line):
             return [told(two[verb], decimal(words[0]), digits(words[1]), digits(words[2]))]
         if verb == "sight" and len(words) > 2:
             return [told(sighted, decimal(words[0]), decimal(words[1]), *(digits(x) for x in words[2:]))]
+        if verb == "shade" and len(words) > 3 and all(len(x) == 8 and digits(x) for x in words[1:]):
+            return [told(shaded, decimal(words[0]), *(bits(x) for x in words[1:]))]
         if verb == "many" and len(words) == 2:
             k, n = map(decimal, words)
             return [told(lambda: f"{rings.necklaces(k, n)} {rings.lyndon_words(k, n)}")]

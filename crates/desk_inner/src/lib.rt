@@ -84,7 +84,8 @@ fn strip_of(t: &[u8]) -> Found
 fn camera_of(t: &[u8]) -> Found
     ensures { λ r. ⌜ r ≡ cameraOf (now (t .entry)) ⌝ }
 {
-    or_named(t, b"sight", Verb::Sight, Found::Unknown)
+    let b = or_named(t, b"shade", Verb::Shade, Found::Unknown);
+    or_named(t, b"sight", Verb::Sight, b)
 }
 
 fn shades_of(t: &[u8]) -> Found
@@ -126,6 +127,7 @@ fn place_verb(v: Verb, t: &[u8], buf: &mut [u8], at: usize) -> usize
         Verb::Sight => desk_sight_inner::place_sight(t, buf, at),
         Verb::First => desk_first_inner::place_first(t, buf, at),
         Verb::After => desk_after_inner::place_after(t, buf, at),
+        Verb::Shade => desk_shade_inner::place_shade(t, buf, at),
     }
 }
 

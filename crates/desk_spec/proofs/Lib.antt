@@ -1,4 +1,5 @@
--- That a text asks one question (Questions), that a reading among rings has one answer, and which rings are looked at (Sights), that a line prints one text (Unique).
+-- That a text asks one question (Questions), that a reading among rings has one answer, and which rings are looked at (Sights), floats by their bits, worked out by hand (Floats), that a line prints one text (Unique).
 pub mod Questions
 pub mod Sights
+pub mod Floats
 pub mod Unique

@@ -2,7 +2,7 @@
 --     spelt-same                     two readings with the same digits are one
 --     words-one                      the words of rings and a reading are those of one list of rings and one reading
 --     counts-same                    two lists of counts that are spelt the same are one
---     one-reading, one-pair, one-numbers, one-byte, one-sight, one-counts, one-after    a text asks one question of a shape
+--     one-reading, one-pair, one-numbers, one-byte, one-sight, one-counts, one-after, one-shade    a text asks one question of a shape
 --     known-one                      a word is one verb's name
 --     place-one, one-line            a line has one verb and one text behind it
 use Prim.Native.Nat.{ℕ, suc, _+_, _<_}
@@ -24,7 +24,7 @@ use Rattle.desk_spec.specs.declared.Found.{Found}
 use Rattle.desk_spec.specs.declared.Found.the-variants.{Known, Unknown}
 use Rattle.desk_spec.specs.Verbs.{verbOf}
 use Rattle.desk_spec.specs.Answers.{LineReads}
-use Rattle.desk_spec.specs.Questions.{ReadsReading, ReadsPair, ReadsNumbers, ReadsByte, ReadsSight, EachNibbles, wordsOf, CountsSpelt, ReadsCounts, ReadsAfter}
+use Rattle.desk_spec.specs.Questions.{ReadsReading, ReadsPair, ReadsNumbers, ReadsByte, ReadsSight, EachNibbles, wordsOf, CountsSpelt, ReadsCounts, ReadsAfter, ReadsShade}
 
 -- the same digits
 pub spelt-same : (v w : List ℕ) → Nibbles v → Nibbles w → map hexOf v ≡ map hexOf w → v ≡ w
@@ -56,6 +56,15 @@ decimals-one (c ∷ cs) (d ∷ ds) e =
 
 pub counts-same : (t u cs ds : List ℕ) → t ≡ u → CountsSpelt t cs → CountsSpelt u ds → cs ≡ ds
 counts-same t u cs ds e x y = decimals-one cs ds (sym (x .numbers) ∙ ap (λ (s : List ℕ). pieces 44 s) e ∙ y .numbers)
+
+spelt-each : (us vs : List (List ℕ)) → EachNibbles us → EachNibbles vs → map (map hexOf) us ≡ map (map hexOf) vs → us ≡ vs
+spelt-each [] [] p q e = refl
+spelt-each [] (v ∷ vs) p q e = absurd (none-some _ _ e)
+spelt-each (u ∷ us) [] p q e = absurd (none-some _ _ (sym e))
+spelt-each (u ∷ us) (v ∷ vs) p q e =
+    let x : u ≡ v = spelt-same u v (p 0 (omega arith)) (q 0 (omega arith)) (first-same _ _ _ _ e) in
+    let y = spelt-each us vs (λ j h. p (suc j) (omega arith)) (λ j h. q (suc j) (omega arith)) (behind-same _ _ _ _ e) in
+    λ i. x i ∷ y i
 
 module _ (t : List ℕ) where
   pub one-reading : (p q : ℕ × List ℕ) → ReadsReading t p → ReadsReading t q → p ≡ q
@@ -106,6 +115,13 @@ module _ (t : List ℕ) where
       let y : v ≡ w = spelt-same v w (a .sectors) (b .sectors) (first-same _ _ _ _ f) in
       let z : cs ≡ ds = counts-same (a .word) (b .word) cs ds (first-same _ _ _ _ (behind-same _ _ _ _ f)) (a .counts) (b .counts) in
       λ i. (x i, y i, z i)
+
+  pub one-shade : (p q : ℕ × List (List ℕ)) → ReadsShade t p → ReadsShade t q → p ≡ q
+  one-shade (j, us) (k, vs) a b =
+      let e = sym (a .words) ∙ b .words in
+      let x : j ≡ k = decimal-one j k (first-same _ _ _ _ e) in
+      let y : us ≡ vs = spelt-each us vs (a .digits) (b .digits) (behind-same _ _ _ _ e) in
+      λ i. (x i, y i)
 
 -- ---- a line
 

@@ -1,14 +1,16 @@
 -- A line prints one text.
 --     one-shows       an answer that is promised once prints one text
 --     one-asked       where a text asks one question, and a question prints one text, the text prints one
---     one-stepped, one-step, one-about, one-both, one-many, one-strip, one-seen, one-first, one-after-ring    a question prints one text
+--     one-stepped, one-step, one-about, one-both, one-many, one-strip, one-seen, one-first, one-after-ring, one-shades    a question prints one text
 --     one-verb        and so does what stands behind a verb
 --     one-answer      and a line
 use Prim.Native.Nat.{ℕ, _^_}
 use mathlib.Core.Path.{_≡_, refl, sym, ap, _∙_}
 use mathlib.Core.Bool.{Bool}
 use mathlib.Core.List.{List}
+use native.Mathlib.Omega.{arith}
 use lib.ListN.{length}
+use lib.Ieee.{Float}
 use Rattle.rings.specs.Alike.{sameRing, evenHanded}
 use Rattle.rings.specs.Necklace.{necklace, lyndon}
 use Rattle.rings.specs.Prenecklace.{prenecklace}
@@ -29,6 +31,8 @@ use Rattle.shades_spec.specs.declared.NextAnswer.{NextAnswer}
 use Rattle.shades_spec.proofs.Unique.{one-first as one-first-ring, one-next}
 use Rattle.desk_spec.specs.declared.Step.{Step}
 use Rattle.desk_spec.specs.declared.Step.the-variants.{Necklace, Lyndon, Prenecklace, Bracelet}
+use Rattle.density_spec.specs.declared.RingRead.{RingRead}
+use Rattle.density_spec.proofs.Unique.{one-sector, one-ring}
 use Rattle.desk_spec.specs.declared.About.{About}
 use Rattle.desk_spec.specs.declared.About.the-variants.{Class, Home, Even, Place}
 use Rattle.desk_spec.specs.declared.About.the-variants as OfOne
@@ -37,8 +41,8 @@ use Rattle.desk_spec.specs.declared.Both.the-variants.{Same, Apart}
 use Rattle.desk_spec.specs.declared.Verb.{Verb}
 use Rattle.desk_spec.specs.declared.Verb.the-variants as Asks
 use Rattle.desk_spec.specs.Questions.{Replies, good, bad}
-use Rattle.desk_spec.specs.Answers.{AnswerShows, KindPrints, StepPrints, AboutSays, BothSays, ManySays, StripPrints, SeenSays, FirstPrints, AfterPrints, VerbSays, DeskAnswers, blank}
-use Rattle.desk_spec.proofs.Questions.{one-reading, one-pair, one-numbers, one-byte, one-sight, one-counts, one-after, one-line}
+use Rattle.desk_spec.specs.Answers.{AnswerShows, KindPrints, StepPrints, AboutSays, BothSays, ManySays, StripPrints, SeenSays, FirstPrints, AfterPrints, VerbSays, DeskAnswers, blank, ShadesSays, oneValue, severalValues}
+use Rattle.desk_spec.proofs.Questions.{one-reading, one-pair, one-numbers, one-byte, one-sight, one-counts, one-after, one-line, one-shade}
 use Rattle.desk_spec.proofs.Sights.{one-sighted}
 
 -- an answer that is promised once
@@ -104,6 +108,15 @@ pub one-after-ring : (k : ℕ) (w cs t u : List ℕ) → AfterPrints k w cs t �
 one-after-ring k w cs t u x y =
     one-shows {A = NextAnswer × List ℕ} _ _ (λ a b p q. let e = one-next w k cs (blank (length w)) (a .0) (b .0) (a .1) (b .1) p q in λ i. (e .0 i, e .1 i)) t u x y
 
+-- ---- shades
+
+pub one-shades : (k : ℕ) (xs : List Float) (t u : List ℕ) → ShadesSays k xs t → ShadesSays k xs u → t ≡ u
+one-shades k xs t u (oneValue l x) (oneValue m y) = one-shows _ _ (one-sector _ k _) t u x y
+one-shades k xs t u (oneValue l x) (severalValues m y) = absurd (omega arith)
+one-shades k xs t u (severalValues l x) (oneValue m y) = absurd (omega arith)
+one-shades k xs t u (severalValues l x) (severalValues m y) =
+    one-shows {A = RingRead × List ℕ} _ _ (λ a b p q. let e = one-ring _ k _ _ (a .0) (b .0) (a .1) (b .1) p q in λ i. (e .0 i, e .1 i)) t u x y
+
 -- ---- a line
 
 pub one-verb : (v : Verb) (s t u : List ℕ) → VerbSays v s t → VerbSays v s u → t ≡ u
@@ -115,6 +128,7 @@ one-verb Asks.Strip s t u x y = one-asked _ _ (one-numbers s) (λ q. one-strip (
 one-verb Asks.Sight s t u x y = one-asked _ _ (one-sight s) (λ q. one-seen (q .0) (q .1) (q .2) (q .3)) t u x y
 one-verb Asks.First s t u x y = one-asked _ _ (one-counts s) (λ q. one-first (q .0) (q .1)) t u x y
 one-verb Asks.After s t u x y = one-asked _ _ (one-after s) (λ q. one-after-ring (q .0) (q .1) (q .2)) t u x y
+one-verb Asks.Shade s t u x y = one-asked _ _ (one-shade s) (λ q. one-shades (q .0) _) t u x y
 
 pub one-answer : (s t u : List ℕ) → DeskAnswers s t → DeskAnswers s u → t ≡ u
 one-answer s t u x y = one-asked _ _ (one-line s) (λ q. one-verb (q .0) (q .1)) t u x y

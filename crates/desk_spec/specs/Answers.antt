@@ -7,6 +7,7 @@
 --     StripPrints k n text    the strip
 --     SeenSays k e ts r text  what is seen of the rings ts in the reading r
 --     FirstPrints k cs text, AfterPrints k w cs text    the first ring of fixed counts, and the next
+--     ShadesSays k xs text    what one value, or several, of the floats xs behind those of the card tell
 --     VerbSays v t text       what the text t behind a verb prints
 --     longestLine             a longer line is malformed
 --     LineReads s q           the line s is a verb's name, a space, and a text
@@ -16,8 +17,9 @@
 use Prim.Native.Nat.{ℕ, _+_, _^_, _<_, _≤_}
 use mathlib.Core.Path.{_≡_}
 use mathlib.Core.Bool.{Bool}
-use mathlib.Core.List.{List}
-use lib.ListN.{length, take, drop, replicate}
+use mathlib.Core.List.{List, map}
+use lib.ListN.{length, take, drop, replicate, getD}
+use lib.Ieee.{Float, nan}
 use Rattle.text_spec.specs.Ascii.{space}
 use Rattle.text_words_spec.specs.Words.{PieceAt}
 use Rattle.rings.specs.Necklace.{necklace, lyndon}
@@ -41,6 +43,8 @@ use Rattle.shades_spec.specs.declared.NextAnswer.{NextAnswer}
 use Rattle.shades_spec.specs.Answers.{FirstSays, NextSays}
 use Rattle.desk_spec.specs.declared.Step.{Step}
 use Rattle.desk_spec.specs.declared.Step.the-variants.{Necklace, Lyndon, Prenecklace, Bracelet}
+use Rattle.density_spec.specs.declared.RingRead.{RingRead}
+use Rattle.density_spec.specs.Says.{SectorSays, RingSays}
 use Rattle.desk_spec.specs.declared.About.{About}
 use Rattle.desk_spec.specs.declared.About.the-variants.{Class, Home, Even, Place}
 use Rattle.desk_spec.specs.declared.About.the-variants as OfOne
@@ -50,8 +54,9 @@ use Rattle.desk_spec.specs.declared.Verb.{Verb}
 use Rattle.desk_spec.specs.declared.Verb.the-variants as Asks
 use Rattle.desk_spec.specs.declared.Found.the-variants.{Known}
 use Rattle.desk_spec.specs.Verbs.{verbOf}
-use Rattle.desk_spec.specs.Questions.{ReadsReading, ReadsPair, ReadsNumbers, ReadsByte, ReadsSight, ReadsCounts, ReadsAfter, Replies}
-use Rattle.desk_spec.specs.Texts.{classText, homeText, toldText, distanceText, placeText, manyText, stockText, stepText, arrivalText, stripText, sightText, firstRingText, nextRingText}
+use Rattle.desk_spec.specs.Questions.{ReadsReading, ReadsPair, ReadsNumbers, ReadsByte, ReadsSight, ReadsCounts, ReadsAfter, Replies, ReadsShade}
+use Rattle.desk_spec.specs.Texts.{classText, homeText, toldText, distanceText, placeText, manyText, stockText, stepText, arrivalText, stripText, sightText, firstRingText, nextRingText, sectorText, shadesText}
+use Rattle.desk_spec.specs.Floats.{floatOf, firstCard}
 use Rattle.desk_spec.specs.Sights.{SightedSays}
 
 -- text is what an answer prints that is promised
@@ -112,6 +117,14 @@ FirstPrints k cs text = AnswerShows {A = FirstAnswer × List ℕ} (λ x. FirstSa
 abbrev pub AfterPrints : ℕ → List ℕ → List ℕ → List ℕ → Type 0
 AfterPrints k w cs text = AnswerShows {A = NextAnswer × List ℕ} (λ x. NextSays w k cs (blank (length w)) (x .0) (x .1)) (λ x. nextRingText (x .0) (x .1)) text
 
+-- ---- shades
+
+-- behind the two floats of the card: one value is a sector's, and several are a ring's
+pub data ShadesSays (k : ℕ) (xs : List Float) (text : List ℕ) : Type 0 where
+  oneValue : length xs ≡ 3 → AnswerShows (λ a. SectorSays (getD xs 2 nan) k (firstCard xs) a) sectorText text → ShadesSays k xs text
+  severalValues : 3 < length xs →
+      AnswerShows {A = RingRead × List ℕ} (λ a. RingSays (drop 2 xs) k (firstCard xs) (blank (length (drop 2 xs))) (a .0) (a .1)) (λ a. shadesText (a .0) (a .1)) text → ShadesSays k xs text
+
 -- ---- a line
 
 abbrev pub VerbSays : Verb → List ℕ → List ℕ → Type 0
@@ -123,6 +136,7 @@ VerbSays Asks.Strip t text = Replies (ReadsNumbers t) (λ q. StripPrints (q .0) 
 VerbSays Asks.Sight t text = Replies (ReadsSight t) (λ q. SeenSays (q .0) (q .1) (q .2) (q .3)) text
 VerbSays Asks.First t text = Replies (ReadsCounts t) (λ q. FirstPrints (q .0) (q .1)) text
 VerbSays Asks.After t text = Replies (ReadsAfter t) (λ q. AfterPrints (q .0) (q .1) (q .2)) text
+VerbSays Asks.Shade t text = Replies (ReadsShade t) (λ q. ShadesSays (q .0) (map floatOf (q .1))) text
 
 abbrev pub longestLine : ℕ
 longestLine = 4095

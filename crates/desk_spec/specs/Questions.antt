@@ -10,9 +10,10 @@
 --     CountsSpelt t cs     t is the numbers cs, one at least, a comma between two
 --     ReadsCounts t q      t is k and counts
 --     ReadsAfter t q       t is k, a reading and counts
+--     ReadsShade t q       t is k and, by their bits, the dark and the light field of a card and one value or more
 --     Replies Reads Says     what a text prints that asks a question q of some shape, where `Says q` is what the question prints; a text that asks none is malformed
 -- That a text asks one question, and prints one text: proofs/Unique.
-use Prim.Native.Nat.{ℕ, _<_}
+use Prim.Native.Nat.{ℕ, _<_, _≤_}
 use mathlib.Core.Path.{_≡_}
 use mathlib.Core.List.{List, [], _∷_, _++_, map}
 use lib.ListN.{length, getD}
@@ -22,6 +23,7 @@ use Rattle.text_spec.specs.Text.{hexOf}
 use Rattle.line_spec.specs.Line.{fields}
 use Rattle.text_words_spec.specs.Words.{pieces, Nibbles}
 use Rattle.desk_spec.specs.Texts.{malformedText}
+use Rattle.desk_spec.specs.Sights.{AsLong}
 
 abbrev pub ThreeDigits : ℕ → Type 0
 ThreeDigits k = k < 1000
@@ -89,6 +91,14 @@ pub record ReadsAfter (t : List ℕ) (q : ℕ × List ℕ × List ℕ) : Type 0 
   pub word : List ℕ
   pub counts : CountsSpelt word (q .2)
   pub words : pieces space t ≡ decimal (q .0) ∷ map hexOf (q .1) ∷ word ∷ []
+
+-- k, a card and values, eight digits each
+pub record ReadsShade (t : List ℕ) (q : ℕ × List (List ℕ)) : Type 0 where
+  pub short : ThreeDigits (q .0)
+  pub digits : EachNibbles (q .1)
+  pub eight : AsLong 8 (q .1)
+  pub three : 3 ≤ length (q .1)
+  pub words : pieces space t ≡ decimal (q .0) ∷ map (map hexOf) (q .1)
 
 -- what a text prints: what its question does, or that it asks none
 pub data Replies {Q : Type 0} (Reads : Q → Type 0) (Says : Q → List ℕ → Type 0) (text : List ℕ) : Type 0 where

@@ -11,6 +11,8 @@
 --     stepText a c           next 0111 moves 3, where c is the ring; done moves 0
 --     arrivalText a c        next 001111, where c is the ring; done
 --     stripText a c          00010111, where c is the strip
+--     sectorText             shade 1; outside 3fc00000, by its bits; not a number
+--     shadesText a c         ring 0110, where c is the ring
 --     sightText              front 3 turned 5 misread 1; back 3 turned 5 misread 1; several; unknown
 --     firstRingText a c      ring 000111, where c is the ring
 --     nextRingText a c       ring 001011, where c is the ring; done
@@ -48,6 +50,13 @@ use Rattle.shades_spec.specs.declared.FirstAnswer.{FirstAnswer}
 use Rattle.shades_spec.specs.declared.FirstAnswer.the-variants as F
 use Rattle.shades_spec.specs.declared.NextAnswer.{NextAnswer}
 use Rattle.shades_spec.specs.declared.NextAnswer.the-variants as N
+use Rattle.density_spec.specs.declared.Sector.{Sector}
+use Rattle.density_spec.specs.declared.Sector.the-variants as Tells
+use Rattle.density_spec.specs.declared.SectorRead.{SectorRead}
+use Rattle.density_spec.specs.declared.SectorRead.the-variants as Sectors
+use Rattle.density_spec.specs.declared.RingRead.{RingRead}
+use Rattle.density_spec.specs.declared.RingRead.the-variants as Rings
+use Rattle.desk_spec.specs.Floats.{digitsOf}
 
 -- a text with numbers alone
 abbrev pub plainText : List ℕ → List ℕ → List ℕ
@@ -127,3 +136,16 @@ abbrev pub nextRingText : NextAnswer → List ℕ → List ℕ
 nextRingText N.Ring c = countedRingText (ascii "ring @\n") [] c
 nextRingText N.Done c = plainText (ascii "done\n") []
 nextRingText (N.Refused r) c = refusalText r
+
+abbrev pub toldSectorText : Sector → List ℕ
+toldSectorText (Tells.Shade s) = plainText (ascii "shade %\n") (s ∷ [])
+toldSectorText (Tells.Outside x) = countedRingText (ascii "outside @\n") [] (digitsOf x)
+toldSectorText Tells.NotANumber = plainText (ascii "not a number\n") []
+
+abbrev pub sectorText : SectorRead → List ℕ
+sectorText (Sectors.Is s) = toldSectorText s
+sectorText (Sectors.Refused r) = refusalText r
+
+abbrev pub shadesText : RingRead → List ℕ → List ℕ
+shadesText Rings.Written c = countedRingText (ascii "ring @\n") [] c
+shadesText (Rings.Refused r) c = refusalText r

@@ -10,7 +10,7 @@ use Rattle.desk_spec.specs.declared.Step.the-variants as Steps
 use Rattle.desk_spec.specs.declared.About.the-variants.{Class, Home, Even, Place, Step}
 use Rattle.desk_spec.specs.declared.Both.the-variants.{Same, Apart}
 use Rattle.desk_spec.specs.declared.Verb.{Verb}
-use Rattle.desk_spec.specs.declared.Verb.the-variants.{About, Both, Many, Stock, Strip, Sight, First, After}
+use Rattle.desk_spec.specs.declared.Verb.the-variants.{About, Both, Many, Stock, Strip, Sight, First, After, Shade}
 use Rattle.desk_spec.specs.declared.Found.{Found}
 use Rattle.desk_spec.specs.declared.Found.the-variants.{Known, Unknown}
 
@@ -47,7 +47,7 @@ stripOf t = named t (ascii "strip") Strip Unknown
 
 -- what a camera asks
 unfoldable pub cameraOf : List ℕ → Found
-cameraOf t = named t (ascii "sight") Sight Unknown
+cameraOf t = named t (ascii "sight") Sight (named t (ascii "shade") Shade Unknown)
 
 unfoldable pub shadesOf : List ℕ → Found
 shadesOf t = named t (ascii "first") First (named t (ascii "after") After Unknown)

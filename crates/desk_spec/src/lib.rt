@@ -33,6 +33,7 @@ pub enum Verb {
     Sight,
     First,
     After,
+    Shade,
 }
 
 // The verb of a word, if it is one's name.

@@ -4,18 +4,9 @@ use borrow.Author.Needs.{needs}
 use Rattle.desk_about_inner.proofs.answer_class.Statement.{statement}
 use Rattle.desk_about_inner.proofs.answer_class.Tie as tie
 
-classify-requires : tie.Need-classify-requires
-classify-requires c κs = search needs
-
-place-classified-requires : tie.Need-place-classified-requires
-place-classified-requires c κs = search needs
-
-same-length : tie.Need-same-length
-same-length c = search needs
-
 returns : tie.Need-returns
 returns c = put-shown _ _ (c .before .before .before .before .classify .result) (c .before .before .before .before .classify .ensures) _ _ _ _ (c .before .before .place-classified .ensures)
 
 pub answer-class-spec : {M : Type 1} → statement M
 answer-class-spec =
-    tie.close (tie.spec classify-requires place-classified-requires same-length returns)
+    tie.close (tie.spec (λ c κs. search needs) (λ c κs. search needs) (λ c. search needs) returns)

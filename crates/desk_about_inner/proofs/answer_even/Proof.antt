@@ -4,18 +4,9 @@ use borrow.Author.Needs.{needs}
 use Rattle.desk_about_inner.proofs.answer_even.Statement.{statement}
 use Rattle.desk_about_inner.proofs.answer_even.Tie as tie
 
-even-handed-requires : tie.Need-even-handed-requires
-even-handed-requires c κs = search needs
-
-place-told-requires : tie.Need-place-told-requires
-place-told-requires c κs = search needs
-
-same-length : tie.Need-same-length
-same-length c = search needs
-
 returns : tie.Need-returns
 returns c = put-shown _ _ (c .before .before .before .before .even-handed .result) (c .before .before .before .before .even-handed .ensures) _ _ _ _ (c .before .before .place-told .ensures)
 
 pub answer-even-spec : {M : Type 1} → statement M
 answer-even-spec =
-    tie.close (tie.spec even-handed-requires place-told-requires same-length returns)
+    tie.close (tie.spec (λ c κs. search needs) (λ c κs. search needs) (λ c. search needs) returns)

@@ -11,21 +11,11 @@ use borrow.Author.Needs.{needs}
 use Rattle.desk_about_inner.proofs.ask_about.Statement.{statement}
 use Rattle.desk_about_inner.proofs.ask_about.Tie as tie
 
-spell-requires : tie.Need-spell-requires
-spell-requires c κs = search needs
-
-place-malformed-requires : tie.Need-place-malformed-requires
-place-malformed-requires c κs = search needs
-
-same-length : tie.Need-same-length
-same-length c = search needs
-
-same-length-2 : tie.Need-same-length-2
-same-length-2 c = search needs
-
 returns : tie.Need-returns
 returns c =
-    put-bad _ _ _ _ _ _ (rw (not-true (c .before .before .before .before .before .before .before .spell .result) (c .before .before .before .before .if1 .taken)) at (c .before .before .before .before .before .before .before .spell .ensures)) (c .before .before .place-malformed .ensures)
+    put-bad _ _ _ _ _ _ (rw (not-true (c .before .before .before .before .before .before .before .spell .result)
+    (c .before .before .before .before .if1 .taken)) at (c .before .before .before .before .before .before .before .spell .ensures))
+    (c .before .before .place-malformed .ensures)
 
 answer-about-requires : tie.Need-answer-about-requires
 answer-about-requires c κs =
@@ -33,30 +23,15 @@ answer-about-requires c κs =
     let l = c .before .before .before .before .before .before .spell .kept .1 .0 ∙ g .pre .1 .0 in
     (omega (arith, l, g .pre .0), (g .pre .1 .1 .0 ∙ ap blank (sym l), g .pre .1 .1 .1))
 
-same-length-3 : tie.Need-same-length-3
-same-length-3 c = search needs
-
-same-length-4 : tie.Need-same-length-4
-same-length-4 c = search needs
-
-same-length-5 : tie.Need-same-length-5
-same-length-5 c = search needs
-
 returns-2 : tie.Need-returns-2
 returns-2 c =
-    put-good _ _ _ _ _ _ _ (rw (not-false (c .before .before .before .before .before .before .before .before .before .before .before .spell .result) (c .before .before .before .before .before .before .before .before .if1 .left)) at (c .before .before .before .before .before .before .before .before .before .before .before .spell .ensures)) (c .before .before .before .before .answer-about .ensures)
+    put-good _ _ _ _ _ _ _ (rw (not-false (c .before .before .before .before .before .before .before .before .before .before .before .spell .result)
+    (c .before .before .before .before .before .before .before .before .if1 .left)) at
+    (c .before .before .before .before .before .before .before .before .before .before .before .spell .ensures))
+    (c .before .before .before .before .answer-about .ensures)
 
 pub ask-about-spec : {M : Type 1} → statement M
 ask-about-spec =
     tie.close
-    (tie.spec
-    spell-requires
-    place-malformed-requires
-    same-length
-    same-length-2
-    returns
-    answer-about-requires
-    same-length-3
-    same-length-4
-    same-length-5
-    returns-2)
+    (tie.spec (λ c κs. search needs) (λ c κs. search needs) (λ c. search needs) (λ c. search needs) returns
+    answer-about-requires (λ c. search needs) (λ c. search needs) (λ c. search needs) returns-2)

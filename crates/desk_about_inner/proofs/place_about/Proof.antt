@@ -8,17 +8,8 @@ use borrow.Author.Needs.{needs}
 use Rattle.desk_about_inner.proofs.place_about.Statement.{statement}
 use Rattle.desk_about_inner.proofs.place_about.Tie as tie
 
-head-of-requires : tie.Need-head-of-requires
-head-of-requires c κs = search needs
-
 enum-told : tie.Need-enum-told
 enum-told c = search needs
-
-place-malformed-requires : tie.Need-place-malformed-requires
-place-malformed-requires c κs = search needs
-
-enum-known-k : tie.Need-enum-known-k
-enum-known-k c = search needs
 
 sub-n : tie.Need-sub-n
 sub-n c = let h = rw (c .before .k .given .1) at (c .before .before .before .head-of .ensures) in omega (arith, h .1)
@@ -29,17 +20,8 @@ sub-ask-about c = let h = rw (c .before .k .given .1) at (c .before .before .bef
 part-ask-about-start : tie.Need-part-ask-about-start
 part-ask-about-start c = let h = rw (c .before .k .given .1) at (c .before .before .before .head-of .ensures) in omega (arith, h .1)
 
-part-ask-about-end : tie.Need-part-ask-about-end
-part-ask-about-end c = search needs
-
-array-borrow-prefix-w : tie.Need-array-borrow-prefix-w
-array-borrow-prefix-w c = search needs
-
 slice-aggregate-ask-about : tie.Need-slice-aggregate-ask-about
 slice-aggregate-ask-about c = simp length-take (omega (arith, c .before .before .before .before .before .before .before .before .pre .0))
-
-array-borrow-prefix-out : tie.Need-array-borrow-prefix-out
-array-borrow-prefix-out c = search needs
 
 slice-aggregate-ask-about-2 : tie.Need-slice-aggregate-ask-about-2
 slice-aggregate-ask-about-2 c = simp length-take (omega (arith, c .before .before .before .before .before .before .before .before .before .pre .0))
@@ -50,15 +32,11 @@ ask-about-requires c κs =
     let q = ask-room (g .args .t .now) (c .before .before .before .before .before .k .given .0 .1 .0) (g .pre .0) in
     (q .0, (q .1, (q .2, g .pre .1)))
 
-same-length : tie.Need-same-length
-same-length c = search needs
-
 returns : tie.Need-returns
 returns c =
-    put-bad _ _ _ _ _ _ (no-reading (c .before .before .before .before .before .before .before .before .before .args .t .now) (rw (c .before .before .before .before .enum-told .given .1) at (c .before .before .before .before .before .before .head-of .ensures))) (c .before .before .place-malformed .ensures)
-
-same-length-2 : tie.Need-same-length-2
-same-length-2 c = search needs
+    put-bad _ _ _ _ _ _ (no-reading (c .before .before .before .before .before .before .before .before .before .args .t .now)
+    (rw (c .before .before .before .before .enum-told .given .1) at (c .before .before .before .before .before .before .head-of .ensures)))
+    (c .before .before .place-malformed .ensures)
 
 returns-2 : tie.Need-returns-2
 returns-2 c =
@@ -67,21 +45,6 @@ returns-2 c =
 pub place-about-spec : {M : Type 1} → statement M
 place-about-spec =
     tie.close
-    (tie.spec
-    head-of-requires
-    enum-told
-    place-malformed-requires
-    enum-known-k
-    sub-n
-    sub-ask-about
-    part-ask-about-start
-    part-ask-about-end
-    array-borrow-prefix-w
-    slice-aggregate-ask-about
-    array-borrow-prefix-out
-    slice-aggregate-ask-about-2
-    ask-about-requires
-    same-length
-    returns
-    same-length-2
-    returns-2)
+    (tie.spec (λ c κs. search needs) enum-told (λ c κs. search needs) (λ c. search needs) sub-n sub-ask-about
+    part-ask-about-start (λ c. search needs) (λ c. search needs) slice-aggregate-ask-about (λ c. search needs)
+    slice-aggregate-ask-about-2 ask-about-requires (λ c. search needs) returns (λ c. search needs) returns-2)

@@ -50,19 +50,7 @@ returns-2 c =
 pub ask-counts-spec : {M : Type 1} → statement M
 ask-counts-spec =
     tie.close
-    (tie.spec
-    (λ c κs. search needs)
-    (λ c. search needs)
-    (λ c κs. search needs)
-    (λ c. search needs)
-    slice-reshare-prefix-answer-after
-    slice-aggregate-answer-after
-    (λ c. search needs)
-    slice-aggregate-answer-after-2
-    answer-after-requires
-    (λ c. search needs)
-    (λ c. search needs)
-    returns
-    (λ c. search needs)
-    (λ c. search needs)
+    (tie.spec (λ c κs. search needs) (λ c. search needs) (λ c κs. search needs) (λ c. search needs)
+    slice-reshare-prefix-answer-after slice-aggregate-answer-after (λ c. search needs) slice-aggregate-answer-after-2
+    answer-after-requires (λ c. search needs) (λ c. search needs) returns (λ c. search needs) (λ c. search needs)
     returns-2)

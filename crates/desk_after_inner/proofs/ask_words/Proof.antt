@@ -46,19 +46,6 @@ returns-2 c =
 pub ask-words-spec : {M : Type 1} → statement M
 ask-words-spec =
     tie.close
-    (tie.spec
-    (λ c κs. search needs)
-    (λ c κs. search needs)
-    (λ c. search needs)
-    returns
-    slice-aggregate-ask-ring
-    (λ c. search needs)
-    (λ c. search needs)
-    (λ c. search needs)
-    (λ c. search needs)
-    (λ c. search needs)
-    slice-aggregate-ask-ring-2
-    ask-ring-requires
-    (λ c. search needs)
-    (λ c. search needs)
-    returns-2)
+    (tie.spec (λ c κs. search needs) (λ c κs. search needs) (λ c. search needs) returns slice-aggregate-ask-ring
+    (λ c. search needs) (λ c. search needs) (λ c. search needs) (λ c. search needs) (λ c. search needs)
+    slice-aggregate-ask-ring-2 ask-ring-requires (λ c. search needs) (λ c. search needs) returns-2)

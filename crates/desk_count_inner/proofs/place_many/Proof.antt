@@ -5,46 +5,24 @@ use borrow.Author.Needs.{needs}
 use Rattle.desk_count_inner.proofs.place_many.Statement.{statement}
 use Rattle.desk_count_inner.proofs.place_many.Tie as tie
 
-parse-fields-requires : tie.Need-parse-fields-requires
-parse-fields-requires c κs = search needs
-
 enum-told : tie.Need-enum-told
 enum-told c = search needs
 
-place-malformed-requires : tie.Need-place-malformed-requires
-place-malformed-requires c κs = search needs
-
-enum-known-k : tie.Need-enum-known-k
-enum-known-k c = search needs
-
-answer-many-requires : tie.Need-answer-many-requires
-answer-many-requires c κs = search needs
-
-same-length : tie.Need-same-length
-same-length c = search needs
-
 returns : tie.Need-returns
 returns c =
-    put-bad _ _ _ _ _ _ (no-numbers (c .before .before .before .before .before .before .before .before .before .args .t .now) (rw (c .before .before .before .before .enum-told .given .1) at (c .before .before .before .before .before .before .parse-fields .ensures))) (c .before .before .place-malformed .ensures)
-
-same-length-2 : tie.Need-same-length-2
-same-length-2 c = search needs
+    put-bad _ _ _ _ _ _ (no-numbers (c .before .before .before .before .before .before .before .before .before .args .t .now)
+    (rw (c .before .before .before .before .enum-told .given .1) at (c .before .before .before .before .before .before .parse-fields .ensures)))
+    (c .before .before .place-malformed .ensures)
 
 returns-2 : tie.Need-returns-2
 returns-2 c =
     let k = c .before .before .before .before .before .k .given in
-    put-good _ _ _ _ _ _ (k .0 .0, k .0 .1 .0) (numbers (c .before .before .before .before .before .before .before .before .before .before .args .t .now) (k .0 .0) (k .0 .1 .0) (rw (k .1) at (c .before .before .before .before .before .before .before .parse-fields .ensures))) (c .before .before .answer-many .ensures)
+    put-good _ _ _ _ _ _ (k .0 .0, k .0 .1 .0)
+    (numbers (c .before .before .before .before .before .before .before .before .before .before .args .t .now) (k .0 .0) (k .0 .1 .0)
+    (rw (k .1) at (c .before .before .before .before .before .before .before .parse-fields .ensures))) (c .before .before .answer-many .ensures)
 
 pub place-many-spec : {M : Type 1} → statement M
 place-many-spec =
     tie.close
-    (tie.spec
-    parse-fields-requires
-    enum-told
-    place-malformed-requires
-    enum-known-k
-    answer-many-requires
-    same-length
-    returns
-    same-length-2
-    returns-2)
+    (tie.spec (λ c κs. search needs) enum-told (λ c κs. search needs) (λ c. search needs) (λ c κs. search needs)
+    (λ c. search needs) returns (λ c. search needs) returns-2)

@@ -115,25 +115,6 @@ loop-again c =
 pub counts-of-spec : {M : Type 1} → statement M
 counts-of-spec =
     tie.close
-    (tie.spec
-    Inv-loop
-    μ-loop
-    loop-holds
-    sub-head-at
-    part-head-at-start
-    part-head-at-end
-    (λ c κs. search needs)
-    (λ c. search needs)
-    (λ c. search needs)
-    sub-last-count
-    part-last-count-start
-    part-last-count-end
-    last-count-requires
-    same-length
-    returns
-    mul-out
-    slice-write-out
-    add-m
-    add-at
-    loop-less
-    loop-again)
+    (tie.spec Inv-loop μ-loop loop-holds sub-head-at part-head-at-start part-head-at-end (λ c κs. search needs)
+    (λ c. search needs) (λ c. search needs) sub-last-count part-last-count-start part-last-count-end
+    last-count-requires same-length returns mul-out slice-write-out add-m add-at loop-less loop-again)

@@ -23,9 +23,4 @@ returns-2 c =
 pub word-counts-spec : {M : Type 1} → statement M
 word-counts-spec =
     tie.close
-    (tie.spec
-    (λ c κs. search needs)
-    returns
-    (λ c κs. search needs)
-    (λ c. search needs)
-    returns-2)
+    (tie.spec (λ c κs. search needs) returns (λ c κs. search needs) (λ c. search needs) returns-2)

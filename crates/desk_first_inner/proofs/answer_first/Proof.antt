@@ -30,10 +30,5 @@ returns c =
 pub answer-first-spec : {M : Type 1} → statement M
 answer-first-spec =
     tie.close
-    (tie.spec
-    (λ c κs. search needs)
-    array-borrow-prefix-out
-    slice-aggregate-answer-in
-    answer-in-requires
-    (λ c. search needs)
-    returns)
+    (tie.spec (λ c κs. search needs) array-borrow-prefix-out slice-aggregate-answer-in answer-in-requires
+    (λ c. search needs) returns)

@@ -45,17 +45,6 @@ returns-2 c =
 pub place-first-spec : {M : Type 1} → statement M
 place-first-spec =
     tie.close
-    (tie.spec
-    (λ c κs. search needs)
-    (λ c. search needs)
-    (λ c κs. search needs)
-    (λ c. search needs)
-    sub-ask-first
-    part-ask-first-start
-    part-ask-first-end
-    (λ c. search needs)
-    ask-first-requires
-    (λ c. search needs)
-    returns
-    (λ c. search needs)
-    returns-2)
+    (tie.spec (λ c κs. search needs) (λ c. search needs) (λ c κs. search needs) (λ c. search needs) sub-ask-first
+    part-ask-first-start part-ask-first-end (λ c. search needs) ask-first-requires (λ c. search needs) returns
+    (λ c. search needs) returns-2)

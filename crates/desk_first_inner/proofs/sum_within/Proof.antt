@@ -54,16 +54,5 @@ returns-2 c =
 pub sum-within-spec : {M : Type 1} → statement M
 sum-within-spec =
     tie.close
-    (tie.spec
-    Inv-loop
-    μ-loop
-    loop-holds
-    (λ c. search needs)
-    (λ c. search needs)
-    sub-if1
-    returns
-    add-sum
-    (λ c. search needs)
-    (λ c. search needs)
-    loop-again
-    returns-2)
+    (tie.spec Inv-loop μ-loop loop-holds (λ c. search needs) (λ c. search needs) sub-if1 returns add-sum
+    (λ c. search needs) (λ c. search needs) loop-again returns-2)

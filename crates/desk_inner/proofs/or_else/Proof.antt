@@ -13,8 +13,4 @@ returns-2 c = rw (c .enum-told .given .1) refl
 pub or-else-spec : {M : Type 1} → statement M
 or-else-spec =
     tie.close
-    (tie.spec
-    (λ c. search needs)
-    (λ c. search needs)
-    returns
-    returns-2)
+    (tie.spec (λ c. search needs) (λ c. search needs) returns returns-2)

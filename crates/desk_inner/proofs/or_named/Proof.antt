@@ -14,7 +14,4 @@ returns-2 c = named-no _ _ _ _ (sym (c .before .same-text .ensures) ∙ c .if1 .
 pub or-named-spec : {M : Type 1} → statement M
 or-named-spec =
     tie.close
-    (tie.spec
-    (λ c κs. search needs)
-    returns
-    returns-2)
+    (tie.spec (λ c κs. search needs) returns returns-2)

@@ -27,12 +27,16 @@ returns-7 c = rw (c .before .before .before .before .enum-told5 .given .1) (c .b
 returns-8 : tie.Need-returns-8
 returns-8 c = rw (c .before .before .before .before .enum-told6 .given .1) (c .before .before .place-after .ensures)
 
+returns-9 : tie.Need-returns-9
+returns-9 c = rw (c .before .before .before .before .enum-told7 .given .1) (c .before .before .place-shade .ensures)
+
 pub place-verb-spec : {M : Type 1} → statement M
 place-verb-spec =
     tie.close
     (tie.spec (λ c. search needs) (λ c κs. search needs) (λ c. search needs) (λ c κs. search needs)
     (λ c. search needs) (λ c κs. search needs) (λ c. search needs) (λ c κs. search needs) (λ c. search needs)
     (λ c κs. search needs) (λ c. search needs) (λ c κs. search needs) (λ c. search needs) (λ c κs. search needs)
-    (λ c. search needs) (λ c κs. search needs) (λ c. search needs) returns (λ c. search needs) returns-2
-    (λ c. search needs) returns-3 (λ c. search needs) returns-4 (λ c. search needs) returns-5 (λ c. search needs)
-    returns-6 (λ c. search needs) returns-7 (λ c. search needs) returns-8)
+    (λ c. search needs) (λ c κs. search needs) (λ c. search needs) (λ c κs. search needs) (λ c. search needs) returns
+    (λ c. search needs) returns-2 (λ c. search needs) returns-3 (λ c. search needs) returns-4 (λ c. search needs)
+    returns-5 (λ c. search needs) returns-6 (λ c. search needs) returns-7 (λ c. search needs) returns-8
+    (λ c. search needs) returns-9)

@@ -11,7 +11,4 @@ returns c = c .or-named .ensures
 pub strip-of-spec : {M : Type 1} → statement M
 strip-of-spec =
     tie.close
-    (tie.spec
-    (λ c. search needs)
-    (λ c κs. search needs)
-    returns)
+    (tie.spec (λ c. search needs) (λ c κs. search needs) returns)

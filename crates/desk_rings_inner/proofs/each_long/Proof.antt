@@ -38,16 +38,5 @@ returns-2 c = let l = c .before .loop in long-true _ _ (on-end _ _ (l .i) (l .c)
 pub each-long-spec : {M : Type 1} → statement M
 each-long-spec =
     tie.close
-    (tie.spec
-    Inv-loop
-    μ-loop
-    loop-holds
-    (λ c. search needs)
-    (λ c. search needs)
-    (λ c. search needs)
-    (λ c. search needs)
-    loop-again
-    returns
-    (λ c. search needs)
-    loop-again-2
-    returns-2)
+    (tie.spec Inv-loop μ-loop loop-holds (λ c. search needs) (λ c. search needs) (λ c. search needs)
+    (λ c. search needs) loop-again returns (λ c. search needs) loop-again-2 returns-2)

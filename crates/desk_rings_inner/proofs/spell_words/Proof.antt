@@ -48,22 +48,6 @@ returns-2 c = let l = c .before .loop in upto-end _ _ (l .i) _ _ (l .inv .2) (om
 pub spell-words-spec : {M : Type 1} → statement M
 spell-words-spec =
     tie.close
-    (tie.spec
-    Inv-loop
-    μ-loop
-    loop-holds
-    (λ c. search needs)
-    (λ c. search needs)
-    (λ c. search needs)
-    loop-again
-    (λ c κs. search needs)
-    same-length
-    returns
-    (λ c. search needs)
-    (λ c. search needs)
-    (λ c. search needs)
-    (λ c. search needs)
-    loop-again-2
-    (λ c. search needs)
-    same-length-2
-    returns-2)
+    (tie.spec Inv-loop μ-loop loop-holds (λ c. search needs) (λ c. search needs) (λ c. search needs) loop-again
+    (λ c κs. search needs) same-length returns (λ c. search needs) (λ c. search needs) (λ c. search needs)
+    (λ c. search needs) loop-again-2 (λ c. search needs) same-length-2 returns-2)

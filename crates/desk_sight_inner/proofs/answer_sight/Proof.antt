@@ -15,12 +15,5 @@ returns c = put-shown _ _ (c .before .before .before .before .tell .result) (c .
 pub answer-sight-spec : {M : Type 1} → statement M
 answer-sight-spec =
     tie.close
-    (tie.spec
-    slice-aggregate-tell
-    (λ c. search needs)
-    (λ c. search needs)
-    (λ c. search needs)
-    (λ c κs. search needs)
-    (λ c κs. search needs)
-    (λ c. search needs)
-    returns)
+    (tie.spec slice-aggregate-tell (λ c. search needs) (λ c. search needs) (λ c. search needs) (λ c κs. search needs)
+    (λ c κs. search needs) (λ c. search needs) returns)

@@ -6,17 +6,8 @@ use borrow.Author.Needs.{needs}
 use Rattle.desk_sight_inner.proofs.place_most.Statement.{statement}
 use Rattle.desk_sight_inner.proofs.place_most.Tie as tie
 
-head-of-requires : tie.Need-head-of-requires
-head-of-requires c κs = search needs
-
 enum-told : tie.Need-enum-told
 enum-told c = search needs
-
-place-malformed-requires : tie.Need-place-malformed-requires
-place-malformed-requires c κs = search needs
-
-enum-known-most : tie.Need-enum-known-most
-enum-known-most c = search needs
 
 sub-ask-sight : tie.Need-sub-ask-sight
 sub-ask-sight c = let h = rw (c .before .most .given .1) at (c .before .before .before .head-of .ensures) in omega (arith, h .1)
@@ -24,26 +15,11 @@ sub-ask-sight c = let h = rw (c .before .most .given .1) at (c .before .before .
 part-ask-sight-start : tie.Need-part-ask-sight-start
 part-ask-sight-start c = let h = rw (c .before .most .given .1) at (c .before .before .before .head-of .ensures) in omega (arith, h .1)
 
-part-ask-sight-end : tie.Need-part-ask-sight-end
-part-ask-sight-end c = search needs
-
-slice-aggregate-ask-sight : tie.Need-slice-aggregate-ask-sight
-slice-aggregate-ask-sight c = search needs
-
-ask-sight-requires : tie.Need-ask-sight-requires
-ask-sight-requires c κs = search needs
-
-same-length : tie.Need-same-length
-same-length c = search needs
-
 returns : tie.Need-returns
 returns c =
     let d = c .before .before .before .before in
     let n = no-most (d .before .before .before .before .before .args .t .now) (rw (d .enum-told .given .1) at (d .before .before .head-of .ensures)) in
     put-bad _ _ _ _ _ _ n (c .before .before .place-malformed .ensures)
-
-same-length-2 : tie.Need-same-length-2
-same-length-2 c = search needs
 
 returns-2 : tie.Need-returns-2
 returns-2 c =
@@ -54,17 +30,6 @@ returns-2 c =
 pub place-most-spec : {M : Type 1} → statement M
 place-most-spec =
     tie.close
-    (tie.spec
-    head-of-requires
-    enum-told
-    place-malformed-requires
-    enum-known-most
-    sub-ask-sight
-    part-ask-sight-start
-    part-ask-sight-end
-    slice-aggregate-ask-sight
-    ask-sight-requires
-    same-length
-    returns
-    same-length-2
-    returns-2)
+    (tie.spec (λ c κs. search needs) enum-told (λ c κs. search needs) (λ c. search needs) sub-ask-sight
+    part-ask-sight-start (λ c. search needs) (λ c. search needs) (λ c κs. search needs) (λ c. search needs) returns
+    (λ c. search needs) returns-2)

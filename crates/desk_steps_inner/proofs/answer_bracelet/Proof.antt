@@ -23,9 +23,4 @@ returns c =
 pub answer-bracelet-spec : {M : Type 1} → statement M
 answer-bracelet-spec =
     tie.close
-    (tie.spec
-    (λ c κs. search needs)
-    place-arrival-requires
-    (λ c. search needs)
-    (λ c. search needs)
-    returns)
+    (tie.spec (λ c κs. search needs) place-arrival-requires (λ c. search needs) (λ c. search needs) returns)

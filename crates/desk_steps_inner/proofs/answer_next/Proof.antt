@@ -23,9 +23,4 @@ returns c =
 pub answer-next-spec : {M : Type 1} → statement M
 answer-next-spec =
     tie.close
-    (tie.spec
-    (λ c κs. search needs)
-    place-outcome-requires
-    (λ c. search needs)
-    (λ c. search needs)
-    returns)
+    (tie.spec (λ c κs. search needs) place-outcome-requires (λ c. search needs) (λ c. search needs) returns)

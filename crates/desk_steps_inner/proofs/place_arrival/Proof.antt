@@ -24,21 +24,6 @@ returns-3 c = rw (c .before .before .before .before .before .a .given .1) (c .be
 pub place-arrival-spec : {M : Type 1} → statement M
 place-arrival-spec =
     tie.close
-    (tie.spec
-    (λ c. search needs)
-    (λ c. search needs)
-    (λ c. search needs)
-    place-line-requires
-    (λ c. search needs)
-    (λ c. search needs)
-    (λ c. search needs)
-    (λ c. search needs)
-    place-line-requires-2
-    (λ c. search needs)
-    (λ c κs. search needs)
-    (λ c. search needs)
-    returns
-    (λ c. search needs)
-    returns-2
-    (λ c. search needs)
-    returns-3)
+    (tie.spec (λ c. search needs) (λ c. search needs) (λ c. search needs) place-line-requires (λ c. search needs)
+    (λ c. search needs) (λ c. search needs) (λ c. search needs) place-line-requires-2 (λ c. search needs)
+    (λ c κs. search needs) (λ c. search needs) returns (λ c. search needs) returns-2 (λ c. search needs) returns-3)

@@ -70,16 +70,6 @@ returns c =
 pub answer-strip-spec : {M : Type 1} → statement M
 answer-strip-spec =
     tie.close
-    (tie.spec
-    (λ c κs. search needs)
-    (λ c. search needs)
-    (λ c κs. search needs)
-    (λ c. search needs)
-    power-requires
-    array-borrow-prefix-out
-    slice-aggregate-answer-whole
-    answer-whole-requires
-    (λ c. search needs)
-    returns
-    (λ c. search needs)
-    (λ c. search needs))
+    (tie.spec (λ c κs. search needs) (λ c. search needs) (λ c κs. search needs) (λ c. search needs) power-requires
+    array-borrow-prefix-out slice-aggregate-answer-whole answer-whole-requires (λ c. search needs) returns
+    (λ c. search needs) (λ c. search needs))

@@ -8,10 +8,12 @@ use Rattle.desk_texts_inner.proofs.place_line.Tie as tie
 place-filled-requires : tie.Need-place-filled-requires
 place-filled-requires c κs =
     let a = c .before .before .before .before .before .args in
-    omega (arith, c .before .before .before .before .before .pre, filled-short (a .text .now) (a .numbers .now) (a .n) (a .ring .now) (λ i. omega (arith, c .before .before .shared-slice-known2 .given i)))
-
-same-length : tie.Need-same-length
-same-length c = search needs
+    omega (
+      arith,
+      c .before .before .before .before .before .pre,
+      filled-short (a .text .now) (a .numbers .now) (a .n) (a .ring .now)
+          (λ i. omega (arith, c .before .before .shared-slice-known2 .given i)),
+    )
 
 returns : tie.Need-returns
 returns c =
@@ -24,4 +26,4 @@ returns c =
     }
 
 pub place-line-spec : {M : Type 1} → statement M
-place-line-spec = tie.close (tie.spec place-filled-requires same-length returns)
+place-line-spec = tie.close (tie.spec place-filled-requires (λ c. search needs) returns)

@@ -1,0 +1,2 @@
+-- Which patterns are numbers, and the patterns of digits (Patterns).
+pub mod Patterns

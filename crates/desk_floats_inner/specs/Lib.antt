@@ -1,0 +1,2 @@
+-- What making floats of digits promises (Says).
+pub mod Says

@@ -1,0 +1,2 @@
+-- What the calls tell has bits of its own (Numbers).
+pub mod Numbers

@@ -1,0 +1,2 @@
+-- Answers whose value has bits of its own (Says).
+pub mod Says

@@ -1,0 +1,2 @@
+-- What the parts of `shade` promise (Says).
+pub mod Says
