@@ -12,23 +12,21 @@
 --     LineStopSays x w t             why it stopped before the end: at the first refused line the first time, of which nothing is written; at a read or a write that failed;
 --                                    or the input is too long, or not the same
 --     LinePassSays, LineWrittenSays, LineThroughSays    how a time ended, a second time, and the whole: `Whole` only where all lines write, and both times came to one place
---     refusedLineText r n, endedText t    what is said: refused 3 at 2 in line 4; or what any program says
+--     endedRoom, endedText t         what is said, and how long it may be: of a refused line, refused 3 at 2 in line 4; or what any program says
 use Prim.Native.Nat.{ℕ, _+_, _*_, _<_, _≤_}
 use mathlib.Core.Path.{_≡_}
 use mathlib.Core.Logic.{_⊎_}
 use mathlib.Core.Bool.{Bool, true, false}
-use mathlib.Core.List.{List, [], _∷_}
+use mathlib.Core.List.{List, []}
 use lib.ListN.{length, take}
-use Rattle.text_spec.specs.Ascii.{ascii}
-use Rattle.text_fill_spec.specs.Filled.{filledText}
 use Rattle.refusal.specs.declared.Refusal.{Refusal}
-use Rattle.refusal.specs.Numbers.{numberOf, placeOf}
 use Rattle.record_spec.specs.declared.Kind.{Kind}
 use Rattle.stream_spec.specs.Lines.{ended}
 use Rattle.stream_spec.specs.Texts.{Texts}
 use Rattle.program_ending_inner.specs.declared.Ending.{Ending}
 use Rattle.program_ending_inner.specs.declared.Ending.the-variants as E
 use Rattle.program_ending_inner.specs.Text.{endingText}
+use Rattle.program_refusal_spec.specs.Text.{refusedLineText}
 use Rattle.converter_program_inner.specs.Says.{limit}
 use Rattle.files_text_inner.specs.Room.{recordRoom}
 use Rattle.files_write_spec.specs.RingLines.{mostKept, LineWrites}
@@ -118,9 +116,6 @@ pub data LineThroughSays (x : Kind) (t : Ended) : Type 0 where
 
 abbrev pub endedRoom : ℕ
 endedRoom = 100
-
-abbrev pub refusedLineText : Refusal → ℕ → List ℕ
-refusedLineText r n = filledText (ascii "refused % at % in line %\n") (numberOf r ∷ placeOf r ∷ n ∷ []) 0 []
 
 abbrev pub endedText : Ended → List ℕ
 endedText (Line r n) = refusedLineText r n

@@ -20,7 +20,7 @@ ghost use Rattle.converter_program_inner.specs.Says.{limit};
 ghost use Rattle.files_text_inner.specs.Room.{recordRoom};
 ghost use Rattle.files_write_spec.specs.RingLines.{mostKept};
 ghost use Rattle.files_write_inner.specs.Says.{mostEnded};
-ghost use Rattle.files_write_program_inner.specs.Says.{RoomyLines, lineRefusedOf, lineFailedOf, writesRecords, HandedOn, LineTurnSays, LineLastSays, LineAtSays, LinePassSays, LineWrittenSays, LineThroughSays, endedRoom, refusedLineText, endedText};
+ghost use Rattle.files_write_program_inner.specs.Says.{RoomyLines, lineRefusedOf, lineFailedOf, writesRecords, HandedOn, LineTurnSays, LineLastSays, LineAtSays, LinePassSays, LineWrittenSays, LineThroughSays, endedRoom, endedText};
 
 // Which time through the input it is.
 pub enum Time {
@@ -211,16 +211,6 @@ fn go_through(kind: Kind, block: &mut [u8], line: &mut [u8], out: &mut [u8]) -> 
     }
 }
 
-// What is said of a line that is refused: refused 3 at 2 in line 4.
-fn say_line(r: Refusal, n: usize, buf: &mut [u8]) -> usize
-    requires { ⌜ endedRoom ≤ length (now buf) ⌝ }
-    ensures { λ e. ⌜ Placed (now (buf .entry)) 0 (refusedLineText r n) e (now (buf .exit)) ⌝ }
-    ensures { λ e. ⌜ e ≤ endedRoom ⌝ }
-{
-    let numbers = [refusal::number(r), refusal::place(r), n];
-    text_fill_inner::place_filled(buf, 0, b"refused % at % in line %\n", &numbers, 0, b"")
-}
-
 // What is said of how a run ended, at the beginning of the buffer, and its length.
 fn say_ended(e: Ended, buf: &mut [u8]) -> usize
     requires { ⌜ endedRoom ≤ length (now buf) ⌝ }
@@ -228,7 +218,7 @@ fn say_ended(e: Ended, buf: &mut [u8]) -> usize
     ensures { λ r. ⌜ r ≤ endedRoom ⌝ }
 {
     match e {
-        Ended::Line(r, n) => say_line(r, n, buf),
+        Ended::Line(r, n) => program_refusal_inner::place_refused_line(r, n, buf),
         Ended::As(t) => program_ending_inner::say(t, buf),
     }
 }

@@ -7,7 +7,7 @@ use Rattle.files_write_program_inner.proofs.say_ended.Statement.{statem
 use Rattle.files_write_program_inner.proofs.say_ended.Tie as tie
 
 returns : tie.Need-returns
-returns c = rw (c .before .before .before .before .before .e .given .1) (c .before .before .say-line .ensures)
+returns c = rw (c .before .before .before .before .before .e .given .1) (c .before .before .place-refused-line .ensures)
 
 returns-2 : tie.Need-returns-2
 returns-2 c =

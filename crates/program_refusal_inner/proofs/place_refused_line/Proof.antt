@@ -1,11 +1,11 @@
--- `files_write_program_inner::say_line` meets its contract.
+-- `program_refusal_inner::place_refused_line` meets its contract.
 use Prim.Native.Nat.{_<_, _^_}
 use mathlib.Core.Path.{_≡_, refl, sym, ap, _∙_}
 use native.Mathlib.Omega.{arith}
-use Rattle.files_write_program_inner.proofs.Said.{line-short}
+use Rattle.program_refusal_inner.proofs.Said.{line-short}
 use borrow.Author.Needs.{needs}
-use Rattle.files_write_program_inner.proofs.say_line.Statement.{statement}
-use Rattle.files_write_program_inner.proofs.say_line.Tie as tie
+use Rattle.program_refusal_inner.proofs.place_refused_line.Statement.{statement}
+use Rattle.program_refusal_inner.proofs.place_refused_line.Tie as tie
 
 place-filled-requires : tie.Need-place-filled-requires
 place-filled-requires c κs =
@@ -28,8 +28,8 @@ returns c =
     let p = c .before .before .place-filled .ensures in
     (rw (a .ensures, b .ensures) at p, omega (arith, p .next, line-short (a .result) (b .result) n x y z))
 
-pub say-line-spec : {M : Type 1} → statement M
-say-line-spec =
+pub place-refused-line-spec : {M : Type 1} → statement M
+place-refused-line-spec =
     tie.close
     (tie.spec (λ c κs. search needs) (λ c κs. search needs) (λ c. search needs) (λ c. search needs)
     (λ c. search needs) place-filled-requires (λ c. search needs) returns)

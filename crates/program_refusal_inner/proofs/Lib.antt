@@ -1,0 +1,2 @@
+-- What is said has room (Said).
+pub mod Said

@@ -1,0 +1,2 @@
+-- How long it may be (Room).
+pub mod Room

@@ -1,0 +1,2 @@
+-- A text written out (Samples).
+pub mod Samples
