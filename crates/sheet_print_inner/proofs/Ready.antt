@@ -2,24 +2,28 @@
 --     slice-at, pass-at               a ring in its place, and its checks
 --     pass-more, wrong-at             one target more, or the first that is refused
 --     picked-places                   the places of a set that was picked
---     judge-refused, judge-none, judge-checked    what is ready, or printed instead
---     no-input, not-read, own-rings, prepared     what an input asks for
+--     judge-refused, judge-none, judge-checked, set-prepared    what is ready, or printed instead
+--     own-good, own-wrong, own-as, own-none, own-some    the same of lines
+--     behind-line, behind-none        where lines begin
+--     not-read, too-long, prepared-set, prepared-lines, prepared-none     what an input asks for
 --     step-placed                     a target that is placed
 --     step-never                      no target of a sheet that is ready is refused
---     steps-sheet, steps-printed      the steps one after another are the sheet, and what the input prints
+--     steps-sheet                     the steps one after another are the sheet, whatever gives its rings
+--     steps-printed, own-printed      and they are what the input prints
 use Prim.Native.Nat.{ℕ, zero, suc, _+_, _-_, _*_, _<_, _≤_}
 use mathlib.Core.Path.{_≡_, refl, sym, ap, subst, _∙_}
 use mathlib.Core.Logic.{inl, inr}
 use mathlib.Core.Bool.{Bool, true, false, false≢true}
-use mathlib.Core.List.{List, [], _∷_, _++_}
+use mathlib.Core.List.{List, [], _∷_, _++_, map}
 use native.Mathlib.Omega.{arith}
 use native.Mathlib.Decide.{decLt}
 use native.Mathlib.Numerals.{add-one}
 use lib.Dec.{eqb}
 use Rattle.words.proofs.Split.{lt, eq, gt, tri}
 use borrow.Author.Tests.{eq-eqb, ne-eqb}
-use lib.ListN.{length, getD, take, drop}
+use lib.ListN.{length, getD, take, drop, length-map}
 use Rattle.text_words_spec.specs.Words.{pieces, PieceAt}
+use Rattle.stream_spec.specs.Lines.{lines}
 use Rattle.refusal.specs.declared.Refusal.{Refusal}
 use Rattle.refusal.specs.declared.Refusal.the-variants.{Line, Set}
 use Rattle.refusal.specs.declared.Checked.{Checked}
@@ -47,9 +51,17 @@ use Rattle.sheet_words_inner.specs.Says.{ReadsAs}
 use Rattle.desk_spec.specs.Texts.{refusalText}
 use Rattle.desk_spec.specs.Questions.{Replies, good, bad}
 use Rattle.desk_spec.proofs.Questions.{place-one}
-use Rattle.sheet_print_spec.specs.Prints.{targetOrder, TargetsPrint, none, wrong, whole, ruleOf, chosenFor, ChosenPrints, refused, taken, ReadsSet, SheetPrints}
-use Rattle.sheet_print_inner.specs.Says.{isGood, isOwn, SetPlaces, AllPass, FirstWrong, CheckedTargets, ReadySet, JobAnswers, Prepared}
-use Rattle.sheet_print_inner.specs.Steps.{PlacedAt, SheetSteps, over, step}
+use Rattle.program_refusal_spec.specs.Text.{refusedLineText}
+use Rattle.sheet_print_spec.specs.Prints.{none, wrong, whole, targetOrder, TargetsPrint, ruleOf, chosenFor, ChosenPrints, refused, taken}
+use Rattle.sheet_print_spec.specs.Prints.{ringIn, ownSheet, OwnPrints, ReadsSheet, PrintsBy, SheetPrints}
+use Rattle.sheet_print_spec.proofs.Rings.{rings-at}
+use Rattle.sheet_own_inner.specs.Says.{LinesPass, WrongLine}
+use Rattle.sheet_own_inner.proofs.Lines.{rest-is}
+use Rattle.sheet_print_inner.specs.declared.Answer.{Answer}
+use Rattle.sheet_print_inner.specs.declared.Answer.the-variants as A
+use Rattle.sheet_print_inner.specs.Says.{isGood, isOwn, SetPlaces, AllPass, FirstWrong, CheckedTargets, ReadySet, JobAnswers, setAnswer, SetPrepared}
+use Rattle.sheet_print_inner.specs.Says.{ownAnswer, ReadyOwn, OwnPrepared, BehindLine, linesAt, Prepared}
+use Rattle.sheet_print_inner.specs.Steps.{ownRings, SheetSteps, over, step}
 
 -- ---- a ring in its place
 
@@ -119,43 +131,129 @@ ready-prints o p t r =
     let y : TargetsPrint o (chosenFor o) (sheetText o (chosenFor o)) = subst (λ (ws : List (List ℕ)). TargetsPrint o ws (sheetText o ws)) e x in
     subst (λ (ws : List (List ℕ)). ChosenPrints o (sheetText o ws)) (sym e) (taken (r .asked) y)
 
+-- what is printed of a set
+pub set-prepared : (o : Sheet) (p : List ℕ) (t : ℕ) (v : Checked) → JobAnswers o p t v → SetPrepared o p t (setAnswer v)
+set-prepared o p t Good x = x
+set-prepared o p t (Refused r) x = x
+
+-- ---- rings of one's own
+
+module _ (o : Sheet) (ls : List (List ℕ)) (q : Sheet) (is : q ≡ ownSheet o ls) where
+  -- of lines that all pass
+  pub own-good : (t : ℕ) → (t ≡ length ls) × LinesPass q ls t → OwnPrepared o ls q t (ownAnswer t)
+  own-good zero x = none (sym (x .0)) refl
+  own-good (suc t) x = (is, record { number = x .0; some = omega arith; passed = x .1 })
+
+  -- of a line that is refused
+  pub own-wrong : (t : ℕ) (r : Refusal) (j : ℕ) → WrongLine q ls r j → OwnPrepared o ls q t (A.Wrong r j)
+  own-wrong t r j w = wrong (w .place) (w .within) (rw is at (w .before)) r (rw is at (w .given)) (ap (refusedLineText r) (w .number))
+
+  -- what is ready prints the sheet
+  own-prints : (t : ℕ) → ReadyOwn q ls t → OwnPrints o ls (sheetText q (map ringIn ls))
+  own-prints t r =
+      let q : LinesPass q ls (length ls) = λ i h. r .passed i (omega (arith, r .number, h)) in
+      whole (omega (arith, r .number, r .some)) (rw is at q) (ap (λ (x : Sheet). sheetText x (map ringIn ls)) is)
+
+-- the same of what is called by other names
+pub own-as : (o : Sheet) (ls : List (List ℕ)) (q r : Sheet) (t m : ℕ) (a b : Answer) → r ≡ q → m ≡ t → b ≡ a → OwnPrepared o ls q t a → OwnPrepared o ls r m b
+own-as o ls q r t m a b e f g x = rw (e, f, g) x
+
+-- there are no lines, or there are some
+pub own-none : (t : ℕ) → t ≡ 0 → A.Refused Set ≡ ownAnswer t
+own-none t e = rw e refl
+
+pub own-some : (t : ℕ) → (t ≡ 0 → ⊥) → A.Own ≡ ownAnswer t
+own-some zero n = absurd (n refl)
+own-some (suc t) n = refl
+
+-- where the lines begin
+pub behind-line : (s : List ℕ) (e : ℕ) → e < length s → BehindLine s e (e + 1)
+behind-line s e h = record { within = omega arith; same = refl }
+
+pub behind-none : (s : List ℕ) (e : ℕ) → length s ≤ e → e ≤ length s → BehindLine s e e
+behind-none s e h l = record { within = l; same = bytes-none s e h ∙ sym (bytes-none s (e + 1) (omega arith)) }
+  where
+    bytes-none : (s : List ℕ) (i : ℕ) → length s ≤ i → drop i s ≡ []
+    bytes-none [] zero h = refl
+    bytes-none [] (suc i) h = refl
+    bytes-none (a ∷ s) zero h = absurd (omega arith)
+    bytes-none (a ∷ s) (suc i) h = bytes-none s i (omega arith)
+
 -- ---- an input
 
-module _ (s : List ℕ) (e : ℕ) (at : PieceAt 10 s e) where
-  pub no-input : 1 < length s - e → SheetPrints s (refusalText Line)
-  no-input h = bad (λ q x. omega (arith, place-one 10 s (x .at) e (x .ends) at, x .alone, h)) refl
+-- what it prints, by where its rings come from
+by-set : (a : Source) (o : Sheet) (ls : List (List ℕ)) (t : List ℕ) → isOwn a ≡ false → ChosenPrints o t → PrintsBy a o ls t
+by-set S.Guarded o ls t e x = x
+by-set S.Plain o ls t e x = x
+by-set S.Own o ls t e x = absurd (false≢true (sym e))
 
-  line-of : (q : Sheet) (x : ReadsSet s q) → ReadsAs (take e s) q true
+by-own : (a : Source) (o : Sheet) (ls : List (List ℕ)) (t : List ℕ) → isOwn a ≡ true → OwnPrints o ls t → PrintsBy a o ls t
+by-own S.Guarded o ls t e x = absurd (false≢true e)
+by-own S.Plain o ls t e x = absurd (false≢true e)
+by-own S.Own o ls t e x = x
+
+own-source : (a : Source) → isOwn a ≡ true → a ≡ S.Own
+own-source S.Guarded e = absurd (false≢true e)
+own-source S.Plain e = absurd (false≢true e)
+own-source S.Own e = refl
+
+module _ (s : List ℕ) (e : ℕ) (at : PieceAt 10 s e) where
+  line-of : (q : Sheet × List (List ℕ)) → ReadsSheet s q → ReadsAs (take e s) (q .0) true
   line-of q x = rw (place-one 10 s (x .at) e (x .ends) at) at (x .line)
 
   pub not-read : (o : Sheet) → ReadsAs (take e s) o false → SheetPrints s (refusalText Line)
-  not-read o n = bad (λ q x. n q (line-of q x)) refl
+  not-read o n = bad (λ q x. n (q .0) (line-of q x)) refl
 
   module _ (o : Sheet) (l : ReadsAs (take e s) o true) where
-    pub own-rings : isOwn (o .source) ≡ true → SheetPrints s (refusalText Line)
-    own-rings own = bad (λ q x. x .chosen (own-source (q .source) (ap (λ (y : Sheet). isOwn (y .source)) (one-sheet (pieces 32 (take e s)) q o (line-of q x) l) ∙ own))) refl
-      where
-        own-source : (y : Source) → isOwn y ≡ true → y ≡ S.Own
-        own-source S.Guarded q = absurd (false≢true q)
-        own-source S.Plain q = absurd (false≢true q)
-        own-source S.Own q = refl
+    source-of : (q : Sheet × List (List ℕ)) → ReadsSheet s q → q .0 .source ≡ o .source
+    source-of q x = ap (λ (y : Sheet). y .source) (one-sheet (pieces 32 (take e s)) (q .0) o (line-of q x) l)
 
-    pub prepared : isOwn (o .source) ≡ false → length s - e ≤ 1 → (r : Sheet) (p : List ℕ) (t : ℕ) (v : Checked) → r ≡ o → JobAnswers o p t v → Prepared s r p t v
-    prepared own h r p t v f j = rw f (go v j)
-      where
-        not-own : (y : Source) → isOwn y ≡ false → y ≡ S.Own → ⊥
-        not-own y q z = false≢true (sym q ∙ ap isOwn z)
+    module _ (set : isOwn (o .source) ≡ false) where
+      not-own : (a : Source) → a ≡ o .source → a ≡ S.Own → ⊥
+      not-own a f g = false≢true (sym set ∙ ap isOwn (sym f ∙ g))
 
-        reads : ReadsSet s o
-        reads = record { at = e; ends = at; alone = omega arith; line = l; chosen = not-own (o .source) own }
+      -- something stands behind the line
+      pub too-long : 1 < length s - e → SheetPrints s (refusalText Line)
+      too-long h = bad (λ q x. omega (arith, place-one 10 s (x .at) e (x .ends) at, x .alone (not-own (q .0 .source) (source-of q x)), h)) refl
 
-        go : (x : Checked) → JobAnswers o p t x → Prepared s o p t x
-        go Good y = (y, good o reads (ready-prints o p t y))
-        go (Refused x) y = good o reads y
+      pub prepared-set : length s - e ≤ 1 → (r : Sheet) (p : List ℕ) (f t : ℕ) (a : Answer) → r ≡ o → SetPrepared o p t a → Prepared s r p f t a
+      prepared-set h r p f t a is j = rw is (go a j)
+        where
+          reads : ReadsSheet s (o, lines (drop (e + 1) s))
+          reads = record { at = e; ends = at; line = l; behind = refl; alone = λ n. omega arith }
+
+          prints : (x : List ℕ) → ChosenPrints o x → SheetPrints s x
+          prints x y = good (o, lines (drop (e + 1) s)) reads (by-set (o .source) o (lines (drop (e + 1) s)) x set y)
+
+          go : (a : Answer) → SetPrepared o p t a → Prepared s o p f t a
+          go A.Set y = (y, prints _ (ready-prints o p t y))
+          go A.Own y = absurd y
+          go (A.Refused r) y = prints _ y
+          go (A.Wrong r j) y = absurd y
+
+    module _ (own : isOwn (o .source) ≡ true) (f : ℕ) (b : BehindLine s e f) where
+      prepared-own : (q : Sheet) (p : List ℕ) (t : ℕ) (a : Answer) → OwnPrepared o (lines (drop f s)) q t a → Prepared s q p f t a
+      prepared-own q p t a j = go a j
+        where
+          reads : ReadsSheet s (o, lines (drop f s))
+          reads = record { at = e; ends = at; line = l; behind = ap lines (b .same); alone = λ n. absurd (n (own-source (o .source) own)) }
+
+          prints : (x : List ℕ) → OwnPrints o (lines (drop f s)) x → SheetPrints s x
+          prints x y = good (o, lines (drop f s)) reads (by-own (o .source) o (lines (drop f s)) x own y)
+
+          go : (a : Answer) → OwnPrepared o (lines (drop f s)) q t a → Prepared s q p f t a
+          go A.Set y = absurd y
+          go A.Own y = (b .within, y .1, prints _ (own-prints o (lines (drop f s)) q (y .0) t (y .1)))
+          go (A.Refused r) y = prints _ y
+          go (A.Wrong r j) y = prints _ y
+
+      -- the same of a slice to the end
+      pub prepared-lines : (q : Sheet) (p : List ℕ) (g t : ℕ) (a : Answer) → g ≡ f → OwnPrepared o (lines (take (length s - f) (drop f s))) q t a → Prepared s q p g t a
+      prepared-lines q p g t a is j = rw is (prepared-own q p t a (rw (rest-is s f) at j))
 
 -- the answer where nothing is asked for
-pub prepared-none : (s : List ℕ) (o : Sheet) (p : List ℕ) (t : ℕ) (v : Checked) → v ≡ Refused Line → SheetPrints s (refusalText Line) → Prepared s o p t v
-prepared-none s o p t v e x = rw e x
+pub prepared-none : (s : List ℕ) (o : Sheet) (p : List ℕ) (f t : ℕ) (a : Answer) → a ≡ A.Refused Line → SheetPrints s (refusalText Line) → Prepared s o p f t a
+prepared-none s o p f t a e x = rw e x
 
 -- ---- a step
 
@@ -196,20 +294,27 @@ drop-none [] (suc i) h = refl
 drop-none (w ∷ ws) zero h = absurd (omega arith)
 drop-none (w ∷ ws) (suc i) h = drop-none ws i (omega arith)
 
-module _ (o : Sheet) (p : List ℕ) (t : ℕ) where
-  steps-placing : {i : ℕ} {x : List ℕ} → SheetSteps o p t i x → Placing o i (drop i (setIn (o .n) p t)) x
-  steps-placing over = rw (drop-none (setIn (o .n) p t) t (omega (arith, length-set-in (o .n) p t))) all
+-- where `ring` gives the rings ws
+module _ (o : Sheet) (ring : ℕ → List ℕ) (ws : List (List ℕ)) (gives : (i : ℕ) → i < length ws → getD ws i [] ≡ ring i) where
+  steps-placing : {i : ℕ} {x : List ℕ} → SheetSteps o ring (length ws) i x → Placing o i (drop i ws) x
+  steps-placing over = rw (drop-none ws (length ws) (omega arith)) all
   steps-placing (step {i} {m} {b} {b′} h s q) =
-      let ws = setIn (o .n) p t in
-      let l = length-set-in (o .n) p t in
-      let k : i < length ws = omega (arith, l) in
-      let d : drop i ws ≡ placeAt (o .n) p i ∷ drop (suc i) ws = drop-at ws i k ∙ ap (λ (w : List ℕ). w ∷ drop (suc i) ws) (set-in-at (o .n) p t i h) in
-      let z : eqb (i + 1) t ≡ text.none (drop (suc i) ws) = ap (eqb (i + 1)) (sym l) ∙ sym (none-drop ws i k) in
-      rw d (then (rw z at s) (steps-placing q))
+      let d : drop i ws ≡ ring i ∷ drop (suc i) ws = drop-at ws i h ∙ ap (λ (w : List ℕ). w ∷ drop (suc i) ws) (gives i h) in
+      rw d (then (rw (sym (none-drop ws i h)) at s) (steps-placing q))
 
-  pub steps-sheet : {x : List ℕ} → SheetSteps o p t 0 x → x ≡ sheetText o (setIn (o .n) p t)
+  pub steps-sheet : {x : List ℕ} → SheetSteps o ring (length ws) 0 x → x ≡ sheetText o ws
   steps-sheet s = placing-sheet o (steps-placing s)
 
-  -- the steps of a sheet that is ready are what the input prints
-  pub steps-printed : (s : List ℕ) {x : List ℕ} → Prepared s o p t Good → SheetSteps o p t 0 x → SheetPrints s x
-  steps-printed s r q = rw (steps-sheet q) (r .1)
+-- the steps of a sheet that is ready are what the input prints: of a set, and of rings of one's own
+module _ (s : List ℕ) (o : Sheet) (p : List ℕ) (f t : ℕ) {x : List ℕ} where
+  pub steps-printed : Prepared s o p f t A.Set → SheetSteps o (placeAt (o .n) p) t 0 x → SheetPrints s x
+  steps-printed r q =
+      let ws = setIn (o .n) p t in
+      let l = length-set-in (o .n) p t in
+      rw (steps-sheet o (placeAt (o .n) p) ws (λ i h. set-in-at (o .n) p t i (omega (arith, l, h))) (rw (sym l) at q)) (r .1)
+
+  pub own-printed : Prepared s o p f t A.Own → SheetSteps o (ownRings (linesAt s f)) t 0 x → SheetPrints s x
+  own-printed r q =
+      let ls = linesAt s f in
+      let l : t ≡ length (map ringIn ls) = r .1 .number ∙ sym (length-map ls ringIn) in
+      rw (steps-sheet o (ownRings ls) (map ringIn ls) (λ i h. rings-at ls i (omega (arith, length-map ls ringIn, h))) (rw l at q)) (r .2)

@@ -1,10 +1,11 @@
-// What the command for a sheet prints: a line read, its set chosen and every target checked before the first is placed; then target after target. No public calls.
+// What the command for a sheet prints: the line of words read, its set chosen or its lines read, and every target checked before the first is placed; then target after
+// target. No public calls.
 
 use guard_spec::Rule;
 use picture_spec::Drawn;
-use picture_spec::Tone;
 use refusal::Checked;
 use refusal::Refusal;
+use sheet_own_inner::LinesTold;
 use sheet_spec::Sheet;
 use sheet_spec::Source;
 ghost use Prim.Native.Nat.{_<_, _≤_};
@@ -12,24 +13,32 @@ ghost use mathlib.Core.Path.{_≡_};
 ghost use mathlib.Core.Bool.{Bool};
 ghost use lib.ListN.{length};
 ghost use Rattle.set_spec.specs.Places.{setIn};
-ghost use Rattle.refusal.specs.declared.Refusal.the-variants.{Line};
-ghost use Rattle.refusal.specs.declared.Checked.the-variants.{Refused};
+ghost use Rattle.stream_spec.specs.Lines.{lines};
 ghost use Rattle.refusal.specs.Order.{Passed};
 ghost use Rattle.set_pick_spec.specs.Says.{SetAnswers};
 ghost use Rattle.sheet_spec.specs.Says.{targetRoom};
 ghost use Rattle.sheet_print_spec.specs.Prints.{targetOrder, ruleOf, chosenFor};
-ghost use Rattle.sheet_print_inner.specs.Says.{isGood, isOwn, SetPlaces, CheckedTargets, JobAnswers, Prepared};
+ghost use Rattle.sheet_print_inner.specs.Says.{isGood, isOwn, setAnswer, ownAnswer, SetPlaces, CheckedTargets, JobAnswers, SetPrepared, OwnPrepared, BehindLine, Prepared};
 ghost use Rattle.sheet_print_inner.specs.Steps.{PlacedAt};
 
 // No text of a target is longer.
 const ROOM: usize = 18432;
 
-// What is printed: the sheet of the set in the places, so many rings; or the refusal.
+// What is printed: the sheet of the set in the places; that of the lines from a place of the input on; a refusal's line; or that of a line, by its number.
+pub enum Answer {
+    Set,
+    Own,
+    Refused(Refusal),
+    Wrong(Refusal, usize),
+}
+
+// The same with the sheet, the places of a set, the place where lines begin, and the number of rings.
 pub struct Job {
     pub sheet: Sheet,
     pub places: [u8; 768],
+    pub from: usize,
     pub count: usize,
-    pub answer: Checked,
+    pub answer: Answer,
 }
 
 fn is_good(v: Checked) -> bool
@@ -96,61 +105,98 @@ fn judge(sheet: Sheet, places: &[u8], taken: usize, full: bool, answer: Checked)
     }
 }
 
+// What is printed for a set.
+fn set_answer(v: Checked) -> Answer
+    ensures { λ r. ⌜ r ≡ setAnswer v ⌝ }
+{
+    match v {
+        Checked::Good => Answer::Set,
+        Checked::Refused(r) => Answer::Refused(r),
+    }
+}
+
 // The set that a sheet asks for.
 fn prepare_set(sheet: Sheet) -> Job
-    ensures { λ r. ⌜ (r .sheet ≡ sheet) × JobAnswers sheet (r .places) (r .count) (r .answer) ⌝ }
+    ensures { λ r. ⌜ (r .sheet ≡ sheet) × SetPrepared sheet (r .places) (r .count) (r .answer) ⌝ }
 {
     let source = sheet.source;
     let picked = sets::pick_by(rule_of(source), sheet.n, sheet.k, sheet.d, sheet.wanted);
     let places = picked.places;
     let found = picked.answer;
-    let answer = judge(sheet, &places, picked.taken, picked.full, found);
+    let answer = set_answer(judge(sheet, &places, picked.taken, picked.full, found));
     Job {
         sheet,
         places,
+        from: 0,
         count: picked.taken,
         answer,
     }
 }
 
-// A line that asks for no set.
-fn no_job() -> Job
-    ensures { λ r. ⌜ r .answer ≡ Refused Line ⌝ }
+// What is printed that is no set.
+fn bare_job(sheet: Sheet, from: usize, count: usize, answer: Answer) -> Job
+    ensures { λ r. ⌜ (r .sheet ≡ sheet) × (r .from ≡ from) × (r .count ≡ count) × (r .answer ≡ answer) ⌝ }
 {
-    let sheet = Sheet {
-        n: 0,
-        k: 0,
-        d: 0,
-        wanted: 0,
-        source: Source::Own,
-        tone: Tone::Managed,
-        size: 0,
-        columns: 0,
-    };
     Job {
         sheet,
         places: [0u8; 768],
-        count: 0,
-        answer: Checked::Refused(Refusal::Line),
+        from,
+        count,
+        answer,
     }
 }
 
-// What an input asks for.
-pub fn prepare(s: &[u8]) -> Job
-    ensures { λ r. ⌜ Prepared (now (s .entry)) (r .sheet) (r .places) (r .count) (r .answer) ⌝ }
+// What is printed for so many lines that pass.
+fn own_answer(count: usize) -> Answer
+    ensures { λ r. ⌜ r ≡ ownAnswer count ⌝ }
+{
+    if count == 0 {
+        return Answer::Refused(Refusal::Set);
+    }
+    Answer::Own
+}
+
+// The rings of the lines of a text, which begins at the place `from` of the input; the lent bytes are as many.
+fn prepare_own(sheet: Sheet, text: &[u8], from: usize, ring: &mut [u8]) -> Job
+    requires { ⌜ length (now text) ≤ length (now ring) ⌝ }
+    ensures { λ r. ⌜ (r .from ≡ from) × OwnPrepared sheet (lines (now (text .entry))) (r .sheet) (r .count) (r .answer) ⌝ }
+{
+    let own = sheet_own_inner::own_sheet(sheet, text);
+    match sheet_own_inner::check_lines(own, text, ring) {
+        LinesTold::Good(count) => bare_job(own, from, count, own_answer(count)),
+        LinesTold::Refused(r, j) => bare_job(own, from, 0, Answer::Wrong(r, j)),
+    }
+}
+
+// Where what stands behind the line begins that ends at e.
+fn behind(s: &[u8], e: usize) -> usize
+    requires { ⌜ e ≤ length (now s) ⌝ }
+    ensures { λ r. ⌜ BehindLine (now (s .entry)) e r ⌝ }
+{
+    if e < s.len() {
+        return e + 1;
+    }
+    e
+}
+
+// What an input asks for; the lent bytes are as many as its own.
+pub fn prepare(s: &[u8], ring: &mut [u8]) -> Job
+    requires { ⌜ length (now s) ≤ length (now ring) ⌝ }
+    ensures { λ r. ⌜ Prepared (now (s .entry)) (r .sheet) (r .places) (r .from) (r .count) (r .answer) ⌝ }
 {
     let e = text_spell_inner::piece_end(s, b'\n');
-    if 1 < s.len() - e {
-        return no_job();
-    }
     let read = sheet_words_inner::read_line(&s[..e]);
-    if !read.good {
-        return no_job();
-    }
     let sheet = read.sheet;
+    if !read.good {
+        return bare_job(sheet, 0, 0, Answer::Refused(Refusal::Line));
+    }
     let source = sheet.source;
     if is_own(source) {
-        return no_job();
+        let from = behind(s, e);
+        return prepare_own(sheet, &s[from..], from, ring);
+    }
+    if 1 < s.len() - e {
+        return bare_job(sheet, 0, 0, Answer::Refused(Refusal::Line));
     }
     prepare_set(sheet)
 }

@@ -1,54 +1,69 @@
 -- An input prints one text.
---     one-targets, one-chosen, one-set, one-printed
-use Prim.Native.Nat.{ℕ, _<_}
+--     one-wrong, one-said                    targets have one first refusal, and print one text
+--     one-chosen, one-by, one-input, one-printed
+use Prim.Native.Nat.{ℕ, _+_, _<_}
 use mathlib.Core.Path.{_≡_, refl, sym, ap, _∙_}
 use mathlib.Core.List.{List, []}
 use native.Mathlib.Omega.{arith}
-use lib.ListN.{length, take}
+use lib.ListN.{length, take, drop}
 use Rattle.text_words_spec.specs.Words.{pieces}
+use Rattle.stream_spec.specs.Lines.{lines}
 use Rattle.words.proofs.Split.{lt, eq, gt, tri}
 use Rattle.refusal.specs.declared.Refusal.{Refusal}
-use Rattle.refusal.specs.Order.{Passed, Given}
+use Rattle.refusal.specs.Order.{Checks, Passed, Given}
 use Rattle.refusal.proofs.Unique.{one-refusal, never-both}
 use Rattle.set_pick_spec.specs.Order.{setOrder}
 use Rattle.set_pick_spec.proofs.Unique.{askable-passed}
+use Rattle.sheet_spec.specs.declared.Source.{Source}
+use Rattle.sheet_spec.specs.declared.Source.the-variants as S
 use Rattle.sheet_spec.specs.declared.Sheet.{Sheet}
+use Rattle.sheet_spec.specs.Text.{sheetText}
 use Rattle.sheet_words_spec.proofs.Unique.{one-sheet}
 use Rattle.desk_spec.specs.Texts.{refusalText}
 use Rattle.desk_spec.proofs.Questions.{place-one}
 use Rattle.desk_spec.proofs.Unique.{one-asked}
-use Rattle.sheet_print_spec.specs.Prints.{targetOrder, TargetsPrint, none, wrong, whole, chosenFor, ChosenPrints, refused, taken, ReadsSet, SheetPrints}
+use Rattle.sheet_print_spec.specs.Prints.{SheetSays, none, wrong, whole, chosenFor, ChosenPrints, refused, taken, ReadsSheet, PrintsBy, SheetPrints}
 
-module _ (o : Sheet) (ws : List (List ℕ)) where
+module _ (m : ℕ) (order : ℕ → Checks) (told : ℕ → Refusal → List ℕ) (x : List ℕ) where
   -- there is one first refusal
-  one-wrong : (j : ℕ) → ((i : ℕ) → i < j → Passed (targetOrder o ws i)) → (r : Refusal) → Given (targetOrder o ws j) r →
-      (m : ℕ) → ((i : ℕ) → i < m → Passed (targetOrder o ws i)) → (q : Refusal) → Given (targetOrder o ws m) q → r ≡ q
-  one-wrong j p r g m s q h =
-      elim (tri j m) [
-        | lt l ↦ absurd (never-both (targetOrder o ws j) r g (s j l))
-        | eq e ↦ one-refusal (targetOrder o ws m) r q (rw e at g) h
-        | gt l ↦ absurd (never-both (targetOrder o ws m) q h (p m l))
+  pub one-wrong : (j : ℕ) → ((i : ℕ) → i < j → Passed (order i)) → (r : Refusal) → Given (order j) r →
+      (k : ℕ) → ((i : ℕ) → i < k → Passed (order i)) → (q : Refusal) → Given (order k) q → told j r ≡ told k q
+  one-wrong j p r g k s q h =
+      elim (tri j k) [
+        | lt l ↦ absurd (never-both (order j) r g (s j l))
+        | eq e ↦ ap (λ (y : ℕ). told y r) e ∙ ap (told k) (one-refusal (order k) r q (rw e at g) h)
+        | gt l ↦ absurd (never-both (order k) q h (p k l))
       ]
 
-  pub one-targets : (t u : List ℕ) → TargetsPrint o ws t → TargetsPrint o ws u → t ≡ u
-  one-targets t u (none z e) (none y f) = e ∙ sym f
-  one-targets t u (none z e) (wrong j l p r g f) = absurd (omega arith)
-  one-targets t u (none z e) (whole l p f) = absurd (omega arith)
-  one-targets t u (wrong j l p r g e) (none y f) = absurd (omega arith)
-  one-targets t u (wrong j l p r g e) (wrong m k s q h f) = e ∙ ap refusalText (one-wrong j p r g m s q h) ∙ sym f
-  one-targets t u (wrong j l p r g e) (whole z s f) = absurd (never-both (targetOrder o ws j) r g (s j l))
-  one-targets t u (whole z p e) (none y f) = absurd (omega arith)
-  one-targets t u (whole z p e) (wrong m k s q h f) = absurd (never-both (targetOrder o ws m) q h (p m k))
-  one-targets t u (whole z p e) (whole y s f) = e ∙ sym f
+  pub one-said : (t u : List ℕ) → SheetSays m order told x t → SheetSays m order told x u → t ≡ u
+  one-said t u (none z e) (none y f) = e ∙ sym f
+  one-said t u (none z e) (wrong j l p r g f) = absurd (omega arith)
+  one-said t u (none z e) (whole l p f) = absurd (omega arith)
+  one-said t u (wrong j l p r g e) (none y f) = absurd (omega arith)
+  one-said t u (wrong j l p r g e) (wrong k b s q h f) = e ∙ one-wrong j p r g k s q h ∙ sym f
+  one-said t u (wrong j l p r g e) (whole z s f) = absurd (never-both (order j) r g (s j l))
+  one-said t u (whole z p e) (none y f) = absurd (omega arith)
+  one-said t u (whole z p e) (wrong k b s q h f) = absurd (never-both (order k) q h (p k b))
+  one-said t u (whole z p e) (whole y s f) = e ∙ sym f
 
 pub one-chosen : (o : Sheet) (t u : List ℕ) → ChosenPrints o t → ChosenPrints o u → t ≡ u
 one-chosen o t u (refused r g e) (refused q h f) = e ∙ ap refusalText (one-refusal (setOrder (o .n) (o .k) (o .d) (o .wanted)) r q g h) ∙ sym f
 one-chosen o t u (refused r g e) (taken a x) = absurd (never-both (setOrder (o .n) (o .k) (o .d) (o .wanted)) r g (askable-passed (o .n) (o .k) (o .d) (o .wanted) a))
 one-chosen o t u (taken a x) (refused q h f) = absurd (never-both (setOrder (o .n) (o .k) (o .d) (o .wanted)) q h (askable-passed (o .n) (o .k) (o .d) (o .wanted) a))
-one-chosen o t u (taken a x) (taken b y) = one-targets o (chosenFor o) t u x y
+one-chosen o t u (taken a x) (taken b y) = one-said _ _ _ _ t u x y
 
-pub one-set : (s : List ℕ) (p q : Sheet) → ReadsSet s p → ReadsSet s q → p ≡ q
-one-set s p q a b = one-sheet (pieces 32 (take (b .at) s)) p q (rw (place-one 10 s (a .at) (b .at) (a .ends) (b .ends)) at (a .line)) (b .line)
+-- by where the rings come from
+pub one-by : (a : Source) (o : Sheet) (ls : List (List ℕ)) (t u : List ℕ) → PrintsBy a o ls t → PrintsBy a o ls u → t ≡ u
+one-by S.Guarded o ls t u x y = one-chosen o t u x y
+one-by S.Plain o ls t u x y = one-chosen o t u x y
+one-by S.Own o ls t u x y = one-said _ _ _ _ t u x y
+
+pub one-input : (s : List ℕ) (p q : Sheet × List (List ℕ)) → ReadsSheet s p → ReadsSheet s q → p ≡ q
+one-input s (o, ls) (r, ms) a b =
+    let e = place-one 10 s (a .at) (b .at) (a .ends) (b .ends) in
+    let x : o ≡ r = one-sheet (pieces 32 (take (b .at) s)) o r (rw e at (a .line)) (b .line) in
+    let y : ls ≡ ms = a .behind ∙ ap (λ (i : ℕ). lines (drop (i + 1) s)) e ∙ sym (b .behind) in
+    λ i. (x i, y i)
 
 pub one-printed : (s t u : List ℕ) → SheetPrints s t → SheetPrints s u → t ≡ u
-one-printed s t u x y = one-asked (ReadsSet s) ChosenPrints (one-set s) one-chosen t u x y
+one-printed s t u x y = one-asked (ReadsSheet s) (λ q. PrintsBy (q .0 .source) (q .0) (q .1)) (one-input s) (λ q. one-by (q .0 .source) (q .0) (q .1)) t u x y

@@ -1,28 +1,43 @@
 -- What is written.
 --     step-inside        a target's text lies within the buffer, which keeps its length
---     line-inside        and so does a refusal's line
---     ready-of           what an input asks for is ready, or refused
-use Prim.Native.Nat.{ℕ, _≤_}
+--     line-inside, wrong-inside    and so does a refusal's line
+--     ready-of, lines-ready    what an input asks for is ready, or refused
+use Prim.Native.Nat.{ℕ, _-_, _≤_}
 use mathlib.Core.Path.{_≡_}
+use mathlib.Core.Bool.{Bool}
 use mathlib.Core.List.{List}
 use native.Mathlib.Omega.{arith}
-use lib.ListN.{length}
+use lib.ListN.{length, take, drop}
+use Rattle.stream_spec.specs.Lines.{lines}
 use Rattle.text_spec.proofs.Put.{placed-length}
-use Rattle.refusal.specs.declared.Checked.{Checked}
-use Rattle.refusal.specs.declared.Checked.the-variants.{Good, Refused}
+use Rattle.text_spec.specs.Put.{Placed}
+use Rattle.program_refusal_inner.specs.Room.{refusedLineRoom}
+use Rattle.picture_spec.specs.declared.Drawn.the-variants.{Whole}
 use Rattle.sheet_spec.specs.declared.Sheet.{Sheet}
-use Rattle.sheet_spec.specs.Says.{targetRoom}
+use Rattle.sheet_spec.specs.Says.{targetRoom, TargetSays}
 use Rattle.desk_texts_inner.specs.Says.{LinePrinted}
-use Rattle.sheet_print_inner.specs.Says.{Prepared}
-use Rattle.sheet_print_inner.specs.Steps.{PlacedAt}
+use Rattle.sheet_print_inner.specs.declared.Answer.{Answer}
+use Rattle.sheet_print_inner.specs.declared.Answer.the-variants as A
+use Rattle.sheet_print_inner.specs.Says.{ReadyOwn, linesAt, Prepared}
+use Rattle.sheet_own_inner.proofs.Lines.{rest-is}
 use Rattle.sheet_program_inner.specs.Says.{AnswerReady}
 
-pub step-inside : (o : Sheet) (p : List ℕ) (t i : ℕ) (b : List ℕ) (m : ℕ) (b′ : List ℕ) → targetRoom ≤ length b → PlacedAt o p t i b m b′ → (m ≤ length b) × (length b′ ≡ length b)
-step-inside o p t i b m b′ h s = (omega (arith, s .2), placed-length b 0 _ m b′ (s .1))
+pub step-inside : (o : Sheet) (w : List ℕ) (i : ℕ) (last : Bool) (b : List ℕ) (m : ℕ) (b′ : List ℕ) → targetRoom ≤ length b →
+    TargetSays o w i last b (Whole m) b′ → (m ≤ length b) × (length b′ ≡ length b)
+step-inside o w i last b m b′ h s = (omega (arith, s .2), placed-length b 0 _ m b′ (s .1))
 
 pub line-inside : (b t : List ℕ) (m : ℕ) (b′ : List ℕ) → targetRoom ≤ length b → LinePrinted b 0 t m b′ → (m ≤ length b) × (length b′ ≡ length b)
 line-inside b t m b′ h s = (omega (arith, s .short, s .placed .next), placed-length b 0 t m b′ (s .placed))
 
-pub ready-of : (s : List ℕ) (o : Sheet) (p : List ℕ) (t : ℕ) (v : Checked) → Prepared s o p t v → AnswerReady o p t v
-ready-of s o p t Good x = x .0
-ready-of s o p t (Refused r) x = tt
+pub wrong-inside : (b t : List ℕ) (m : ℕ) (b′ : List ℕ) → targetRoom ≤ length b → Placed b 0 t m b′ → m ≤ refusedLineRoom → (m ≤ length b) × (length b′ ≡ length b)
+wrong-inside b t m b′ h p l = (omega arith, placed-length b 0 t m b′ p)
+
+pub ready-of : (s : List ℕ) (o : Sheet) (p : List ℕ) (f t : ℕ) (a : Answer) → Prepared s o p f t a → AnswerReady s o p f t a
+ready-of s o p f t A.Set x = x .0
+ready-of s o p f t A.Own x = (x .0, x .1)
+ready-of s o p f t (A.Refused r) x = tt
+ready-of s o p f t (A.Wrong r j) x = tt
+
+-- what a slice to the end holds
+pub lines-ready : (s : List ℕ) (o : Sheet) (f t : ℕ) → ReadyOwn o (linesAt s f) t → ReadyOwn o (lines (take (length s - f) (drop f s))) t
+lines-ready s o f t x = rw (rest-is s f) x

@@ -49,7 +49,7 @@ fn word_of(t: &[u8]) -> Word
 }
 
 // The sheet with another number, source, gray, size or number of columns.
-fn with_n(x: usize, o: Sheet) -> Sheet
+pub fn with_n(x: usize, o: Sheet) -> Sheet
     ensures { λ r. ⌜ r ≡ withNumberN x o ⌝ }
 {
     let source = o.source;

@@ -1,50 +1,71 @@
 -- `sheet_print_inner::prepare` meets its contract.
 use mathlib.Core.Path.{_≡_, refl, sym, ap, _∙_}
 use native.Mathlib.Omega.{arith}
-use lib.ListN.{length, length-take}
+use lib.ListN.{length, length-take, length-drop}
 use borrow.Author.Tests.{not-true, not-false}
-use Rattle.sheet_print_inner.proofs.Ready.{no-input, not-read, own-rings, prepared, prepared-none}
+use Rattle.sheet_print_inner.proofs.Ready.{not-read, too-long, prepared-set, prepared-lines, prepared-none}
 use borrow.Author.Needs.{needs}
 use Rattle.sheet_print_inner.proofs.prepare.Statement.{statement}
 use Rattle.sheet_print_inner.proofs.prepare.Tie as tie
 
+slice-aggregate-read-line : tie.Need-slice-aggregate-read-line
+slice-aggregate-read-line c = simp length-take (omega (arith, c .before .piece-end .ensures .within))
+
 returns : tie.Need-returns
 returns c =
-    prepared-none (c .before .before .before .before .args .s .now) _ _ _ _ (c .no-job .ensures)
-    (no-input (c .before .before .before .before .args .s .now) _ (c .before .before .piece-end .ensures) (c .before .if1 .taken))
+    let s = c .before .before .before .before .before .before .before .before .before .args .s .now in
+    let r = c .before .before .before .before .read-line in
+    let l = rw (not-true (r .result .good) (c .before .if1 .taken)) at (r .ensures) in
+    prepared-none s _ _ _ _ _ (c .bare-job .ensures .3) (not-read s _ (c .before .before .before .before .before .before .piece-end .ensures) (r .result .sheet) l)
 
-slice-aggregate-read-line : tie.Need-slice-aggregate-read-line
-slice-aggregate-read-line c = simp length-take (omega (arith, c .before .before .piece-end .ensures .within))
+behind-requires : tie.Need-behind-requires
+behind-requires c κs = c .before .before .before .before .before .before .before .piece-end .ensures .within
+
+sub-prepare-own : tie.Need-sub-prepare-own
+sub-prepare-own c = omega (arith, c .behind .ensures .within)
+
+part-prepare-own-start : tie.Need-part-prepare-own-start
+part-prepare-own-start c = omega (arith, c .behind .ensures .within)
+
+prepare-own-requires : tie.Need-prepare-own-requires
+prepare-own-requires c κs = simp (length-take, length-drop) (omega (arith, c .before .before .before .before .before .before .before .before .before .before .before .before .before .pre))
 
 returns-2 : tie.Need-returns-2
 returns-2 c =
-    prepared-none (c .before .before .before .before .before .before .before .before .args .s .now) _ _ _ _ (c .no-job2 .ensures)
-    (not-read (c .before .before .before .before .before .before .before .before .args .s .now) _
-    (c .before .before .before .before .before .before .piece-end .ensures) (c .before .before .before .read-line .result .sheet)
-    (rw (not-true (c .before .before .before .read-line .result .good) (c .before .if2 .taken)) at (c .before .before .before .read-line .ensures)))
+    let s = c .before .before .before .before .before .before .before .before .before .before .before .before .before .before .before .before .args .s .now in
+    let r = c .before .before .before .before .before .before .before .before .before .before .before .read-line in
+    let l = rw (not-false (r .result .good) (c .before .before .before .before .before .before .before .before .if1 .left)) at (r .ensures) in
+    let own = sym (c .before .before .before .before .before .before .before .is-own .ensures) ∙ c .before .before .before .before .before .before .if2 .taken in
+    let b = c .before .before .before .before .before .behind in
+    let j = c .before .before .prepare-own in
+    let q = j .result in
+    prepared-lines s _ (c .before .before .before .before .before .before .before .before .before .before .before .before .before .piece-end .ensures) (r .result .sheet) l own (b .result)
+    (b .ensures) (q .sheet) (q .places) (q .from) (q .count) (q .answer) (j .ensures .0) (j .ensures .1)
 
 returns-3 : tie.Need-returns-3
 returns-3 c =
-    prepared-none (c .before .before .before .before .before .before .before .before .before .before .before .args .s .now) _ _ _ _
-    (c .no-job3 .ensures) (own-rings (c .before .before .before .before .before .before .before .before .before .before .before .args .s .now) _
-    (c .before .before .before .before .before .before .before .before .before .piece-end .ensures)
-    (c .before .before .before .before .before .before .read-line .result .sheet)
-    (rw (not-false (c .before .before .before .before .before .before .read-line .result .good) (c .before .before .before .before .if2 .left)) at
-    (c .before .before .before .before .before .before .read-line .ensures)) (sym (c .before .before .is-own .ensures) ∙ c .before .if3 .taken))
+    let s = c .before .before .before .before .before .before .before .before .before .before .before .before .args .s .now in
+    let r = c .before .before .before .before .before .before .before .read-line in
+    let l = rw (not-false (r .result .good) (c .before .before .before .before .if1 .left)) at (r .ensures) in
+    let set = sym (c .before .before .before .is-own .ensures) ∙ c .before .before .if2 .left in
+    prepared-none s _ _ _ _ _ (c .bare-job2 .ensures .3) (too-long s _ (c .before .before .before .before .before .before .before .before .before .piece-end .ensures) (r .result .sheet) l set
+    (c .before .if3 .taken))
 
 returns-4 : tie.Need-returns-4
 returns-4 c =
-    prepared (c .before .before .before .before .before .before .before .before .before .before .before .args .s .now) _
-    (c .before .before .before .before .before .before .before .before .before .piece-end .ensures)
-    (c .before .before .before .before .before .before .read-line .result .sheet)
-    (rw (not-false (c .before .before .before .before .before .before .read-line .result .good) (c .before .before .before .before .if2 .left)) at
-    (c .before .before .before .before .before .before .read-line .ensures)) (sym (c .before .before .is-own .ensures) ∙ c .before .if3 .left)
-    (c .before .before .before .before .before .before .before .before .if1 .left) (c .prepare-set .result .sheet) (c .prepare-set .result .places)
-    (c .prepare-set .result .count) (c .prepare-set .result .answer) (c .prepare-set .ensures .0) (c .prepare-set .ensures .1)
+    let s = c .before .before .before .before .before .before .before .before .before .before .before .before .args .s .now in
+    let r = c .before .before .before .before .before .before .before .read-line in
+    let l = rw (not-false (r .result .good) (c .before .before .before .before .if1 .left)) at (r .ensures) in
+    let set = sym (c .before .before .before .is-own .ensures) ∙ c .before .before .if2 .left in
+    let j = c .prepare-set in
+    let q = j .result in
+    prepared-set s _ (c .before .before .before .before .before .before .before .before .before .piece-end .ensures) (r .result .sheet) l set (c .before .if3 .left) (q .sheet) (q .places)
+    (q .from) (q .count) (q .answer) (j .ensures .0) (j .ensures .1)
 
 pub prepare-spec : {M : Type 1} → statement M
 prepare-spec =
     tie.close
-    (tie.spec (λ c κs. search needs) (λ c. search needs) (λ c κs. search needs) returns slice-aggregate-read-line
-    (λ c κs. search needs) (λ c κs. search needs) returns-2 (λ c κs. search needs) (λ c κs. search needs) returns-3
-    (λ c κs. search needs) returns-4)
+    (tie.spec (λ c κs. search needs) slice-aggregate-read-line (λ c κs. search needs) (λ c κs. search needs) returns
+    (λ c κs. search needs) behind-requires sub-prepare-own part-prepare-own-start
+    (λ c. search needs) prepare-own-requires (λ c. search needs) returns-2 (λ c. search needs)
+    (λ c. search needs) returns-3 (λ c κs. search needs) returns-4)

@@ -19,58 +19,40 @@ loop-holds : tie.Need-loop-holds Inv-loop μ-loop
 loop-holds c = (omega arith, c .before .before .pre .1, refl)
 
 place-step-requires : tie.Need-place-step-requires Inv-loop μ-loop
-place-step-requires c κs = (
-  c .before .before .before .before .before .pre .0 .places,
-  (
-    (c .before .loop-test .taken, c .before .before .loop .inv .1),
-    c .before .before .before .before .before .pre .0 .passed (c .before .before .loop .i) (c .before .loop-test .taken),
-  ),
-)
+place-step-requires c κs =
+    let ready = c .before .before .before .before .before .pre .0 in
+    let l = c .before .before .loop in
+    (ready .places, ((c .before .loop-test .taken, l .inv .1), ready .passed (l .i) (c .before .loop-test .taken)))
 
 slice-reshare-prefix-write-all : tie.Need-slice-reshare-prefix-write-all Inv-loop μ-loop
 slice-reshare-prefix-write-all c =
-    let s = step-inside (c .before .before .before .before .before .before .before .before .args .sheet)
-    (c .before .before .before .before .before .before .before .before .args .places .now)
-    (c .before .before .before .before .before .before .before .before .args .count) (c .before .before .before .before .before .loop .i)
-    (c .before .before .before .before .before .loop .buf) _ _ (c .before .before .before .before .before .loop .inv .1)
-    (c .before .before .place-step .ensures) in
+    let l = c .before .before .before .before .before .loop in
+    let s = step-inside (c .before .before .before .before .before .before .before .before .args .sheet) _ (l .i) _ (l .buf) _ _ (l .inv .1) (c .before .before .place-step .ensures) in
     omega (arith, s)
 
 slice-aggregate-write-all : tie.Need-slice-aggregate-write-all Inv-loop μ-loop
 slice-aggregate-write-all c =
-    let s = step-inside (c .before .before .before .before .before .before .before .before .before .args .sheet)
-    (c .before .before .before .before .before .before .before .before .before .args .places .now)
-    (c .before .before .before .before .before .before .before .before .before .args .count)
-    (c .before .before .before .before .before .before .loop .i) (c .before .before .before .before .before .before .loop .buf) _ _
-    (c .before .before .before .before .before .before .loop .inv .1) (c .before .before .before .place-step .ensures) in
+    let l = c .before .before .before .before .before .before .loop in
+    let s = step-inside (c .before .before .before .before .before .before .before .before .before .args .sheet) _ (l .i) _ (l .buf) _ _ (l .inv .1)
+    (c .before .before .before .place-step .ensures) in
     simp length-take (omega (arith, s))
 
 add-i : tie.Need-add-i Inv-loop μ-loop
-add-i c =
-    omega (
-      arith,
-      c .before .before .before .before .before .before .before .before .before .before .before .pre .0 .places .most,
-      c .before .before .before .before .before .before .before .loop-test .taken,
-    )
+add-i c = omega (
+  arith,
+  c .before .before .before .before .before .before .before .before .before .before .before .pre .0 .places .most,
+  c .before .before .before .before .before .before .before .loop-test .taken,
+)
 
 loop-less : tie.Need-loop-less Inv-loop μ-loop
 loop-less c = omega (arith, c .before .before .before .before .before .before .before .loop-test .taken)
 
 loop-again : tie.Need-loop-again Inv-loop μ-loop
 loop-again c =
-    let s = step-inside (c .before .before .before .before .before .before .before .before .before .before .before .args .sheet)
-    (c .before .before .before .before .before .before .before .before .before .before .before .args .places .now)
-    (c .before .before .before .before .before .before .before .before .before .before .before .args .count)
-    (c .before .before .before .before .before .before .before .before .loop .i)
-    (c .before .before .before .before .before .before .before .before .loop .buf) _ _
-    (c .before .before .before .before .before .before .before .before .loop .inv .1)
-    (c .before .before .before .before .before .place-step .ensures) in (
-      omega (arith, c .before .before .before .before .before .before .before .loop-test .taken),
-      omega
-          (arith, s, c .before .before .before .before .before .before .before .before .loop .inv .1),
-      s .1 ∙
-          c .before .before .before .before .before .before .before .before .loop .inv .2,
-    )
+    let l = c .before .before .before .before .before .before .before .before .loop in
+    let s = step-inside (c .before .before .before .before .before .before .before .before .before .before .before .args .sheet) _ (l .i) _ (l .buf) _ _ (l .inv .1)
+    (c .before .before .before .before .before .place-step .ensures) in
+    (omega (arith, c .before .before .before .before .before .before .before .loop-test .taken), omega (arith, s, l .inv .1), s .1 ∙ l .inv .2)
 
 returns-2 : tie.Need-returns-2 Inv-loop μ-loop
 returns-2 c = omega (arith, c .before .loop .inv .0, c .loop-test .left)
@@ -79,5 +61,5 @@ pub print-targets-spec : {M : Type 1} → statement M
 print-targets-spec =
     tie.close
     (tie.spec Inv-loop μ-loop loop-holds place-step-requires slice-reshare-prefix-write-all slice-aggregate-write-all
-    (λ c κs. search needs) (λ c. search needs) (λ c. search needs) add-i loop-less loop-again (λ c. search needs)
-    returns-2)
+    (λ c κs. search needs) (λ c. search needs) (λ c. search needs) add-i loop-less loop-again
+    (λ c. search needs) returns-2)
