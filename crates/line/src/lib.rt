@@ -1,7 +1,7 @@
 // The line that the listing program reads (01, 'The listing program'): k and n. Its parts serve other lines of numbers too.
 pub use line_spec::Numeral;
 pub use line_spec::Parsed;
-ghost use Rattle.line_spec.specs.Line.{ParseSays, FieldsSays, NumberSays, SpaceAt};
+ghost use Rattle.line_spec.specs.Line.{ParseSays, FieldsSays, NumberSays, TwoSays};
 
 // the most digits that a number of the line may have
 const DIGITS: usize = 3;
@@ -39,35 +39,28 @@ pub fn parse_number(s: &[u8]) -> Numeral
     Numeral::Value(x)
 }
 
-// The first space, or the length where there is none.
-pub fn first_space(s: &[u8]) -> usize
-    ensures { λ r. ⌜ SpaceAt (now (s .entry)) r ⌝ }
+// Two texts that are a number each.
+fn parse_two(a: &[u8], b: &[u8]) -> Parsed
+    ensures { λ r. ⌜ TwoSays (now (a .entry)) (now (b .entry)) r ⌝ }
 {
-    let mut i = 0;
-    while i < s.len() {
-        if s[i] == b' ' {
-            return i;
-        }
-        i += 1;
+    match parse_number(a) {
+        Numeral::Malformed => Parsed::Line,
+        Numeral::Value(k) => match parse_number(b) {
+            Numeral::Malformed => Parsed::Line,
+            Numeral::Value(n) => Parsed::Pair(k, n),
+        },
     }
-    i
 }
 
 // Two numbers and a space between them, the line without its newline. A second space would stand in the second number, which has only digits.
 pub fn parse_fields(s: &[u8]) -> Parsed
     ensures { λ r. ⌜ FieldsSays (now (s .entry)) r ⌝ }
 {
-    let at = first_space(s);
+    let at = text_spell_inner::piece_end(s, b' ');
     if s.len() <= at {
         return Parsed::Line;
     }
-    match parse_number(&s[..at]) {
-        Numeral::Malformed => Parsed::Line,
-        Numeral::Value(k) => match parse_number(&s[at + 1..]) {
-            Numeral::Malformed => Parsed::Line,
-            Numeral::Value(n) => Parsed::Pair(k, n),
-        },
-    }
+    parse_two(&s[..at], &s[at + 1..])
 }
 
 // The whole line: k and n, the newline optional.

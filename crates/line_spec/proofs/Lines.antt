@@ -2,6 +2,7 @@
 --     fields-space           the first space of `fields k n` stands behind k
 --     fields-at              so a line of k and n has k before its first space and n behind it
 --     fields-join            and the other way round
+--     two-fields, no-fields  so a text by its first space
 --     no-newline             no character of `fields k n` is a newline
 --     text-bare, text-ended, text-newline    a text with no newline in it, with or without one behind it, by the last character
 --     line-bare, line-ended  so the line of k and n
@@ -23,7 +24,7 @@ use lib.Dec.{eqb}
 use Rattle.line_spec.specs.declared.Parsed.{Parsed}
 use Rattle.line_spec.specs.declared.Parsed.the-variants.{Pair, Line}
 use Rattle.text_spec.specs.Decimal.{decimal}
-use Rattle.line_spec.specs.Line.{fields, Spells, ParseSays, FieldsSays, SpaceAt}
+use Rattle.line_spec.specs.Line.{fields, Spells, ParseSays, FieldsSays, TwoSays, SpaceAt}
 use Rattle.text_spec.proofs.Digits.{decimal-digits, decimal-one, length-decimal}
 
 -- ---- the space
@@ -72,6 +73,15 @@ unfolding fields
 fields-join t at k n p h e f =
     let g : drop (suc at) t ≡ decimal n = rw (add-one at) at f in
     split-at t at 0 h ∙ rw (e, p .here h, g)
+
+-- so a text with a number before its first space and one behind it
+pub two-fields : (t : List ℕ) (at : ℕ) → SpaceAt t at → at < length t → (r : Parsed) → TwoSays (take at t) (drop (at + 1) t) r → FieldsSays t r
+two-fields t at p h (Pair k n) says = (says .0, says .1, fields-join t at k n p h (says .2) (says .3))
+two-fields t at p h Line says = λ k n hk hn e. let f = fields-at k n t at e p in says k n hk hn (f .1) (f .2)
+
+-- a text without a space
+pub no-fields : (t : List ℕ) (at : ℕ) → SpaceAt t at → length t ≤ at → FieldsSays t Line
+no-fields t at p h = λ k n hk hn e. omega (arith, fields-at k n t at e p .0)
 
 -- ---- the newline
 

@@ -3,18 +3,18 @@
 --     fields k n         k, a space and n, in decimal
 --     Spells s k n       s is that line, with or without a newline at its end, and k and n have at most three digits
 --     ParseSays s p      what the answer p to the line s promises
--- and what the parts of the parser promise: NumberSays, FieldsSays, SpaceAt. That no line has two answers, and none more than 8 characters: proofs/Lines.
-use Prim.Native.Nat.{ℕ, _<_, _≤_}
+-- and what the parts of the parser promise: NumberSays, FieldsSays, TwoSays, SpaceAt. That no line has two answers, and none more than 8 characters: proofs/Lines.
+use Prim.Native.Nat.{ℕ, _<_}
 use mathlib.Core.Path.{_≡_}
 use mathlib.Core.Logic.{_⊎_}
 use mathlib.Core.List.{List, [], _∷_, _++_}
-use lib.ListN.{length, getD}
 use Rattle.line_spec.specs.declared.Parsed.{Parsed}
 use Rattle.line_spec.specs.declared.Parsed.the-variants.{Pair, Line}
 use Rattle.line_spec.specs.declared.Numeral.{Numeral}
 use Rattle.line_spec.specs.declared.Numeral.the-variants.{Value, Malformed}
 use Rattle.text_spec.specs.Ascii.{space, newline}
 use Rattle.text_spec.specs.Decimal.{decimal}
+use Rattle.text_words_spec.specs.Words.{PieceAt}
 
 -- k, a space and n
 unfoldable pub fields : ℕ → ℕ → List ℕ
@@ -43,7 +43,10 @@ FieldsSays t (Pair k n) = (k < 1000) × (n < 1000) × (t ≡ fields k n)
 FieldsSays t Line = (k n : ℕ) → k < 1000 → n < 1000 → t ≡ fields k n → ⊥
 
 -- r is the place of the first space of t, or the length of t where there is none
-pub record SpaceAt (t : List ℕ) (r : ℕ) : Type 0 where
-  pub within : r ≤ length t
-  pub before : (i : ℕ) → i < r → getD t i 0 ≡ space → ⊥
-  pub here : r < length t → getD t r 0 ≡ space
+abbrev pub SpaceAt : List ℕ → ℕ → Type 0
+SpaceAt t r = PieceAt space t r
+
+-- two texts that are a number each
+abbrev pub TwoSays : List ℕ → List ℕ → Parsed → Type 0
+TwoSays a b (Pair k n) = (k < 1000) × (n < 1000) × (a ≡ decimal k) × (b ≡ decimal n)
+TwoSays a b Line = (k n : ℕ) → k < 1000 → n < 1000 → a ≡ decimal k → b ≡ decimal n → ⊥

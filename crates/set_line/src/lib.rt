@@ -8,13 +8,13 @@ ghost use Rattle.set_line_spec.specs.Line.{SpellSays, FourSays, SecondSpace};
 fn second_space(s: &[u8]) -> usize
     ensures { λ r. ⌜ SecondSpace (now (s .entry)) r ⌝ }
 {
-    let first = line::first_space(s);
+    let first = text_spell_inner::piece_end(s, b' ');
     let m = s.len();
     if m <= first {
         return m;
     }
     let from = first + 1;
-    from + line::first_space(&s[from..])
+    from + text_spell_inner::piece_end(&s[from..], b' ')
 }
 
 // The line without its newline: two numbers before the second space and two behind it.

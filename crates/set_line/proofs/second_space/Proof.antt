@@ -5,12 +5,12 @@ use Rattle.set_line.proofs.second_space.Statement.{statement}
 use Rattle.set_line.proofs.second_space.Tie as tie
 
 returns : tie.Need-returns
-returns c = second-none (c .before .before .before .args .s .now) (c .before .first-space .result) (c .before .first-space .ensures) (c .if1 .taken)
+returns c = second-none _ _ (c .before .piece-end .ensures) (c .if1 .taken)
 
 returns-2 : tie.Need-returns-2
 returns-2 c =
-    second-some (c .before .before .before .before .before .args .s .now) (c .before .before .before .first-space .result) (c .first-space2 .result)
-    (c .before .before .before .first-space .ensures) (c .before .before .if1 .left) (c .first-space2 .ensures)
+    second-some (c .before .before .before .before .before .args .s .now) (c .before .before .before .piece-end .result) (c .piece-end2 .result)
+    (c .before .before .before .piece-end .ensures) (c .before .before .if1 .left) (c .piece-end2 .ensures)
 
 pub second-space-spec : {M : Type 1} → statement M
 second-space-spec =
