@@ -1,27 +1,71 @@
-// The report of streams (02, request f), by its calls, run and compared. The cases are the lines of stdin: `>` and a stream, in which `;` is a newline and `^` a carriage
-// return. Each is fed in two blocks, cut at every byte, then byte after byte, and then through a buffer with room for two lines. The expected text, stdout, is worked out
-// from the rules, and its numbers from a count of the readings that each turn leaves as they are. What one call leaves: `test_report_calls`.
+// The report of streams (02, request f), by its calls, run and compared. The cases are the lines of stdin, in which `_` is a space, `;` a newline, `^` a carriage return and
+// `.` the byte 0; the first letter tells which:
+//   `>` and a stream: it is fed in two blocks, cut at every byte, then byte after byte, and then through a buffer with room for two lines;
+//   `feed`, a state's length and its nine bytes, the length of the buffer and a block: what one call leaves, the answer, the state and every byte of the buffer, also from
+//   states that no call hands out and with buffers that have no room for a line;
+//   `end`, and the same without a block.
+// The expected text, stdout, is worked out from the rules, and its numbers from a count of the readings that each turn leaves as they are.
 
+use report_spec::Fed;
 use report_spec::Pending;
+ghost use Rattle.io.specs.Counts.{Counts};
+
+// ---- bytes
 
 fn meant(b: u8) -> u8 {
+    if b == b'_' {
+        return b' ';
+    }
     if b == b';' {
         return b'\n';
     }
     if b == b'^' {
         return b'\r';
     }
+    if b == b'.' {
+        return 0;
+    }
     b
 }
 
-// The bytes that a line stands for, in its place.
-fn spell(line: &mut [u8]) {
+// The bytes that a word stands for, written from the front of out on; how many they are.
+fn spell(word: &[u8], out: &mut [u8]) -> usize
+    ensures { λ r. ⌜ Counts r (now (out .exit)) ⌝ }
+{
     let mut i = 0;
-    while i < line.len() {
-        line[i] = meant(line[i]);
+    while i < out.len() {
+        if word.len() <= i {
+            return i;
+        }
+        out[i] = meant(word[i]);
+        i += 1;
+    }
+    i
+}
+
+fn shown(b: u8) -> u8 {
+    if b == b' ' {
+        return b'_';
+    }
+    if b == b'\n' {
+        return b';';
+    }
+    if b == 0 {
+        return b'.';
+    }
+    b
+}
+
+// Bytes on one line, spelt as in the cases.
+fn print_bytes(s: &[u8]) {
+    let mut i = 0;
+    while i < s.len() {
+        test_show::text(&[shown(s[i])]);
         i += 1;
     }
 }
+
+// ---- a stream
 
 // The first m bytes of a buffer.
 fn print_first(buf: &[u8], m: usize) {
@@ -107,6 +151,80 @@ fn run_stream(stream: &[u8]) {
     as_taken(stream, &mut buf[..65]);
 }
 
+// ---- one call
+
+fn print_state(p: Pending) {
+    let line = p.line;
+    test_show::named(b" state ", p.len);
+    test_show::space();
+    print_bytes(&line);
+}
+
+fn print_answer(fed: Fed) {
+    test_show::named(b"taken ", fed.taken);
+    test_show::named(b" length ", fed.length);
+    print_state(fed.state);
+}
+
+fn print_buffer(buf: &[u8]) {
+    test_show::text(b" buffer ");
+    print_bytes(buf);
+    test_show::newline();
+}
+
+fn feed(p: Pending, block: &[u8], buf: &mut [u8]) {
+    print_answer(report::feed(p, block, buf));
+    print_buffer(buf);
+}
+
+fn end(p: Pending, buf: &mut [u8]) {
+    test_show::named(b"length ", report::finish(p, buf));
+    print_buffer(buf);
+}
+
+// ---- the lines
+
+// The state of a line.
+fn state(line: &[u8]) -> Pending {
+    let mut bytes = [0u8; 9];
+    spell(test_cases::word(line, 2), &mut bytes);
+    Pending {
+        line: bytes,
+        len: test_cases::number(line, 1),
+    }
+}
+
+fn line_of_feed(line: &[u8], buf: &mut [u8]) {
+    let mut block = [0u8; 64];
+    let m = spell(test_cases::word(line, 4), &mut block);
+    feed(state(line), &block[..m], buf);
+}
+
+fn line_of_stream(line: &[u8]) {
+    if line.len() < 1 {
+        return;
+    }
+    let mut stream = [0u8; 128];
+    let m = spell(&line[1..], &mut stream);
+    run_stream(&stream[..m]);
+}
+
+// One line, with a buffer of at most 64 bytes.
+fn run(line: &[u8]) {
+    let first = test_cases::letter(line, 0);
+    if first == b'>' {
+        line_of_stream(line);
+        return;
+    }
+    let mut buf = [b'-'; 64];
+    let m = test_cases::number(line, 3) % 65;
+    if first == b'f' {
+        line_of_feed(line, &mut buf[..m]);
+        return;
+    }
+    end(state(line), &mut buf[..m]);
+}
+
 fn main() {
     let mut line = [0u8; 128];
     for _ in 0..test_cases::MANY {
@@ -114,7 +232,6 @@ fn main() {
         if n == 0 {
             break;
         }
-        spell(&mut line);
-        run_stream(&line[1..n]);
+        run(&line[..n]);
     }
 }

@@ -17,6 +17,19 @@ pub fn newline() {
     text(b"\n");
 }
 
+// Whether a line of cases is a heading, `say` and what it says; that is printed then.
+pub fn said(line: &[u8]) -> bool {
+    if line.len() < 4 {
+        return false;
+    }
+    if line[0] != b's' {
+        return false;
+    }
+    text(&line[4..]);
+    newline();
+    true
+}
+
 // A number in decimal.
 pub fn number(x: usize) {
     io::print_decimal(STDOUT_FILENO, x as u64);

@@ -1,23 +1,31 @@
--- `test_report::spell` is safe and ends. The line keeps its length.
+-- `test_report::spell` meets its contract. The loop's invariant: the place is inside the output, which keeps its length.
 use Prim.Native.Nat.{_-_, _≤_}
-use mathlib.Core.Path.{_≡_}
+use mathlib.Core.Path.{_≡_, sym}
 use native.Mathlib.Omega.{arith}
 use lib.ListN.{length, length-set}
+use lib.Seq.{length-take-le}
 use borrow.Author.Needs.{needs}
 use Rattle.test_report.proofs.spell.Statement.{statement}
 use Rattle.test_report.proofs.spell.Tie as tie
 
 abbrev Inv-loop : tie.InvT-loop
-Inv-loop line₀ i₀ line i = (i ≤ length line₀) × (length line ≡ length line₀)
+Inv-loop word out₀ i₀ out i = (i ≤ length out₀) × (length out ≡ length out₀)
 
 abbrev μ-loop : tie.MeasureT-loop
-μ-loop line₀ i₀ line i = length line₀ - i
+μ-loop word out₀ i₀ out i = length out₀ - i
+
+returns : tie.Need-returns Inv-loop μ-loop
+returns c = let l = c .before .before .loop in (omega arith, sym (length-take-le (l .i) (l .out) (omega arith)))
 
 loop-again : tie.Need-loop-again Inv-loop μ-loop
 loop-again c = (omega arith, simp length-set (omega arith))
 
+returns-2 : tie.Need-returns-2 Inv-loop μ-loop
+returns-2 c = let l = c .before .loop in (omega arith, sym (length-take-le (l .i) (l .out) (omega arith)))
+
 pub spell-spec : {M : Type 1} → statement M
 spell-spec =
     tie.close
-    (tie.spec Inv-loop μ-loop (λ c. search needs) (λ c. search needs) (λ c κs. search needs) (λ c. search needs)
-    (λ c. search needs) (λ c. search needs) loop-again (λ c. search needs) (λ c. search needs))
+    (tie.spec Inv-loop μ-loop (λ c. search needs) (λ c. search needs) returns (λ c. search needs)
+    (λ c κs. search needs) (λ c. search needs) (λ c. search needs) (λ c. search needs) loop-again (λ c. search needs)
+    returns-2)

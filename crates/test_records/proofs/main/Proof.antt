@@ -1,0 +1,20 @@
+-- `test_records::main` is safe and ends: it counts the cases, and the line keeps its length.
+use Prim.Native.Nat.{_≤_, _-_}
+use mathlib.Core.Path.{_≡_}
+use lib.ListN.{length}
+use borrow.Author.Needs.{needs}
+use Rattle.test_records.proofs.main.Statement.{statement}
+use Rattle.test_records.proofs.main.Tie as tie
+
+abbrev Inv-loop : tie.InvT-loop
+Inv-loop line₀ counter₀ line counter = (length line ≡ 512) × (counter ≤ 1000)
+
+abbrev μ-loop : tie.MeasureT-loop
+μ-loop line₀ counter₀ line counter = 1000 - counter
+
+pub main-spec : {M : Type 1} → statement M
+main-spec =
+    tie.close
+    (tie.spec Inv-loop μ-loop (λ c. search needs) (λ c. search needs) (λ c κs. search needs) (λ c. search needs)
+    (λ c. search needs) (λ c κs. search needs) (λ c. search needs) (λ c. search needs) (λ c. search needs)
+    (λ c. search needs) (λ c. search needs))
