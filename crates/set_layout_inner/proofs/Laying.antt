@@ -1,6 +1,7 @@
 -- The readings in the first places, written one after another.
 --     end-to-end-more, ring-room        one ring more, and the room for it
---     LaidTo n p j out                  the first j rings stand at the beginning of the output
+--     Laid n p t out j                  the first j of t rings stand at the beginning of the output
+--     Turn n p t out j                  and there is one more, for which there is room
 --     laid-start, laid-on, laid-all     from none on to all of them
 use Prim.Native.Nat.{ℕ, suc, _+_, _-_, _*_, _<_, _≤_}
 use mathlib.Core.Path.{_≡_, refl, sym, ap, _∙_}
@@ -23,52 +24,76 @@ end-to-end-more (t ∷ ts) w = ap (λ (x : List ℕ). t ++ x) (end-to-end-more t
 pub ring-room : (n j t : ℕ) → j < t → n * j + n ≤ n * t
 ring-room n j t h = omega (arith, mul-le-mul-left {m = suc j} {n = t} n (omega arith), mul-suc n j)
 
--- the first j rings stand at the beginning of the output
-abbrev pub LaidTo : ℕ → List ℕ → ℕ → List ℕ → Type 0
-LaidTo n p j out = take (n * j) out ≡ endToEnd (setIn n p j)
+-- the loop has written the first j of t rings
+pub record Laid (n : ℕ) (p : List ℕ) (t : ℕ) (out : List ℕ) (j : ℕ) : Type 0 where
+  pub some : j ≤ t
+  pub long : length out ≡ n * t
+  pub laid : take (n * j) out ≡ endToEnd (setIn n p j)
 
-pub laid-start : (n : ℕ) (p out : List ℕ) → LaidTo n p 0 out
+pub laid-start : {n : ℕ} {p : List ℕ} {t : ℕ} {out : List ℕ} → length out ≡ n * t → Laid n p t out 0
 unfolding endToEnd setIn
-laid-start n p out = let e : n * 0 ≡ 0 = omega arith in rw e refl
+laid-start {n = n} e = let z : n * 0 ≡ 0 = omega arith in record { some = omega arith; long = e; laid = rw z refl }
+
+-- and there is one more, for which there is room
+pub record Turn (n : ℕ) (p : List ℕ) (t : ℕ) (out : List ℕ) (j : ℕ) : Type 0 where
+  pub at : Laid n p t out j
+  pub more : j < t
+  pub fits : 24 * j + n ≤ length p
+  pub room : n * j + n ≤ length out
 
 -- one ring more, copied over its part
-module _ (n : ℕ) (p out : List ℕ) (j from past at end : ℕ) (e : from ≡ 24 * j) (f : past ≡ from + n) (g : at ≡ n * j) (h : end ≡ at + n) (fits : past ≤ length p) (room : end ≤ length out) where
+module _ {n : ℕ} {p : List ℕ} {t : ℕ} {out : List ℕ} {j : ℕ} (turn : Turn n p t out j) where
   -- the ring, and the part of the output that it goes to
   abbrev v : List ℕ
-  v = take (past - from) (drop from p)
+  v = take (24 * j + n - 24 * j) (drop (24 * j) p)
 
   abbrev o : List ℕ
-  o = take (end - at) (drop at out)
+  o = take (n * j + n - n * j) (drop (n * j) out)
+
+  abbrev rest : List ℕ
+  rest = drop (n * j + n - n * j) (drop (n * j) out)
 
   long : length v ≡ n
-  long = length-take-le (past - from) (drop from p) (omega (arith, length-drop from p)) ∙ omega arith
+  long = length-take-le (24 * j + n - 24 * j) (drop (24 * j) p) (omega (arith, turn .fits, length-drop (24 * j) p)) ∙ omega arith
 
   wide : length o ≡ n
-  wide = length-take-le (end - at) (drop at out) (omega (arith, length-drop at out)) ∙ omega arith
+  wide = length-take-le (n * j + n - n * j) (drop (n * j) out) (omega (arith, turn .room, length-drop (n * j) out)) ∙ omega arith
 
   v-is : v ≡ placeAt n p j
-  v-is = let s : past - from ≡ n = omega arith in rw (s, e) refl
+  v-is = let s : 24 * j + n - 24 * j ≡ n = omega arith in rw s refl
 
-  pub laid-on : LaidTo n p j out → (l : List ℕ) → l ≡ take (length v) v ++ drop (length v) o → LaidTo n p (j + 1) (take at out ++ (l ++ drop (end - at) (drop at out)))
+  front : length (take (n * j) out) ≡ n * j
+  front = length-take-le (n * j) out (omega (arith, turn .room))
+
+  pub laid-on : {l : List ℕ} → l ≡ take (length v) v ++ drop (length v) o → Laid n p t (take (n * j) out ++ (l ++ rest)) (j + 1)
   unfolding setIn
-  laid-on laid l q =
+  laid-on {l = l} q =
       let is : l ≡ v = copied v o l q (wide ∙ sym long) in
-      let rest = drop (end - at) (drop at out) in
+      let more : n * (j + 1) ≡ n * j + n = omega (arith, mul-suc n j) in
       let one : j + 1 ≡ suc j = omega arith in
-      let more : n * suc j ≡ at + n = omega (arith, mul-suc n j) in
-      let front : length (take at out ++ l) ≡ at + n = length-append (take at out) l ∙ omega (arith, length-take-le at out (omega arith), ap length is, long) in
-      rw (one, more)
-      (ap (take (at + n)) (sym (append-assoc (take at out) l rest)) ∙ take-at (take at out ++ l) rest (at + n) front ∙ ap (λ (x : List ℕ). x ++ l) (ap (λ (x : ℕ). take x out) g ∙ laid)
-      ∙ ap (λ (x : List ℕ). endToEnd (setIn n p j) ++ x) (is ∙ v-is) ∙ sym (end-to-end-more (setIn n p j) (placeAt n p j)))
-
-  -- the output stays as long
-  pub laid-long : (l : List ℕ) → l ≡ take (length v) v ++ drop (length v) o → length (take at out ++ (l ++ drop (end - at) (drop at out))) ≡ length out
-  laid-long l q =
-      let is : l ≡ v = copied v o l q (wide ∙ sym long) in
-      let rest = drop (end - at) (drop at out) in
-      length-append (take at out) (l ++ rest)
-      ∙ omega (arith, length-append l rest, length-take-le at out (omega arith), ap length is, long, length-drop (end - at) (drop at out), length-drop at out)
+      let filled : length (take (n * j) out ++ l) ≡ n * j + n = length-append (take (n * j) out) l ∙ omega (arith, front, ap length is, long) in
+      record {
+        some = omega (arith, turn .more);
+        long =
+            length-append (take (n * j) out) (l ++ rest) ∙ omega (
+              arith,
+              length-append l rest,
+              front,
+              ap length is,
+              long,
+              length-drop (n * j + n - n * j) (drop (n * j) out),
+              length-drop (n * j) out,
+              turn .room,
+              turn .at .long,
+            );
+        laid =
+            rw more (ap (take (n * j + n)) (sym (append-assoc (take (n * j) out) l rest)) ∙ take-at (take (n * j) out ++ l) rest (n * j + n) filled
+            ∙ ap (λ (x : List ℕ). x ++ l) (turn .at .laid) ∙ ap (λ (x : List ℕ). endToEnd (setIn n p j) ++ x) (is ∙ v-is)
+            ∙ sym (rw one (end-to-end-more (setIn n p j) (placeAt n p j))));
+      }
 
 -- all of them
-pub laid-all : (n : ℕ) (p out : List ℕ) (t j : ℕ) → LaidTo n p j out → length out ≡ n * t → j ≡ t → out ≡ endToEnd (setIn n p t)
-laid-all n p out t j laid long e = sym (take-all (n * t) out (omega arith)) ∙ rw e at laid
+pub laid-all : {n : ℕ} {p : List ℕ} {t : ℕ} {out : List ℕ} {j : ℕ} → Laid n p t out j → t ≤ j → out ≡ endToEnd (setIn n p t)
+laid-all {n = n} {t = t} {out = out} {j = j} a h =
+    let e : j ≡ t = omega (arith, a .some) in
+    sym (take-all (n * t) out (omega (arith, a .long))) ∙ rw e at (a .laid)
