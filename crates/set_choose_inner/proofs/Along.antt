@@ -1,8 +1,8 @@
 -- The loop of `choose`. The walk has come to a ring, and the choice from the Lyndon words above it, from those taken so far on, is the set.
 --     Along rule n k d want w p q t    that invariant: the walk w, the places p, their tallies q and the number taken t
 --     started, along-start          the walk starts from the all-zero ring, which is taken where n is 1 and the rule is that of 02, 'g', and then its tally is one of shade 0
---     came, along-on, along-less    a step to a next Lyndon word, which is offered; fewer readings are above
---     stops, along-ended            there is none: not full
+--     Turned, turned                a step to a next Lyndon word, which is offered; fewer readings are above
+--     along-ended                   there is none: not full
 --     along-full                    there are enough
 use Prim.Native.Nat.{ℕ, zero, suc, _-_, _<_, _≤_}
 use mathlib.Core.Path.{_≡_, refl, sym, ap, subst, _∙_}
@@ -20,7 +20,7 @@ use denote.Enum.Declared.{tagOf}
 use Rattle.walk_spec.proofs.Outcome.{the-type}
 use Rattle.words.specs.Order.{before}
 use Rattle.words.specs.Search.{tab}
-use Rattle.words.specs.Readings.{Sized, Shaded, Reading, readings, count}
+use Rattle.words.specs.Readings.{Sized, Reading, readings, count}
 use Rattle.words.proofs.Split.{passes, fails, test, lt, eq, gt, tri}
 use Rattle.rings.specs.Necklace.{lyndon}
 use Rattle.rings.specs.Prenecklace.{prenecklace}
@@ -50,8 +50,9 @@ use Rattle.set_pick_spec.specs.Says.{SetChosen}
 use Rattle.guard_spec.specs.declared.Rule.{Rule}
 use Rattle.guard_spec.specs.declared.Rule.the-variants.{Plain, Guarded}
 use Rattle.guard_spec.specs.Choice.{joins, guarded, mayJoin, chosenBy}
-use Rattle.set_choose_inner.specs.Says.{zeroTaken}
-use Rattle.set_places_inner.specs.Says.{Fit, tallyAt, HoldsSet, Stocked, OfferSays}
+use Rattle.set_words_inner.specs.Says.{zeroTaken}
+use Rattle.set_clear_inner.specs.Says.{tallyAt, HoldsSet, Comparable}
+use Rattle.set_places_inner.specs.Says.{OfferSays}
 use Rattle.set_laws.proofs.Kept.{rest, rest-step, rest-end, lyndons-one, lyndons-more}
 use Rattle.set_laws.proofs.Choice.{greedy-take, greedy-skip, greedy-none, greedy-enough, offeredBy, offered-most, greedy-offer}
 use Rattle.set_laws.proofs.Worth.{nothing-near}
@@ -77,9 +78,9 @@ zeros-part n m h =
     ext-getD 0 (take n (zeros m)) (zeros n) (e ∙ sym (length-zeros n)) (λ i b. getD-take n (zeros m) i 0 (rw e at b) ∙ zeros-at m i ∙ sym (zeros-at n i))
 
 -- whatever a start from the all-zero ring answers, it hands out that ring's record
-pub started : (n k : ℕ) → Sized n → Shaded k → (v : List ℕ) (w : Walk) (a : Checked) → v ≡ zeros n → StartSays v k w a → w ≡ walkOf k (zeros n)
-started n k s h v w a e p =
-    let o = handed-out n k s h in
+pub started : {n k d want : ℕ} → Askable n k d want → {v : List ℕ} (w : Walk) (a : Checked) → v ≡ zeros n → StartSays v k w a → w ≡ walkOf k (zeros n)
+started {n = n} {k = k} ask w a e p =
+    let o = handed-out n k (omega (arith, ask .numbers .sized)) (ask .numbers .shaded) in
     let q : StartSays (zeros n) k w a = rw e at p in
     ap (λ (x : Started). x .walk) (one-start (zeros n) k w (o .first) a C.Good q (o .started)) ∙ o .started .1
 
@@ -104,7 +105,7 @@ unfolding picked guarded
 chosen-from Plain n k d want = refl
 chosen-from Guarded n k d want = refl
 
-module _ (n k d want : ℕ) (w : Walk) (t : ℕ) (ask : Askable n k d want) (e : w ≡ walkOf k (zeros n)) where
+module _ {n k d want : ℕ} {w : Walk} (t : ℕ) (ask : Askable n k d want) (e : w ≡ walkOf k (zeros n)) where
   -- none is taken, and all that may join stand above the all-zero ring
   none-taken : (rule : Rule) → t ≡ 0 → greedyBy (mayJoin rule d) want [] (lyndons n k) ≡ greedyBy (mayJoin rule d) want [] (rest k (zeros n)) → Along
       rule n k d want w (zeros 768) (lib.ListN.set (zeros 512) 0 t) t
@@ -182,35 +183,39 @@ module _ (n k d want : ℕ) (w : Walk) (t : ℕ) (ask : Askable n k d want) (e :
 
 -- ---- a turn
 
-pub record Came (k : ℕ) (u : List ℕ) (w′ : Walk) : Type 0 where
+record Came (k : ℕ) (u : List ℕ) (w′ : Walk) : Type 0 where
   pub ring : List ℕ
   pub next : nextOf lyndon k u ≡ some ring
   pub handed : w′ ≡ walkOf k ring
 
-module _ (rule : Rule) (n k d want : ℕ) (ask : Askable n k d want) (w : Walk) (p q : List ℕ) (t : ℕ) (a : Along rule n k d want w p q t) where
+-- what is known behind a step to the record w′, before and after its ring is offered
+pub record Turned (rule : Rule) (n k d want : ℕ) (w : Walk) (p q : List ℕ) (t : ℕ) (w′ : Walk) : Type 0 where
+  pub places : length p ≡ 768
+  pub tallies : length q ≡ 512
+  pub size : n ≤ length (w′ .ring)
+  pub asked : Comparable p q t (take n (w′ .ring)) (w′ .counts) k × (t < 32)
+  pub less : count (before (ringOf w′)) (readings n k) < count (before (ringOf w)) (readings n k)
+  pub on : (r : ℕ) (p′ q′ : List ℕ) → OfferSays rule k d p q t (take n (w′ .ring)) r p′ q′ → Along rule n k d want w′ p′ q′ r
+
+module _ {rule : Rule} {n k d want : ℕ} (ask : Askable n k d want) {w : Walk} {p q : List ℕ} {t : ℕ} (a : Along rule n k d want w p q t) where
   sized : Sized n
   sized = omega (arith, ask .numbers .sized)
 
-  pub came : (w′ : Walk) (m : ℕ) → StepSays lyndon w w′ (Moved m) → Came k (a .last) w′
-  came w′ m s = let o : Onto lyndon (walkOf k (a .last)) w′ m = rw (a .walk) at s in record { ring = o .to; next = rw (ring-of k (a .last)) at (o .next); handed = o .handed }
+  came : {w′ : Walk} {m : ℕ} → StepSays lyndon w w′ (Moved m) → Came k (a .last) w′
+  came {w′ = w′} {m = m} s = let o : Onto lyndon (walkOf k (a .last)) w′ m = rw (a .walk) at s in record { ring = o .to; next = rw (ring-of k (a .last)) at (o .next); handed = o .handed }
 
   good : Passed (walkAsked w)
   good = rw (a .walk) (walk-good n k (a .last) sized (ask .numbers .shaded) (a .reading) (a .pre))
 
-  pub stops : (w′ : Walk) (o : Outcome) → OneOf (1 ∷ 2 ∷ []) (tagOf the-type o) → StepSays lyndon w w′ o → nextOf lyndon k (a .last) ≡ none
+  stops : (w′ : Walk) (o : Outcome) → OneOf (1 ∷ 2 ∷ []) (tagOf the-type o) → StepSays lyndon w w′ o → nextOf lyndon k (a .last) ≡ none
   stops w′ (Moved m) t s = ⊎-elim (λ e. absurd (omega arith)) (λ e. absurd (omega arith)) t
   stops w′ (Done m) t s = let o : Ended lyndon (walkOf k (a .last)) w′ m = rw (a .walk) at s in rw (ring-of k (a .last)) at (o .next)
   stops w′ (Refused r) t s = absurd (never-both (walkAsked w) r (s .0) good)
 
-  pub along-size : length p ≡ 768
-  along-size = rw (a .holds .places) (laid-length (a .set))
-
-  pub along-room : length q ≡ 512
-  along-room = a .holds .room
-
   -- none is left
-  pub along-ended : nextOf lyndon k (a .last) ≡ none → t < want → SetChosen n k d want (chosenBy rule n k d want) p t false
-  along-ended e h =
+  pub along-ended : (w′ : Walk) (o : Outcome) → OneOf (1 ∷ 2 ∷ []) (tagOf the-type o) → StepSays lyndon w w′ o → t < want → SetChosen n k d want (chosenBy rule n k d want) p t false
+  along-ended w′ o b s h =
+      let e = stops w′ o b s in
       let f : a .set ≡ chosenBy rule n k d want = sym (greedy-none (mayJoin rule d) (want - length (a .set)) (a .set)) ∙ ap
       (greedyBy (mayJoin rule d) (want - length (a .set)) (a .set)) (sym (rest-end k (a .last) e)) ∙ a .rests in
       record {
@@ -231,36 +236,37 @@ module _ (rule : Rule) (n k d want : ℕ) (ask : Askable n k d want) (w : Walk) 
         full = sym (eq-eqb (length (chosenBy rule n k d want)) want (omega (arith, a .within, a .holds .number, ap length f)));
       }
 
-  module _ (w′ : Walk) (c : Came k (a .last) w′) where
+  module _ {w′ : Walk} (c : Came k (a .last) w′) where
     came-reading : Reading n k (c .ring)
     came-reading = subst (λ x. Reading x k (c .ring)) (a .reading .long) (next-facts lyndon k (a .last) (c .ring) (c .next) .0)
 
-    pub came-ring : take n (w′ .ring) ≡ c .ring
+    came-ring : take n (w′ .ring) ≡ c .ring
     came-ring = rw (c .handed, ← came-reading .long) (ring-of k (c .ring))
 
-    pub came-size : n ≤ length (w′ .ring)
+    came-size : n ≤ length (w′ .ring)
     came-size = rw (c .handed) (omega (arith, length-append (c .ring) (zeros (64 - length (c .ring))), came-reading .long))
 
-    pub came-fit : Fit (length (take n (w′ .ring))) k
-    came-fit = rw (came-ring, came-reading .long) (record { some = ask .numbers .sized .0; short = ask .short; shaded = ask .numbers .shaded })
-
-    pub came-reads : Reading (length (take n (w′ .ring))) k (take n (w′ .ring))
-    came-reads = rw (came-ring, came-reading .long) came-reading
-
-    -- the record has the ring's shade counts
-    pub came-counts : w′ .counts ≡ countsOf 16 (take n (w′ .ring))
-    came-counts = rw came-ring (ap (λ (x : Walk). x .counts) (c .handed))
-
-    pub came-stock : Stocked (length (take n (w′ .ring))) k p q t
-    came-stock = rw (came-ring, came-reading .long) (record { set = a .set; holds = a .holds })
+    -- the record has the ring and its shade counts
+    came-asked : t < want → Comparable p q t (take n (w′ .ring)) (w′ .counts) k × (t < 32)
+    came-asked h =
+        rw (came-ring) (
+          record {
+            fit = rw (came-reading .long) (record { some = ask .numbers .sized .0; short = ask .short; shaded = ask .numbers .shaded });
+            reading = rw (came-reading .long) came-reading;
+            counts = ap (λ (x : Walk). x .counts) (c .handed);
+            stock = rw (came-reading .long) (record { set = a .set; holds = a .holds });
+            most = omega (arith, ask .settable);
+          },
+          omega (arith, ask .settable),
+        )
 
     -- fewer readings are above
-    pub along-less : count (before (ringOf w′)) (readings n k) < count (before (ringOf w)) (readings n k)
+    along-less : count (before (ringOf w′)) (readings n k) < count (before (ringOf w)) (readings n k)
     along-less =
         rw (c .handed, a .walk, ring-of k (c .ring), ring-of k (a .last)) (fewer-above n k (a .last) (c .ring) came-reading (next-facts lyndon k (a .last) (c .ring) (c .next) .1))
 
-    pub along-on : (r : ℕ) (p′ q′ : List ℕ) → t < want → OfferSays rule k d p q t (take n (w′ .ring)) r p′ q′ → Along rule n k d want w′ p′ q′ r
-    along-on r p′ q′ h o =
+    along-on : {r : ℕ} {p′ q′ : List ℕ} → t < want → OfferSays rule k d p q t (take n (w′ .ring)) r p′ q′ → Along rule n k d want w′ p′ q′ r
+    along-on {r = r} {p′ = p′} {q′ = q′} h o =
         let o′ : OfferSays rule k d p q t (c .ring) r p′ q′ = rw came-ring at o in
         let now : HoldsSet n k (offeredBy (mayJoin rule d) (a .set) (c .ring)) p′ q′ r = subst
         (λ x. HoldsSet x k (a .set) p q t → HoldsSet x k (offeredBy (mayJoin rule d) (a .set) (c .ring)) p′ q′ r) (came-reading .long)
@@ -277,3 +283,16 @@ module _ (rule : Rule) (n k d want : ℕ) (ask : Askable n k d want) (w : Walk) 
               sym (greedy-offer (mayJoin rule d) want (a .set) (rest k (c .ring)) (c .ring) (omega (arith, a .holds .number))) ∙ ap
               (greedyBy (mayJoin rule d) (want - length (a .set)) (a .set)) (sym (rest-step k (a .last) (c .ring) (c .next))) ∙ a .rests;
         }
+
+  -- a step that moved leads to a word that can be offered
+  pub turned : {w′ : Walk} {m : ℕ} → t < want → StepSays lyndon w w′ (Moved m) → Turned rule n k d want w p q t w′
+  turned h s =
+      let c = came s in
+      record {
+        places = rw (a .holds .places) (laid-length (a .set));
+        tallies = a .holds .room;
+        size = came-size c;
+        asked = came-asked c h;
+        less = along-less c;
+        on = λ r p′ q′ o. along-on c h o;
+      }

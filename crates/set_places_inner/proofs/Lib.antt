@@ -1,4 +1,3 @@
--- What is read from the places (Clear), the test of a rule (Joining), and what is put there (Offering).
-pub mod Clear
+-- The test of a rule, read from the places (Joining), and what is put there (Offering).
 pub mod Joining
 pub mod Offering

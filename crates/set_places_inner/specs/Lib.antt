@@ -1,2 +1,2 @@
--- What the places of a set hold, and what offering a ring to them promises (Says).
+-- What offering a ring to the places of a set promises (Says).
 pub mod Says

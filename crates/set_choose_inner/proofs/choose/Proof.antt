@@ -2,13 +2,12 @@
 -- taken on, is the set; each turn leaves fewer readings above.
 use mathlib.Core.Path.{sym}
 use native.Mathlib.Omega.{arith}
-use lib.ListN.{set, length-take}
+use lib.ListN.{length-take}
 use lib.Seq.{length-take-le}
 use Rattle.words.specs.Order.{before}
 use Rattle.words.specs.Readings.{readings, count}
 use Rattle.walk_spec.specs.Record.{ringOf}
-use Rattle.set_choose_inner.proofs.Along.{Along, zeros-part, taken-few, started, along-start, along-ended, along-full, along-size, along-room, along-less, along-on}
-use Rattle.set_choose_inner.proofs.Along.{came, stops, came-size, came-fit, came-reads, came-counts, came-stock}
+use Rattle.set_choose_inner.proofs.Along.{Along, zeros-part, taken-few, started, along-start, along-ended, Turned, turned, along-full}
 use borrow.Author.Needs.{needs}
 use Rattle.set_choose_inner.proofs.choose.Statement.{statement}
 use Rattle.set_choose_inner.proofs.choose.Tie as tie
@@ -26,15 +25,14 @@ slice-aggregate-start : tie.Need-slice-aggregate-start Inv-loop μ-loop
 slice-aggregate-start c = simp length-take (omega (arith, c .before .pre .short))
 
 cast-tallies : tie.Need-cast-tallies Inv-loop μ-loop
-cast-tallies c = omega (arith, taken-few (c .before .before .before .before .args .rule) (c .before .before .before .before .args .n) (c .zero-taken .result) (c .zero-taken .ensures))
+cast-tallies c = let a = c .before .before .before .before .args in omega (arith, taken-few (a .rule) (a .n) (c .zero-taken .result) (c .zero-taken .ensures))
 
 loop-holds : tie.Need-loop-holds Inv-loop μ-loop
 loop-holds c =
     let a = c .before .before .before .before .args in
     let q = c .before .before .before .before .pre in
     let st = c .before .before .start in
-    along-start (a .n) (a .k) (a .d) (a .wanted) _ (c .zero-taken .result) q
-    (started (a .n) (a .k) (omega (arith, q .numbers .sized)) (q .numbers .shaded) _ (st .result .walk) (st .result .answer)
+    along-start (c .zero-taken .result) q (started q (st .result .walk) (st .result .answer)
     (zeros-part (a .n) 64 (omega (arith, q .short))) (st .ensures)) (a .rule) (c .zero-taken .ensures)
 
 enum-told : tie.Need-enum-told Inv-loop μ-loop
@@ -42,108 +40,42 @@ enum-told c = search needs
 
 returns : tie.Need-returns Inv-loop μ-loop
 returns c =
-    let a = c .before .before .before .before .before .before .before .before .args in
-    let q = c .before .before .before .before .before .before .before .before .pre in
-    let l = c .before .before .before .loop in
     let r = c .before .next-word in
-    along-ended (a .rule) (a .n) (a .k) (a .d) (a .wanted) q (l .w) (l .places) (l .tallies) (l .taken) (l .inv)
-    (stops (a .rule) (a .n) (a .k) (a .d) (a .wanted) q (l .w) (l .places) (l .tallies) (l .taken) (l .inv) (r .result .walk) (r .result .outcome) (c .match .keys2)
-    (r .ensures)) (omega (arith, c .before .before .loop-test .taken))
+    along-ended (c .before .before .before .before .before .before .before .before .pre) (c .before .before .before .loop .inv) (r .result .walk) (r .result .outcome) (c .match .keys2) (r .ensures)
+    (omega (arith, c .before .before .loop-test .taken))
+
+-- behind a step that moved
+moved : (c : tie.After-enum-told Inv-loop μ-loop) →
+    let a = c .before .before .before .before .before .before .before .before .before .args in
+    let l = c .before .before .before .before .loop in
+    Turned (a .rule) (a .n) (a .k) (a .d) (a .wanted) (l .w) (l .places) (l .tallies) (l .taken) (c .before .before .next-word .result .walk)
+moved c =
+    turned (c .before .before .before .before .before .before .before .before .before .pre) (c .before .before .before .before .loop .inv) (omega (arith, c .before .before .before .loop-test .taken))
+    (rw (c .enum-told .given .1) at (c .before .before .next-word .ensures))
 
 slice-aggregate-offer : tie.Need-slice-aggregate-offer Inv-loop μ-loop
-slice-aggregate-offer c =
-    let a = c .before .before .before .before .before .before .before .before .before .before .before .before .before .args in
-    let q = c .before .before .before .before .before .before .before .before .before .before .before .before .before .pre in
-    let l = c .before .before .before .before .before .before .before .before .loop in
-    sym (along-size (a .rule) (a .n) (a .k) (a .d) (a .wanted) q (l .w) (l .places) (l .tallies) (l .taken) (l .inv))
+slice-aggregate-offer c = sym (moved (c .before .before .before .before) .places)
 
 slice-aggregate-offer-2 : tie.Need-slice-aggregate-offer-2 Inv-loop μ-loop
-slice-aggregate-offer-2 c =
-    let a = c .before .before .before .before .before .before .before .before .before .before .before .before .before .before .args in
-    let q = c .before .before .before .before .before .before .before .before .before .before .before .before .before .before .pre in
-    let l = c .before .before .before .before .before .before .before .before .before .loop in
-    sym (along-room (a .rule) (a .n) (a .k) (a .d) (a .wanted) q (l .w) (l .places) (l .tallies) (l .taken) (l .inv))
+slice-aggregate-offer-2 c = sym (moved (c .before .before .before .before .before) .tallies)
 
 array-share-prefix-ring : tie.Need-array-share-prefix-ring Inv-loop μ-loop
-array-share-prefix-ring c =
-    let a = c .before .before .before .before .before .before .before .before .before .before .before .before .before .before .args in
-    let q = c .before .before .before .before .before .before .before .before .before .before .before .before .before .before .pre in
-    let l = c .before .before .before .before .before .before .before .before .before .loop in
-    let r = c .before .before .before .before .before .before .before .next-word in
-    let o = c .before .before .before .before .before .enum-told .given in
-    let cm = came (a .rule) (a .n) (a .k) (a .d) (a .wanted) q (l .w) (l .places) (l .tallies) (l .taken) (l .inv) (r .result .walk) (o .0 .0)
-    (rw (o .1) at (r .ensures)) in
-    came-size (a .rule) (a .n) (a .k) (a .d) (a .wanted) q (l .w) (l .places) (l .tallies) (l .taken) (l .inv) (r .result .walk) cm
+array-share-prefix-ring c = moved (c .before .before .before .before .before) .size
 
 slice-aggregate-offer-3 : tie.Need-slice-aggregate-offer-3 Inv-loop μ-loop
-slice-aggregate-offer-3 c =
-    let a = c .before .before .before .before .before .before .before .before .before .before .before .before .before .before .before .args in
-    let q = c .before .before .before .before .before .before .before .before .before .before .before .before .before .before .before .pre in
-    let l = c .before .before .before .before .before .before .before .before .before .before .loop in
-    let r = c .before .before .before .before .before .before .before .before .next-word in
-    let o = c .before .before .before .before .before .before .enum-told .given in
-    let cm = came (a .rule) (a .n) (a .k) (a .d) (a .wanted) q (l .w) (l .places) (l .tallies) (l .taken) (l .inv) (r .result .walk) (o .0 .0)
-    (rw (o .1) at (r .ensures)) in
-    sym (length-take-le (a .n) (r .result .walk .ring) (came-size (a .rule) (a .n) (a .k) (a .d) (a .wanted) q (l .w) (l .places) (l .tallies) (l .taken) (l .inv)
-    (r .result .walk) cm))
+slice-aggregate-offer-3 c = sym (length-take-le _ _ (moved (c .before .before .before .before .before .before) .size))
 
 offer-requires : tie.Need-offer-requires Inv-loop μ-loop
-offer-requires c κs =
-    let a = c .before .before .before .before .before .before .before .before .before .before .before .before .before .before .before .before .args in
-    let q = c .before .before .before .before .before .before .before .before .before .before .before .before .before .before .before .before .pre in
-    let l = c .before .before .before .before .before .before .before .before .before .before .before .loop in
-    let r = c .before .before .before .before .before .before .before .before .before .next-word in
-    let o = c .before .before .before .before .before .before .before .enum-told .given in
-    let cm = came (a .rule) (a .n) (a .k) (a .d) (a .wanted) q (l .w) (l .places) (l .tallies) (l .taken) (l .inv) (r .result .walk) (o .0 .0)
-    (rw (o .1) at (r .ensures)) in (
-      came-fit (a .rule) (a .n) (a .k) (a .d) (a .wanted) q (l .w) (l .places) (l .tallies) (l .taken) (l .inv) (r .result .walk) cm,
-      (
-        came-reads (a .rule) (a .n) (a .k) (a .d) (a .wanted) q (l .w) (l .places) (l .tallies) (l .taken) (l .inv) (r .result .walk) cm,
-        (
-          came-counts (a .rule) (a .n) (a .k) (a .d) (a .wanted) q (l .w) (l .places) (l .tallies) (l .taken) (l .inv) (r .result .walk) cm,
-          (
-            came-stock (a .rule) (a .n) (a .k) (a .d) (a .wanted) q (l .w) (l .places) (l .tallies) (l .taken) (l .inv) (r .result .walk) cm,
-            omega
-                (arith, q .settable, c .before .before .before .before .before .before .before .before .before .before .loop-test .taken),
-          ),
-        ),
-      ),
-    )
+offer-requires c κs = moved (c .before .before .before .before .before .before .before) .asked
 
 loop-less : tie.Need-loop-less Inv-loop μ-loop
-loop-less c =
-    let a = c .before .before .before .before .before .before .before .before .before .before .before .before .before .before .before .before .before .before
-    .before .args in
-    let q = c .before .before .before .before .before .before .before .before .before .before .before .before .before .before .before .before .before .before
-    .before .pre in
-    let l = c .before .before .before .before .before .before .before .before .before .before .before .before .before .before .loop in
-    let r = c .before .before .before .before .before .before .before .before .before .before .before .before .next-word in
-    let o = c .before .before .before .before .before .before .before .before .before .before .enum-told .given in
-    let cm = came (a .rule) (a .n) (a .k) (a .d) (a .wanted) q (l .w) (l .places) (l .tallies) (l .taken) (l .inv) (r .result .walk) (o .0 .0)
-    (rw (o .1) at (r .ensures)) in
-    along-less (a .rule) (a .n) (a .k) (a .d) (a .wanted) q (l .w) (l .places) (l .tallies) (l .taken) (l .inv) (r .result .walk) cm
+loop-less c = moved (c .before .before .before .before .before .before .before .before .before .before) .less
 
 loop-again : tie.Need-loop-again Inv-loop μ-loop
-loop-again c =
-    let a = c .before .before .before .before .before .before .before .before .before .before .before .before .before .before .before .before .before .before
-    .before .args in
-    let q = c .before .before .before .before .before .before .before .before .before .before .before .before .before .before .before .before .before .before
-    .before .pre in
-    let l = c .before .before .before .before .before .before .before .before .before .before .before .before .before .before .loop in
-    let r = c .before .before .before .before .before .before .before .before .before .before .before .before .next-word in
-    let o = c .before .before .before .before .before .before .before .before .before .before .enum-told .given in
-    let cm = came (a .rule) (a .n) (a .k) (a .d) (a .wanted) q (l .w) (l .places) (l .tallies) (l .taken) (l .inv) (r .result .walk) (o .0 .0)
-    (rw (o .1) at (r .ensures)) in
-    along-on (a .rule) (a .n) (a .k) (a .d) (a .wanted) q (l .w) (l .places) (l .tallies) (l .taken) (l .inv) (r .result .walk) cm _ _ _
-    (omega (arith, c .before .before .before .before .before .before .before .before .before .before .before .before .before .loop-test .taken))
-    (c .before .before .offer .ensures)
+loop-again c = moved (c .before .before .before .before .before .before .before .before .before .before) .on _ _ _ (c .before .before .offer .ensures)
 
 returns-2 : tie.Need-returns-2 Inv-loop μ-loop
-returns-2 c =
-    let a = c .before .before .before .before .before .before .args in
-    let q = c .before .before .before .before .before .before .pre in
-    let l = c .before .loop in
-    along-full (a .rule) (a .n) (a .k) (a .d) (a .wanted) q (l .w) (l .places) (l .tallies) (l .taken) (l .inv) (omega (arith, c .loop-test .left))
+returns-2 c = along-full (c .before .before .before .before .before .before .pre) (c .before .loop .inv) (omega (arith, c .loop-test .left))
 
 pub choose-spec : {M : Type 1} → statement M
 choose-spec =

@@ -13,19 +13,17 @@ use Rattle.set_places_inner.proofs.may_join.Tie as tie
 
 returns : tie.Need-returns
 returns c =
-    not-clear-in (length (c .before .before .before .before .before .before .args .ring .now))
-    (c .before .before .before .before .before .before .args .d) (c .before .before .before .before .before .before .args .places .now)
-    (c .before .before .before .before .before .before .args .taken) (c .before .before .before .before .before .before .args .ring .now)
-    (c .before .before .before .before .before .before .args .rule) (sym (c .before .is-clear .ensures) ∙ not-true _ (c .if1 .taken))
+    let g = c .before .before .before .before .before .before in
+    not-clear-in (g .pre) (g .args .d) (c .before .is-clear .ensures) (g .args .rule) (not-true _ (c .if1 .taken))
 
 enum-told : tie.Need-enum-told
 enum-told c = search needs
 
 slice-aggregate-write-reversed : tie.Need-slice-aggregate-write-reversed
-slice-aggregate-write-reversed c = simp length-take (omega (arith, c .before .before .before .before .before .before .before .before .before .pre .0 .short))
+slice-aggregate-write-reversed c = simp length-take (omega (arith, c .before .before .before .before .before .before .before .before .before .pre .fit .short))
 
 write-reversed-requires : tie.Need-write-reversed-requires
-write-reversed-requires c κs = simp length-take (omega (arith, c .before .before .before .before .before .before .before .before .before .pre .0 .short))
+write-reversed-requires c κs = simp length-take (omega (arith, c .before .before .before .before .before .before .before .before .before .pre .fit .short))
 
 array-share-prefix-back : tie.Need-array-share-prefix-back
 array-share-prefix-back c =
@@ -42,15 +40,17 @@ is-guarded-requires c κs =
     let q = c .before .before .before .before .before .before .before .before .before .before .before .before .pre in
     let x = c .before .before .write-reversed in
     let y = ap (λ (v : List ℕ). length v) (x .ensures) ∙ length-reverse w in
-    (q .0, ((q .1 .0, take-at _ _ (length w) y ∙ x .ensures), q .1 .1))
+    (q, take-at _ _ (length w) y ∙ x .ensures)
 
 returns-2 : tie.Need-returns-2
 returns-2 c = rw (c .enum-told .given .1) (sym (sym (c .before .before .before .is-clear .ensures) ∙ not-false _ (c .before .before .if1 .left)))
 
 returns-3 : tie.Need-returns-3
 returns-3 c =
+    let g = c .before .before .before .before .before .before .before .before .before .before .before .before .before in
     rw (c .before .before .before .before .before .enum-told2 .given .1)
-    (may-guarded (length (c .before .before .before .before .before .before .before .before .before .before .before .before .before .args .ring .now)) (c .before .before .before .before .before .before .before .before .before .before .before .before .before .args .d) (c .before .before .before .before .before .before .before .before .before .before .before .before .before .args .places .now) (c .before .before .before .before .before .before .before .before .before .before .before .before .before .args .taken) (c .before .before .before .before .before .before .before .before .before .before .before .before .before .args .ring .now) (c .is-guarded .result) (sym (c .before .before .before .before .before .before .before .before .is-clear .ensures) ∙ not-false _ (c .before .before .before .before .before .before .before .if1 .left)) (c .is-guarded .ensures))
+    (may-guarded (g .pre) (g .args .d) (c .before .before .before .before .before .before .before .before .is-clear .ensures)
+    (not-false _ (c .before .before .before .before .before .before .before .if1 .left)) (c .is-guarded .ensures))
 
 pub may-join-spec : {M : Type 1} → statement M
 may-join-spec =

@@ -1,9 +1,9 @@
--- `set_choose_inner::zero_taken` meets its contract.
+-- `set_words_inner::zero_taken` meets its contract.
 use mathlib.Core.Path.{_≡_, refl}
 use borrow.Author.Tests.{eq-eqb, ne-eqb}
 use borrow.Author.Needs.{needs}
-use Rattle.set_choose_inner.proofs.zero_taken.Statement.{statement}
-use Rattle.set_choose_inner.proofs.zero_taken.Tie as tie
+use Rattle.set_words_inner.proofs.zero_taken.Statement.{statement}
+use Rattle.set_words_inner.proofs.zero_taken.Tie as tie
 
 returns : tie.Need-returns
 returns c = let n = c .before .before .before .args .n in let e : n ≡ 1 = search needs in rw (c .before .enum-told2 .given .1, eq-eqb n 1 e) refl

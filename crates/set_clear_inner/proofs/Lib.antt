@@ -1,0 +1,2 @@
+-- What is read from the places (Clear).
+pub mod Clear

@@ -1,0 +1,2 @@
+-- The other side of a ring, and the tests that are made of it (Backs).
+pub mod Backs
