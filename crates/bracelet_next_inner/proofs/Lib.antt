@@ -1,4 +1,2 @@
--- What the loops rest on, over plain lists: how often a span can be halved (Halves), and the searches for a shade and for a place (Settling, Lifting).
-pub mod Halves
-pub mod Settling
+-- The place that is raised, and the places behind it (Lifting).
 pub mod Lifting

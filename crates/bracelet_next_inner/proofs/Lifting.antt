@@ -19,7 +19,8 @@ use Rattle.words.proofs.Sequence.{sec, place}
 use Rattle.rings.specs.Alike.{bracelet}
 use Rattle.bracelet_laws.specs.Beginnings.{tried}
 use Rattle.bracelet_laws.proofs.Next.{tried-is, tried-rises, Stuck, stuck-end, stuck-full, stuck-at, stuck-none, Leads, lead-start, lead-letter, lead-set, lead-on, lead-end}
-use Rattle.bracelet_next_inner.specs.Going.{ByteReading, Settles, ShadeSettled, BraceletLifted, Led, Completed}
+use Rattle.bracelet_settle_inner.specs.Shades.{Settles, ShadeSettled}
+use Rattle.bracelet_next_inner.specs.Going.{ByteReading, BraceletLifted, Led, Completed}
 
 -- ---- the place to raise
 

@@ -19,7 +19,7 @@ pub fn sector_shade(value: f32, k: usize, card: Card) -> SectorRead
     if MOST_SHADES < k {
         return SectorRead::Refused(Refusal::Shades(0));
     }
-    if !density_cuts_inner::is_good(card) {
+    if !density_card_inner::is_good(card) {
         return SectorRead::Refused(Refusal::Card);
     }
     SectorRead::Is(density_cuts_inner::read(card, k as u8, value))
@@ -42,7 +42,7 @@ pub fn ring_shades(values: &[f32], k: usize, card: Card, out: &mut [u8]) -> Ring
     if MOST_SHADES < k {
         return RingRead::Refused(Refusal::Shades(0));
     }
-    if !density_cuts_inner::is_good(card) {
+    if !density_card_inner::is_good(card) {
         return RingRead::Refused(Refusal::Card);
     }
     if out.len() != n {

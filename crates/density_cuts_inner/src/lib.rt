@@ -3,32 +3,9 @@
 use density_spec::Card;
 use density_spec::Sector;
 ghost use mathlib.Core.Path.{_≡_};
-ghost use Prim.Native.Nat.{_≤_};
 ghost use Rattle.words.specs.Readings.{Shaded};
-ghost use Rattle.density_spec.specs.Cuts.{goodCard, cut, shadeOf};
+ghost use Rattle.density_spec.specs.Cuts.{shadeOf};
 ghost use Rattle.density_spec.specs.Says.{ShadeSays};
-
-// Whether 0 <= dark < light <= 1.
-pub fn is_good(card: Card) -> bool
-    ensures { λ r. ⌜ r ≡ goodCard card ⌝ }
-{
-    if card.dark >= 0.0 {
-        if card.dark < card.light {
-            return card.light <= 1.0;
-        }
-    }
-    false
-}
-
-// Cut j: every operation rounded once, in the order that the client gives.
-fn cut_level(card: Card, k: u8, j: u8) -> f32
-    requires { ⌜ Shaded k × (1 ≤ j) × (j ≤ 16) ⌝ }
-    ensures { λ r. ⌜ r ≡ cut card k j ⌝ }
-{
-    let up = 2 * j - 1;
-    let down = 2 * k - 2;
-    card.dark + ((card.light - card.dark) * (up as f32)) / (down as f32)
-}
 
 // The number of cuts not above x.
 fn cuts_not_above(card: Card, k: u8, x: f32) -> u8
@@ -40,7 +17,7 @@ fn cuts_not_above(card: Card, k: u8, x: f32) -> u8
     let mut i: u8 = 0;
     while i < last {
         let j = i + 1;
-        let level = cut_level(card, k, j);
+        let level = density_card_inner::cut_level(card, k, j);
         if level <= x {
             shade += 1;
         }

@@ -1,33 +1,11 @@
 // How far apart two lent readings are, and by which turn they come so near. No public call: the calls of `home` check what these ask for.
 
 ghost use mathlib.Core.Path.{_≡_};
-ghost use Prim.Native.Nat.{_≤_, _<_, min};
+ghost use Prim.Native.Nat.{_<_};
 ghost use lib.ListN.{length};
 ghost use lib.Dec.{ltb};
-ghost use Rattle.words.specs.Turn.{turn};
-ghost use Rattle.rings.specs.Alike.{differing, apart};
+ghost use Rattle.rings.specs.Alike.{apart};
 ghost use Rattle.home_spec.specs.Turns.{nearestTurn, steady};
-
-// At how many places a turned by i and b differ, or limit where these are not fewer: it gives up once it has found so many.
-pub fn differing_below(a: &[u8], i: usize, b: &[u8], limit: usize) -> usize
-    requires { ⌜ (length (now a) ≡ length (now b)) × (i ≤ length (now a)) ⌝ }
-    ensures { λ r. ⌜ r ≡ min (differing (turn i (now (a .entry))) (now (b .entry))) limit ⌝ }
-{
-    let mut d = 0;
-    let mut m = 0;
-    while m < a.len() {
-        if limit <= d {
-            return limit;
-        }
-        let x = home_turns_inner::sector(a, i, m);
-        let y = b[m];
-        if x != y {
-            d += 1;
-        }
-        m += 1;
-    }
-    d
-}
 
 // The smallest number of places at which a turn of a differs from b. A turn is given up once it is no better than the best so far, and all of them where
 // that is 0.
@@ -39,7 +17,7 @@ pub fn fewest_differing(a: &[u8], b: &[u8]) -> usize
     let mut best = n;
     let mut i = 0;
     while i < n {
-        best = differing_below(a, i, b, best);
+        best = home_differing_inner::differing_below(a, i, b, best);
         if best == 0 {
             return 0;
         }
@@ -55,7 +33,7 @@ pub fn is_nearer(a: &[u8], b: &[u8], d: usize) -> bool
 {
     let mut j = 0;
     while j < a.len() {
-        if differing_below(a, j, b, d) < d {
+        if home_differing_inner::differing_below(a, j, b, d) < d {
             return true;
         }
         j += 1;
@@ -72,7 +50,7 @@ pub fn nearest_turn(a: &[u8], b: &[u8], best: usize) -> usize
     let limit = best + 1;
     let mut t = 0;
     while t < n {
-        let d = differing_below(a, t, b, limit);
+        let d = home_differing_inner::differing_below(a, t, b, limit);
         if d == best {
             return t;
         }
@@ -89,7 +67,7 @@ pub fn is_steady(s: &[u8], d: usize) -> bool
     let n = s.len();
     let mut j = 1;
     while j <= n - j {
-        if differing_below(s, j, s, d) < d {
+        if home_differing_inner::differing_below(s, j, s, d) < d {
             return false;
         }
         j += 1;

@@ -1,2 +1,2 @@
--- The mark of a record, and the ring of a good one (Reading).
+-- The mark of a record (Reading).
 pub mod Reading

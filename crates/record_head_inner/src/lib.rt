@@ -1,4 +1,4 @@
-// A record read: its head and its mark, 7, 8, 16, then what stands behind the mark, and then its ring. No public calls.
+// A record read: its head and its mark, 7, 8, 16, then what stands behind the mark, and then its ring (`record_ring_inner`). No public calls.
 
 use record_spec::Entry;
 use record_spec::FRONT_MARK;
@@ -13,9 +13,7 @@ ghost use mathlib.Core.Path.{_≡_};
 ghost use Prim.Native.Nat.{_+_, _≤_};
 ghost use lib.ListN.{length, getD};
 ghost use lib.Dec.{eqb};
-ghost use Rattle.words.specs.Readings.{Shaded};
-ghost use Rattle.record_spec.specs.Layout.{bodyLength, shown, Marked};
-ghost use Rattle.record_spec.specs.Order.{GoodRecord};
+ghost use Rattle.record_spec.specs.Layout.{Marked};
 ghost use Rattle.record_body_inner.specs.Steps.{Held, RecordSays};
 
 // The head and the mark: 7, 8, 16; then the record of its kind.
@@ -48,7 +46,7 @@ fn read_kind(kind: Kind, rest: &[u8], start: usize, out: &mut [u8]) -> Entry
 {
     match record_behind_inner::check_behind(kind, rest, start) {
         Checked::Refused(r) => Entry::Refused(r),
-        Checked::Good => read_good(kind, rest, start, out),
+        Checked::Good => record_ring_inner::read_good(kind, rest, start, out),
     }
 }
 
@@ -58,38 +56,4 @@ fn is_retired(rest: &[u8]) -> bool
     ensures { λ r. ⌜ r ≡ eqb (getD (now (rest .entry)) 1 0) 0x42 ⌝ }
 {
     rest[1] == RETIRED_MARK
-}
-
-// Writes the ring of a good record of the kind, and answers what it is.
-fn read_good(kind: Kind, rest: &[u8], start: usize, out: &mut [u8]) -> Entry
-    requires { ⌜ Held (start + length (now rest)) × (length (now out) ≡ 64) × GoodRecord kind (now rest) × Marked (now rest) kind ⌝ }
-    ensures { λ r. ⌜ RecordSays (now (rest .entry)) start (now (out .entry)) r (now (out .exit)) ⌝ }
-{
-    let n = rest[2] as usize;
-    let k = rest[3] as usize;
-    let e = HEAD + record_stored_inner::body_length(kind, n, k);
-    show(kind, &rest[HEAD..e], k, &mut out[..n]);
-    Entry::Record {
-        n: n,
-        k: k,
-        kind: kind,
-        next: start + e,
-    }
-}
-
-// Writes the sectors that the bytes behind the head hold, in the form of the kind.
-fn show(kind: Kind, body: &[u8], k: usize, out: &mut [u8])
-    requires { ⌜ Shaded k × (length (now body) ≡ bodyLength kind (length (now out)) k) ⌝ }
-    ensures { λ r. ⌜ now (out .exit) ≡ shown kind (length (now (out .entry))) k (now (body .entry)) ⌝ }
-{
-    match kind {
-        Kind::Front => {
-            bytes::copy(body, out);
-        }
-        Kind::Packed => packing_unpack_inner::unpack_into(
-            body,
-            packing_bits_inner::width_of(k),
-            out,
-        ),
-    }
 }

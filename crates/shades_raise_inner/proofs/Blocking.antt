@@ -6,7 +6,7 @@
 --     begun-fitting        the shade fits: some ring goes on with it
 --     find-part, find-fits, find-start                               how far the first sectors fit into the counts
 --     Ahead, reach-start, reach-none, reach-asks, reach-stop, reach-more, reach-end    how far a ring may follow w
---     find-asks, find-found, find-more, find-end                     one place after the other, from there back
+--     find-asks, Tried, find-found, find-more, find-end              one place after the other, from there back
 use Prim.Native.Nat.{ℕ, suc, _+_, _-_, _<_, _≤_}
 use mathlib.Core.Path.{_≡_, refl, sym, ap, _∙_, subst}
 use mathlib.Core.Bool.{true, false}
@@ -24,13 +24,14 @@ use Rattle.ring_laws.proofs.Run.{pre-shorter, pre-through, lyn-through}
 use Rattle.ring_laws.proofs.Words.{pre-of, of-pre}
 use Rattle.ring_laws.proofs.Lyndon.{lyndon-of}
 use Rattle.shades_laws.proofs.Copies.{occurs-append}
-use Rattle.shades_raise_inner.specs.Places.{CountedRing, Blocked, Begun, Barred, Fitting, Liftable, LiftedTo, Past, Seeking, Headed, PlaceFound}
+use Rattle.shades_lift_inner.specs.Lifts.{Barred, Fitting, Liftable, LiftedTo}
+use Rattle.shades_lift_inner.proofs.Barring.{counts-long, lessOne, first-tell}
+use Rattle.shades_raise_inner.specs.Places.{CountedRing, Blocked, Begun, Seeking, Headed, PlaceFound}
 use Rattle.shades_tally_inner.specs.Remaining.{Remains, Exceeds, Fittable, Fitted}
 use Rattle.shades_tally_inner.specs.declared.Fit.{Fit}
 use Rattle.shades_raise_inner.specs.Ready.{Ready, Opening}
 use Rattle.shades_completable_inner.specs.Completion.{Completing, Hopeless, Decides}
 use Rattle.shades_tally_inner.proofs.Tallying.{counts-at, counts-end, occurs-at, occurs-past}
-use Rattle.shades_raise_inner.proofs.Barring.{counts-long, lessOne, first-tell}
 use Rattle.shades_tally_inner.proofs.Leaving.{sum-le, remains-sum, remains-more, remains-less, remains-le, exceeds-one, exceeds-longer}
 
 -- a beginning of a prenecklace is a prenecklace
@@ -162,7 +163,7 @@ begun-fitting cs k w l b rem room many known r f = record {
 
 -- ---- one place after the other, from the last on
 
-module _ (w : List ℕ) (n k : ℕ) (cs : List ℕ) (size : length w ≡ 64) (p : Opening w n k cs) where
+module _ {w : List ℕ} {n k : ℕ} {cs : List ℕ} (size : length w ≡ 64) (p : Opening w n k cs) where
   -- each sector is a shade
   known-shade : (m : ℕ) → m < n → sec w m < k
   known-shade m h = rw (getD-take n w m 0 h) at (p .ready .reading .shades m h)
@@ -186,7 +187,7 @@ module _ (w : List ℕ) (n k : ℕ) (cs : List ℕ) (size : length w ≡ 64) (p 
     pub find-fits : Fittable cs (take q w)
     find-fits = record { few = few-counts; known = λ i h. let b : i < q = omega (arith, front-long) in rw (getD-take q w i 0 b) (counted-shade i (omega arith)) }
 
-    module _ (r : Fit) (f : Fitted cs (take q w) r) where
+    module _ {r : Fit} (f : Fitted cs (take q w) r) where
       fit-remains : Remains cs (take (r .end) w) (r .rem)
       fit-remains = subst (λ u. Remains cs u (r .rem)) (take-take (r .end) q w (omega (arith, f .within, front-long))) (f .remains)
 
@@ -212,76 +213,83 @@ module _ (w : List ℕ) (n k : ℕ) (cs : List ℕ) (size : length w ≡ 64) (p 
 
   -- ---- one place after the other, from there back
 
-  module _ (i : ℕ) (rem : List ℕ) (at : Seeking w n k cs i rem) where
-    -- what is asked of the shades at the place
-    pub find-asks : Liftable w i k rem
-    find-asks = record {
-      size = size;
-      slots = at .remains .size;
-      inside = omega (arith, at .inside, p .ready .size);
-      shades = p .ready .shades;
-      past = λ x h. at .remains .past x (omega (arith, p .ready .many));
-      room = omega (arith, p .ready .whole, p .ready .size, remains-sum cs (take i w) rem (at .remains));
-      pre = beginning-pre w n (suc i) (omega (arith, at .inside)) (omega (arith, p .ready .size)) (p .pre);
-      low = known-shade i (at .inside);
-    }
+  -- what is asked of the shades at the place
+  pub find-asks : {i : ℕ} {rem : List ℕ} → Seeking w n k cs i rem → Liftable w i k rem
+  find-asks {i = i} {rem = rem} at = record {
+    size = size;
+    slots = at .remains .size;
+    inside = omega (arith, at .inside, p .ready .size);
+    shades = p .ready .shades;
+    past = λ x h. at .remains .past x (omega (arith, p .ready .many));
+    room = omega (arith, p .ready .whole, p .ready .size, remains-sum cs (take i w) rem (at .remains));
+    pre = beginning-pre w n (suc i) (omega (arith, at .inside)) (omega (arith, p .ready .size)) (p .pre);
+    low = known-shade i (at .inside);
+  }
 
-    module _ (r : ℕ) (up : LiftedTo w i k rem r) where
-      -- each shade between is blocked
-      blocked-here : (b : ℕ) → sec w i < b → b < r → Blocked cs n k w i b
-      blocked-here b m q = blocked-barred cs n k w i b (at .inside) (omega (arith, at .inside, p .ready .size)) rem (p .ready .many) (at .remains) (up .lifted .barred b m q)
+-- the place i was tried, where it can be raised to r
+pub record Tried (w : List ℕ) (n k : ℕ) (cs : List ℕ) (i : ℕ) (rem : List ℕ) (r : ℕ) : Type 0 where
+  pub size : length w ≡ 64
+  pub opening : Opening w n k cs
+  pub at : Seeking w n k cs i rem
+  pub up : LiftedTo w i k rem r
 
-      -- a place that cannot be raised joins those behind it
-      past-here : (r < k → ⊥) → (l b : ℕ) → i ≤ l → l < n → sec w l < b → b < k → Blocked cs n k w l b
-      past-here h l b m q t u =
-          elim (tri i l) [
-            | lt x ↦ at .past .blocked l b (omega arith) q t u
-            | eq x ↦ subst (λ y. sec w y < b → Blocked cs n k w y b) x (λ s. blocked-here b s (omega arith)) t
-            | gt x ↦ absurd (omega arith)
-          ]
+module _ {w : List ℕ} {n k : ℕ} {cs : List ℕ} {i : ℕ} {rem : List ℕ} {r : ℕ} (t : Tried w n k cs i rem r) where
+  -- each shade between is blocked
+  blocked-here : (b : ℕ) → sec w i < b → b < r → Blocked cs n k w i b
+  blocked-here b m q = blocked-barred cs n k w i b (t .at .inside) (omega (arith, t .at .inside, t .opening .ready .size)) rem (t .opening .ready .many) (t .at .remains) (t .up .lifted .barred b m q)
 
-      -- the place can be raised
-      pub find-found : r < k → PlaceFound w n k cs (record { end = i + 1; shade = r })
-      find-found h =
-          let e : i + 1 - 1 ≡ i = omega arith in
-          record {
-            within = omega (arith, at .inside);
-            blocked = λ l b m. at .past .blocked l b (omega arith);
-            above = λ q. rw e (up .lifted .above);
-            known = λ q. h;
-            between = λ b q. rw e (blocked-here b);
-            begun = λ q. rw e (subst (λ x. Begun cs x k w i r) (p .ready .whole)
-                (begun-fitting cs k w i r rem (omega (arith, at .inside, p .ready .size)) (p .ready .many) (λ m h. known-shade m (omega (arith, at .inside))) (at .remains) (up .fitting h)));
-          }
+  -- a place that cannot be raised joins those behind it
+  past-here : (r < k → ⊥) → (l b : ℕ) → i ≤ l → l < n → sec w l < b → b < k → Blocked cs n k w l b
+  past-here h l b m q v u =
+      elim (tri i l) [
+        | lt x ↦ t .at .past .blocked l b (omega arith) q v u
+        | eq x ↦ subst (λ y. sec w y < b → Blocked cs n k w y b) x (λ s. blocked-here b s (omega arith)) v
+        | gt x ↦ absurd (omega arith)
+      ]
 
-      -- it cannot, and it is the first
-      pub find-end : (r < k → ⊥) → i ≡ 0 → PlaceFound w n k cs (record { end = 0; shade = 0 })
-      find-end h e = record {
-        within = omega arith;
-        blocked = λ l b m. past-here h l b (omega arith);
-        above = λ q. absurd (omega arith);
-        known = λ q. absurd (omega arith);
-        between = λ b q. absurd (omega arith);
-        begun = λ q. absurd (omega arith);
+  -- the place can be raised
+  pub find-found : r < k → PlaceFound w n k cs (record { end = i + 1; shade = r })
+  find-found h =
+      let e : i + 1 - 1 ≡ i = omega arith in
+      record {
+        within = omega (arith, t .at .inside);
+        blocked = λ l b m. t .at .past .blocked l b (omega arith);
+        above = λ q. rw e (t .up .lifted .above);
+        known = λ q. h;
+        between = λ b q. rw e (blocked-here b);
+        begun = λ q. rw e (subst (λ x. Begun cs x k w i r) (t .opening .ready .whole)
+            (begun-fitting cs k w i r rem (omega (arith, t .at .inside, t .opening .ready .size)) (t .opening .ready .many)
+            (λ m h. known-shade (t .size) (t .opening) m (omega (arith, t .at .inside))) (t .at .remains) (t .up .fitting h)));
       }
 
-      -- it cannot, and there is one before it
-      pub find-more : (r < k → ⊥) → (i ≡ 0 → ⊥) → Seeking w n k cs (i - 1) (set rem (sec w (i - 1)) (getD rem (sec w (i - 1)) 0 + 1))
-      find-more h z = record {
-        inside = omega (arith, at .inside);
-        remains =
-            remains-less cs w rem (i - 1) (omega (arith, at .inside, p .ready .size))
-            (rw (p .ready .many) (known-shade (i - 1) (omega (arith, at .inside)))) (omega (arith, p .ready .many, p .ready .shades))
-            (subst (λ x. Remains cs (take x w) rem) (let e : i ≡ i - 1 + 1 = omega arith in e) (at .remains));
-        past = record { within = omega (arith, at .inside); blocked = λ l b m. past-here h l b (omega arith) };
-      }
+  -- it cannot, and it is the first
+  pub find-end : (r < k → ⊥) → i ≡ 0 → PlaceFound w n k cs (record { end = 0; shade = 0 })
+  find-end h e = record {
+    within = omega arith;
+    blocked = λ l b m. past-here h l b (omega arith);
+    above = λ q. absurd (omega arith);
+    known = λ q. absurd (omega arith);
+    between = λ b q. absurd (omega arith);
+    begun = λ q. absurd (omega arith);
+  }
 
-      -- the sector before it is a shade that has a count
-      pub find-shade : (i ≡ 0 → ⊥) → sec w (i - 1) < 16
-      find-shade z = omega (arith, known-shade (i - 1) (omega (arith, at .inside)), p .ready .shades)
+  -- it cannot, and there is one before it
+  pub find-more : (r < k → ⊥) → (i ≡ 0 → ⊥) → Seeking w n k cs (i - 1) (set rem (sec w (i - 1)) (getD rem (sec w (i - 1)) 0 + 1))
+  find-more h z = record {
+    inside = omega (arith, t .at .inside);
+    remains =
+        remains-less cs w rem (i - 1) (omega (arith, t .at .inside, t .opening .ready .size))
+        (rw (t .opening .ready .many) (known-shade (t .size) (t .opening) (i - 1) (omega (arith, t .at .inside)))) (omega (arith, t .opening .ready .many, t .opening .ready .shades))
+        (subst (λ x. Remains cs (take x w) rem) (let e : i ≡ i - 1 + 1 = omega arith in e) (t .at .remains));
+    past = record { within = omega (arith, t .at .inside); blocked = λ l b m. past-here h l b (omega arith) };
+  }
 
-      pub find-count : (b : ℕ) → getD rem b 0 ≤ 64
-      find-count b = omega (arith, remains-le cs (take i w) rem b (at .remains), p .ready .whole, p .ready .size)
+  -- the sector before it is a shade that has a count
+  pub find-shade : (i ≡ 0 → ⊥) → sec w (i - 1) < 16
+  find-shade z = omega (arith, known-shade (t .size) (t .opening) (i - 1) (omega (arith, t .at .inside)), t .opening .ready .shades)
+
+  pub find-count : (b : ℕ) → getD rem b 0 ≤ 64
+  find-count b = omega (arith, remains-le cs (take i w) rem b (t .at .remains), t .opening .ready .whole, t .opening .ready .size)
 
 -- ---- following the sectors from place q on
 
@@ -300,10 +308,10 @@ module _ {w : List ℕ} {n k : ℕ} {cs : List ℕ} {q i : ℕ} {rem : List ℕ}
   ready = a .opening .ready
 
   known : sec w i < length cs
-  known = counted-shade w n k cs (a .size) (a .opening) i (a .inside)
+  known = counted-shade (a .size) (a .opening) i (a .inside)
 
   few : length cs ≤ 16
-  few = few-counts w n k cs (a .size) (a .opening)
+  few = few-counts (a .size) (a .opening)
 
   abbrev shade : ℕ
   shade = sec w i

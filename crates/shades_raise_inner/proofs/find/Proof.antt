@@ -5,7 +5,7 @@ use mathlib.Core.Path.{_≡_, refl, sym, ap, _∙_}
 use native.Mathlib.Omega.{arith}
 use lib.ListN.{length, getD}
 use Rattle.shades_raise_inner.specs.Places.{Seeking}
-use Rattle.shades_raise_inner.proofs.Blocking.{find-asks, find-found, find-end, find-more, find-shade, find-count}
+use Rattle.shades_raise_inner.proofs.Blocking.{find-asks, Tried, find-found, find-end, find-more, find-shade, find-count}
 use borrow.Author.Needs.{needs}
 use Rattle.shades_raise_inner.proofs.find.Statement.{statement}
 use Rattle.shades_raise_inner.proofs.find.Tie as tie
@@ -28,76 +28,51 @@ slice-aggregate-lift c =
     sym (ap length (c .before .loop .inv .1) ∙ z)
 
 lift-requires : tie.Need-lift-requires Inv-loop μ-loop
-lift-requires c κs = let l = c .before .before .loop in rw (l .inv .1) (find-asks _ _ _ _ (search needs) (c .before .before .before .before .before .before .pre .0) _ _ (l .inv .0))
+lift-requires c κs = let l = c .before .before .loop in rw (l .inv .1) (find-asks (search needs) (c .before .before .before .before .before .before .pre .0) (l .inv .0))
+
+-- what was told of place i; al, which was lent for it, is w
+tried : (c : tie.After-lift Inv-loop μ-loop) →
+    let a = c .before .before .before .before .before .before .before .args in
+    let l = c .before .before .before .loop in
+    Tried (a .t1) (a .n) (a .k) (a .counts .now) (l .i) (l .rem) (c .lift .result)
+tried c =
+    let l = c .before .before .before .loop in
+    record { size = search needs; opening = c .before .before .before .before .before .before .before .pre .0; at = l .inv .0; up = rw (l .inv .1) at (c .lift .ensures .0) }
 
 add-t19 : tie.Need-add-t19 Inv-loop μ-loop
-add-t19 c =
-    let l = c .before .before .before .before .before .before .loop in
-    let o = c .before .before .before .before .before .before .before .before .before .before .pre .0 in
-    omega (arith, l .inv .0 .inside, o .ready .size)
+add-t19 c = let t = tried (c .before .before .before) in omega (arith, t .at .inside, t .opening .ready .size)
 
 returns : tie.Need-returns Inv-loop μ-loop
-returns c =
-    let l = c .before .before .before .before .before .before .loop in
-    let o = c .before .before .before .before .before .before .before .before .before .before .pre .0 in
-    let e = c .before .before .before .lift .ensures in
-    find-found _ _ _ _ (search needs) o _ _ (l .inv .0) _ (rw (l .inv .1) at (e .0)) (c .if1 .taken)
+returns c = find-found (tried (c .before .before .before)) (c .if1 .taken)
 
 returns-2 : tie.Need-returns-2 Inv-loop μ-loop
-returns-2 c =
-    let l = c .before .before .before .before .before .before .before .loop in
-    let o = c .before .before .before .before .before .before .before .before .before .before .before .pre .0 in
-    let e = c .before .before .before .before .lift .ensures in
-    find-end _ _ _ _ (search needs) o _ _ (l .inv .0) _ (rw (l .inv .1) at (e .0)) (λ h. omega (arith, c .before .if1 .left)) (c .if2 .taken)
+returns-2 c = find-end (tried (c .before .before .before .before)) (λ h. omega (arith, c .before .if1 .left)) (c .if2 .taken)
 
 array-read-x : tie.Need-array-read-x Inv-loop μ-loop
-array-read-x c =
-    let l = c .before .before .before .before .before .before .before .loop in
-    let o = c .before .before .before .before .before .before .before .before .before .before .before .pre .0 in
-    omega (arith, l .inv .0 .inside, o .ready .size)
+array-read-x c = let t = tried (c .before .before .before .before) in omega (arith, t .at .inside, t .opening .ready .size)
 
 cast-x : tie.Need-cast-x Inv-loop μ-loop
-cast-x c =
-    let l = c .before .before .before .before .before .before .before .loop in
-    let o = c .before .before .before .before .before .before .before .before .before .before .before .pre .0 in
-    let e = c .before .before .before .before .lift .ensures in
-    omega (arith, find-shade _ _ _ _ (search needs) o _ _ (l .inv .0) _ (rw (l .inv .1) at (e .0)) (c .if2 .left))
+cast-x c = omega (arith, find-shade (tried (c .before .before .before .before)) (c .if2 .left))
 
 mul-rem : tie.Need-mul-rem Inv-loop μ-loop
-mul-rem c =
-    let l = c .before .before .before .before .before .before .before .loop in
-    let o = c .before .before .before .before .before .before .before .before .before .before .before .pre .0 in
-    let e = c .before .before .before .before .lift .ensures in
-    omega (arith, find-shade _ _ _ _ (search needs) o _ _ (l .inv .0) _ (rw (l .inv .1) at (e .0)) (c .if2 .left))
+mul-rem c = omega (arith, find-shade (tried (c .before .before .before .before)) (c .if2 .left))
 
 array-read-rem : tie.Need-array-read-rem Inv-loop μ-loop
-array-read-rem c =
-    let l = c .before .before .before .before .before .before .before .loop in
-    let o = c .before .before .before .before .before .before .before .before .before .before .before .pre .0 in
-    let e = c .before .before .before .before .lift .ensures in
-    omega (arith, find-shade _ _ _ _ (search needs) o _ _ (l .inv .0) _ (rw (l .inv .1) at (e .0)) (c .if2 .left), l .inv .0 .remains .size)
+array-read-rem c = let t = tried (c .before .before .before .before) in omega (arith, find-shade t (c .if2 .left), t .at .remains .size)
 
 add-rem : tie.Need-add-rem Inv-loop μ-loop
 add-rem c =
-    let l = c .before .before .before .before .before .before .before .loop in
-    let o = c .before .before .before .before .before .before .before .before .before .before .before .pre .0 in
-    let e = c .before .before .before .before .lift .ensures in
-    let w = c .before .before .before .before .before .before .before .before .before .before .before .args .t1 in
-    rw (e .1 .1) (omega (arith, find-count _ _ _ _ (search needs) o _ _ (l .inv .0) _ (rw (l .inv .1) at (e .0)) (getD w (l .i - 1) 0)))
+    let d = c .before .before .before .before in
+    rw (d .lift .ensures .1 .1) (omega (arith, find-count (tried d) (getD (d .before .before .before .before .before .before .before .args .t1) (d .before .before .before .loop .i - 1) 0)))
 
 array-write-rem : tie.Need-array-write-rem Inv-loop μ-loop
-array-write-rem c =
-    let l = c .before .before .before .before .before .before .before .loop in
-    let o = c .before .before .before .before .before .before .before .before .before .before .before .pre .0 in
-    let e = c .before .before .before .before .lift .ensures in
-    omega (arith, find-shade _ _ _ _ (search needs) o _ _ (l .inv .0) _ (rw (l .inv .1) at (e .0)) (c .if2 .left), l .inv .0 .remains .size)
+array-write-rem c = let t = tried (c .before .before .before .before) in omega (arith, find-shade t (c .if2 .left), t .at .remains .size)
 
 loop-again : tie.Need-loop-again Inv-loop μ-loop
 loop-again c =
-    let l = c .before .before .before .before .before .before .before .loop in
-    let o = c .before .before .before .before .before .before .before .before .before .before .before .pre .0 in
-    let e = c .before .before .before .before .lift .ensures in
-    (rw (e .1 .1) (find-more _ _ _ _ (search needs) o _ _ (l .inv .0) _ (rw (l .inv .1) at (e .0)) (λ h. omega (arith, c .before .if1 .left)) (c .if2 .left)), e .1 .0 ∙ l .inv .1)
+    let d = c .before .before .before .before in
+    let e = d .lift .ensures .1 in
+    (rw (e .1) (find-more (tried d) (λ h. omega (arith, c .before .if1 .left)) (c .if2 .left)), e .0 ∙ d .before .before .before .loop .inv .1)
 
 pub find-spec : {M : Type 1} → statement M
 find-spec =

@@ -1,5 +1,5 @@
 -- `shades_raise_inner::reach` meets its contract. The loop: the first i sectors fit into the counts, and the first p of them are a Lyndon word.
-use Prim.Native.Nat.{_+_, _-_}
+use Prim.Native.Nat.{_-_}
 use mathlib.Core.Path.{sym}
 use native.Mathlib.Omega.{arith}
 use lib.ListN.{getD, length-set}
@@ -20,38 +20,38 @@ sub-w : tie.Need-sub-w Inv-loop μ-loop
 sub-w c = omega (arith, c .before .before .pre .0 .ready .pos)
 
 array-share-prefix-w : tie.Need-array-share-prefix-w Inv-loop μ-loop
-array-share-prefix-w c = find-part _ _ _ _ (search needs) (c .before .before .pre .0) (c .before .before .args .n - 1) (omega (arith, c .before .before .pre .0 .ready .pos))
+array-share-prefix-w c = find-part (search needs) (c .before .before .pre .0) (c .before .before .args .n - 1) (omega (arith, c .before .before .pre .0 .ready .pos))
 
 slice-aggregate-fitting : tie.Need-slice-aggregate-fitting Inv-loop μ-loop
 slice-aggregate-fitting c =
     sym
     (length-take-le _ _
-    (find-part _ _ _ _ (search needs) (c .before .before .before .pre .0) (c .before .before .before .args .n - 1)
+    (find-part (search needs) (c .before .before .before .pre .0) (c .before .before .before .args .n - 1)
     (omega (arith, c .before .before .before .pre .0 .ready .pos))))
 
 fitting-requires : tie.Need-fitting-requires Inv-loop μ-loop
-fitting-requires c κs = find-fits _ _ _ _ (search needs) (c .before .before .before .pre .0) (c .before .before .before .args .n - 1) (omega (arith, c .before .before .before .pre .0 .ready .pos))
+fitting-requires c κs = find-fits (search needs) (c .before .before .before .pre .0) (c .before .before .before .args .n - 1) (omega (arith, c .before .before .before .pre .0 .ready .pos))
 
 returns : tie.Need-returns Inv-loop μ-loop
 returns c =
-    find-start _ _ _ _ (search needs) (c .before .before .before .before .pre .0) (c .before .before .before .before .args .n - 1)
-    (omega (arith, c .before .before .before .before .pre .0 .ready .pos)) _ (c .fitting .ensures)
+    find-start (search needs) (c .before .before .before .before .pre .0) (c .before .before .before .before .args .n - 1)
+    (omega (arith, c .before .before .before .before .pre .0 .ready .pos)) (c .fitting .ensures)
     (λ e. omega (arith, c .before .before .before .before .pre .0 .ready .pos))
 
 array-share-prefix-w-2 : tie.Need-array-share-prefix-w-2 Inv-loop μ-loop
-array-share-prefix-w-2 c = find-part _ _ _ _ (search needs) (c .before .before .pre .0) (c .before .before .args .p) (omega (arith, c .if1 .left))
+array-share-prefix-w-2 c = find-part (search needs) (c .before .before .pre .0) (c .before .before .args .p) (omega (arith, c .if1 .left))
 
 slice-aggregate-fitting-2 : tie.Need-slice-aggregate-fitting-2 Inv-loop μ-loop
-slice-aggregate-fitting-2 c = sym (length-take-le _ _ (find-part _ _ _ _ (search needs) (c .before .before .before .pre .0) (c .before .before .before .args .p) (omega (arith, c .before .if1 .left))))
+slice-aggregate-fitting-2 c = sym (length-take-le _ _ (find-part (search needs) (c .before .before .before .pre .0) (c .before .before .before .args .p) (omega (arith, c .before .if1 .left))))
 
 fitting-requires-2 : tie.Need-fitting-requires-2 Inv-loop μ-loop
-fitting-requires-2 c κs = find-fits _ _ _ _ (search needs) (c .before .before .before .pre .0) (c .before .before .before .args .p) (omega (arith, c .before .if1 .left))
+fitting-requires-2 c κs = find-fits (search needs) (c .before .before .before .pre .0) (c .before .before .before .args .p) (omega (arith, c .before .if1 .left))
 
 returns-2 : tie.Need-returns-2 Inv-loop μ-loop
 returns-2 c =
-    find-start _ _ _ _ (search needs) (c .before .before .before .before .before .before .pre .0)
+    find-start (search needs) (c .before .before .before .before .before .before .pre .0)
     (c .before .before .before .before .before .before .args .p) (omega (arith, c .before .before .before .before .if1 .left))
-    (c .before .before .fitting2 .result) (c .before .before .fitting2 .ensures) (λ e. absurd (omega (arith, c .if2 .taken)))
+    (c .before .before .fitting2 .ensures) (λ e. absurd (omega (arith, c .if2 .taken)))
 
 loop-holds : tie.Need-loop-holds Inv-loop μ-loop
 loop-holds c =
@@ -63,9 +63,9 @@ loop-holds c =
       from = omega arith;
       inside = omega (arith, c .before .before .before .before .before .if1 .left);
       left =
-          reach-start _ _ _ _ (search needs) (c .before .before .before .before .before .before .before .pre .0)
+          reach-start (search needs) (c .before .before .before .before .before .before .before .pre .0)
           (c .before .before .before .before .before .before .before .args .p) (omega (arith, c .before .before .before .before .before .if1 .left))
-          (c .before .before .before .fitting2 .result) (c .before .before .before .fitting2 .ensures) (λ h. omega (arith, c .before .if2 .left));
+          (c .before .before .before .fitting2 .ensures) (λ h. omega (arith, c .before .if2 .left));
     }
 
 add-loop : tie.Need-add-loop Inv-loop μ-loop

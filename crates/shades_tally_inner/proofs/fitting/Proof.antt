@@ -1,7 +1,8 @@
 -- `shades_tally_inner::fitting` meets its contract. The loop: the first i sectors fit, and rem is what the counts leave beside them.
-use Prim.Native.Nat.{_≤_, _-_}
+use Prim.Native.Nat.{_<_, _≤_, _-_}
+use mathlib.Core.Path.{_≡_}
 use native.Mathlib.Omega.{arith}
-use lib.ListN.{length, take}
+use lib.ListN.{length, take, getD}
 use borrow.Author.Needs.{needs}
 use Rattle.shades_tally_inner.specs.Remaining.{Remains}
 use Rattle.shades_tally_inner.proofs.Leaving.{remains-more, exceeds-one}
@@ -23,74 +24,44 @@ loop-holds c = (omega arith, c .untouched .ensures)
 cast-x : tie.Need-cast-x Inv-loop μ-loop
 cast-x c = omega (arith, c .shared-slice-known3 .given (c .before .before .loop .i))
 
+-- inside the loop the sector at i is a shade that has a count
+inside : (c : tie.In-loop Inv-loop μ-loop) →
+    let a = c .before .before .before .before .before .args in
+    (getD (a .s .now) (c .before .loop .i) 0 < length (a .counts .now)) × (length (a .counts .now) ≤ 16) × (length (c .before .loop .rem) ≡ 16)
+inside c = let q = c .before .before .before .before .before .pre in (q .known _ (c .loop-test .taken), q .few, c .before .loop .inv .1 .size)
+
 mul-if1 : tie.Need-mul-if1 Inv-loop μ-loop
-mul-if1 c =
-    omega (
-      arith,
-      c .before .before .before .before .before .before .pre .known (c .before .before .loop .i) (c .before .loop-test .taken),
-      c .before .before .before .before .before .before .pre .few,
-      c .before .before .loop .inv .1 .size,
-    )
+mul-if1 c = omega (arith, inside (c .before))
 
 array-read-if1 : tie.Need-array-read-if1 Inv-loop μ-loop
-array-read-if1 c =
-    omega (
-      arith,
-      c .before .before .before .before .before .before .pre .known (c .before .before .loop .i) (c .before .loop-test .taken),
-      c .before .before .before .before .before .before .pre .few,
-      c .before .before .loop .inv .1 .size,
-    )
+array-read-if1 c = omega (arith, inside (c .before))
 
 returns : tie.Need-returns Inv-loop μ-loop
 returns c =
     let l = c .before .before .before .loop in
     let a = c .before .before .before .before .before .before .before .args in
+    let t = inside (c .before .before) in
     record {
       within = l .inv .0;
       remains = l .inv .1;
-      exceeds =
-          λ h. exceeds-one (a .counts .now) (a .s .now) (l .rem) (l .i)
-          (c .before .before .loop-test .taken)
-          (c .before .before .before .before .before .before .before .pre .known (l .i) (c .before .before .loop-test .taken))
-          (c .before .before .before .before .before .before .before .pre .few) (l .inv .1) (c .if1 .taken);
+      exceeds = λ h. exceeds-one (a .counts .now) (a .s .now) (l .rem) (l .i) (c .before .before .loop-test .taken) (t .0) (t .1) (l .inv .1) (c .if1 .taken);
     }
 
 mul-rem : tie.Need-mul-rem Inv-loop μ-loop
-mul-rem c =
-    omega (
-      arith,
-      c .before .before .before .before .before .before .before .pre .known (c .before .before .before .loop .i) (c .before .before .loop-test .taken),
-      c .before .before .before .before .before .before .before .pre .few,
-      c .before .before .before .loop .inv .1 .size,
-    )
+mul-rem c = omega (arith, inside (c .before .before))
 
 array-read-rem : tie.Need-array-read-rem Inv-loop μ-loop
-array-read-rem c =
-    omega (
-      arith,
-      c .before .before .before .before .before .before .before .pre .known (c .before .before .before .loop .i) (c .before .before .loop-test .taken),
-      c .before .before .before .before .before .before .before .pre .few,
-      c .before .before .before .loop .inv .1 .size,
-    )
+array-read-rem c = omega (arith, inside (c .before .before))
 
 array-write-rem : tie.Need-array-write-rem Inv-loop μ-loop
-array-write-rem c =
-    omega (
-      arith,
-      c .before .before .before .before .before .before .before .pre .known (c .before .before .before .loop .i) (c .before .before .loop-test .taken),
-      c .before .before .before .before .before .before .before .pre .few,
-      c .before .before .before .loop .inv .1 .size,
-    )
+array-write-rem c = omega (arith, inside (c .before .before))
 
 loop-again : tie.Need-loop-again Inv-loop μ-loop
 loop-again c =
     let l = c .before .before .before .loop in
-    let a = c .before .before .before .before .before .before .before .args in (
-      omega arith,
-      remains-more (a .counts .now) (a .s .now) (l .rem) (l .i) (c .before .before .loop-test .taken)
-          (c .before .before .before .before .before .before .before .pre .known (l .i) (c .before .before .loop-test .taken))
-          (c .before .before .before .before .before .before .before .pre .few) (l .inv .1) (c .if1 .left),
-    )
+    let a = c .before .before .before .before .before .before .before .args in
+    let t = inside (c .before .before) in
+    (omega arith, remains-more (a .counts .now) (a .s .now) (l .rem) (l .i) (c .before .before .loop-test .taken) (t .0) (t .1) (l .inv .1) (c .if1 .left))
 
 returns-2 : tie.Need-returns-2 Inv-loop μ-loop
 returns-2 c = record { within = c .before .loop .inv .0; remains = c .before .loop .inv .1; exceeds = λ h. absurd (omega (arith, c .loop-test .left)) }

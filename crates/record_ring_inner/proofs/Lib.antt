@@ -1,0 +1,2 @@
+-- The ring of a good record (Showing).
+pub mod Showing
