@@ -6,8 +6,8 @@ use mathlib.Core.Path.{_≡_, refl, sym, _∙_}
 use mathlib.Core.Bool.{Bool}
 use mathlib.Core.List.{List}
 use native.Mathlib.Omega.{arith}
-use lib.ListN.{length, getD, take, drop, length-take, length-drop}
-use lib.Seq.{getD-take, getD-drop}
+use lib.ListN.{length, take, drop, length-take, length-drop}
+use lib.Seq.{getD-take, getD-drop, take-all}
 use borrow.Author.Tests.{lt-ltb, le-ltb}
 use Rattle.words.proofs.Sequence.{sec, place}
 use Rattle.refusal.specs.Calls.{Below, askRecord, ringLimit}
@@ -44,12 +44,14 @@ module _ (n k : ℕ) (ring : List ℕ) (b : Bool) (fits : n ≤ length ring) whe
         (simp length-take (omega arith)) n (simp length-take (omega arith))
 
   -- those past n
-  module _ (low : BelowTo (askRecord n k ring b) n) (r : ℕ) (s : Scanned (drop n ring) 1 r) where
-    pub tail-bad : r < length ring - n → Bad (askRecord n k ring b) (n + r)
-    tail-bad h =
-        part-bad (askRecord n k ring b) n 1 (drop n ring) tail low r s (n + r) refl (simp length-drop (omega arith))
+  module _ (low : BelowTo (askRecord n k ring b) n) (size : length ring ≡ 64) (r : ℕ) (s : Scanned (take (64 - n) (drop n ring)) 1 r) where
+    past : Scanned (drop n ring) 1 r
+    past = rw (take-all (64 - n) (drop n ring) (simp length-drop (omega arith))) at s
 
-    pub tail-good : length ring - n ≤ r → Below ring (ringLimit n k)
+    pub tail-bad : r < 64 - n → Bad (askRecord n k ring b) (n + r)
+    tail-bad h = part-bad (askRecord n k ring b) n 1 (drop n ring) tail low r past (n + r) refl (simp length-drop (omega arith))
+
+    pub tail-good : 64 - n ≤ r → Below ring (ringLimit n k)
     tail-good h =
-        part-good (askRecord n k ring b) n 1 (drop n ring) tail low r s (simp length-drop (omega arith)) (length ring)
+        part-good (askRecord n k ring b) n 1 (drop n ring) tail low r past (simp length-drop (omega arith)) (length ring)
         (simp length-drop (omega arith))

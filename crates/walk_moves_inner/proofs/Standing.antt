@@ -3,9 +3,10 @@
 --     stands-low            what raising asks for
 --     full-necklace         a ring of which no place can be raised is a necklace
 --     stands-none           no place can be raised: there is none of the kind
+--     stands-rises          each move raises lyn
 --     stands-found          the next prenecklace is of the kind
 --     stands-on             it is not
---     stands-rises          each move raises lyn
+--     Risen, risen          so what is known behind a place that was raised
 use Prim.Native.Nat.{ℕ, _+_, _-_, _%_, _<_, _≤_}
 use mathlib.Core.Path.{_≡_, refl, sym, ap, _∙_}
 use mathlib.Core.Logic.{⊎-elim, _⊎_, inl, inr}
@@ -55,12 +56,21 @@ pub record Stands (kind : K.Kind) (k : ℕ) (start ring : List ℕ) (p m : ℕ) 
   pub short : p < length start
   pub lyn-is : (p ≡ 0) ⊎ (p ≡ lyn ring)
 
-module _ (kind : K.Kind) (k : ℕ) (start : List ℕ) (ready : ReadyToStep k start) where
+-- the ring was raised at place i, and is next: what is then known, and what it is by the test of its kind
+pub record Risen (kind : K.Kind) (k : ℕ) (start : List ℕ) (p m i : ℕ) (next : List ℕ) : Type 0 where
+  pub fits : i ≤ length next
+  pub long : length next ≡ length start
+  pub short : p < length start
+  pub rises : p < i
+  pub found : kindAt kind (length next) i ≡ true → Found kind k start next (record { lyn = i; moves = m + 1 })
+  pub on : kindAt kind (length next) i ≡ false → Stands kind k start next i (m + 1)
+
+module _ {kind : K.Kind} {k : ℕ} {start : List ℕ} (ready : ReadyToStep k start) where
   pub stands-start : Stands kind k start start 0 0
   stands-start =
       record { walked = walk-start (kindOf kind) k start (ready .reading) (ready .pre); few = omega arith; short = ready .pos; lyn-is = inl refl }
 
-  module _ (ring : List ℕ) (p m i : ℕ) (at : Stands kind k start ring p m) (low : i ≡ lastLow k ring) where
+  module _ {ring : List ℕ} {p m i : ℕ} (at : Stands kind k start ring p m) (low : i ≡ lastLow k ring) where
     own : Reading (length ring) k ring
     own = rw (at .walked .long) (at .walked .reading)
 
@@ -89,13 +99,13 @@ module _ (kind : K.Kind) (k : ℕ) (start : List ℕ) (ready : ReadyToStep k sta
             ]
 
     -- each move raises lyn
-    pub stands-rises : 0 < i → p < i
+    stands-rises : 0 < i → p < i
     stands-rises z =
         ⊎-elim (λ e. omega arith)
         (λ e. let r = lyn-rises k ring own (omega (arith, at .walked .long, ready .pos)) (at .walked .pre) (omega arith) (omega (arith, at .short, at .walked .long)) in omega arith)
         (at .lyn-is)
 
-    module _ (z : 0 < i) (next : List ℕ) (moved : next ≡ repeated (length ring) (raised i ring)) where
+    module _ (z : 0 < i) {next : List ℕ} (moved : next ≡ repeated (length ring) (raised i ring)) where
       lifted : 0 < lastLow k ring
       lifted = rw (← low) z
 
@@ -103,7 +113,7 @@ module _ (kind : K.Kind) (k : ℕ) (start : List ℕ) (ready : ReadyToStep k sta
       unfolding nextPrenecklace
       moved-next = rw low at moved
 
-      pub moved-long : length next ≡ length ring
+      moved-long : length next ≡ length ring
       moved-long = ap length moved-next ∙ length-next k ring
 
       next-run : Run (sec (nextPrenecklace k ring)) (length (nextPrenecklace k ring)) i
@@ -114,7 +124,7 @@ module _ (kind : K.Kind) (k : ℕ) (start : List ℕ) (ready : ReadyToStep k sta
       next-kind = rw moved-next (kind-at kind (nextPrenecklace k ring) i next-run)
 
       -- it is of the kind
-      pub stands-found : kindAt kind (length next) i ≡ true → Found kind k start next (record { lyn = i; moves = m + 1 })
+      stands-found : kindAt kind (length next) i ≡ true → Found kind k start next (record { lyn = i; moves = m + 1 })
       stands-found q =
           let f = walk-found (kindOf kind) k start ring m (at .walked) (kind-only kind) lifted (next-kind ∙ q) in
           record {
@@ -126,7 +136,7 @@ module _ (kind : K.Kind) (k : ℕ) (start : List ℕ) (ready : ReadyToStep k sta
           }
 
       -- it is not
-      pub stands-on : kindAt kind (length next) i ≡ false → Stands kind k start next i (m + 1)
+      stands-on : kindAt kind (length next) i ≡ false → Stands kind k start next i (m + 1)
       stands-on q =
           record {
             walked = rw (moved-next, add-one m) (walk-on (kindOf kind) k start ring m (at .walked) (kind-only kind) lifted (next-kind ∙ q));
@@ -138,4 +148,15 @@ module _ (kind : K.Kind) (k : ℕ) (start : List ℕ) (ready : ReadyToStep k sta
                   | gt l ↦ absurd (omega (arith, low-le k ring, at .walked .long))
                 ];
             lyn-is = inr (rw moved-next (low ∙ sym (next-lyn-low k ring lifted (at .walked .pre))));
+          }
+
+      pub risen : Risen kind k start p m i next
+      risen =
+          record {
+            fits = omega (arith, stands-low z .0, moved-long);
+            long = moved-long ∙ at .walked .long;
+            short = at .short;
+            rises = stands-rises z;
+            found = stands-found;
+            on = stands-on;
           }

@@ -1,90 +1,59 @@
 -- `walk_checks_inner::check_ring` meets its contract: what the numbers' check answers; then the first scan settles the sectors up to n,
 -- and the second those past n.
-use Prim.Native.Nat.{_-_}
+use Prim.Native.Nat.{_≤_}
 use mathlib.Core.Path.{_≡_, refl}
 use mathlib.Core.Logic.{inl, inr}
 use native.Mathlib.Omega.{arith}
-use lib.ListN.{length, drop, length-take, length-drop}
+use lib.ListN.{length, length-take}
 use borrow.Author.Needs.{needs}
 use mathlib.Core.Bool.{true}
-use lib.Seq.{take-all}
 use Rattle.walk_checks_inner.proofs.Sectors.{head-bad, head-good, tail-bad, tail-good}
-use Rattle.refusal.proofs.More.{numbers-refused, numbers-passed}
+use Rattle.refusal.specs.Order.{Passed}
+use Rattle.refusal.proofs.More.{upTo2, numbers-refused, numbers-passed}
 use Rattle.walk_checks_inner.proofs.check_ring.Statement.{statement}
 use Rattle.walk_checks_inner.proofs.check_ring.Tie as tie
 
 enum-told : tie.Need-enum-told
 enum-told c = search needs
 
-array-share-prefix-ring : tie.Need-array-share-prefix-ring
-array-share-prefix-ring c =
+-- behind the check of the numbers
+sized : (c : tie.After-enum-told) → let a = c .before .before .before .args in Passed (upTo2 (a .n) Unit (a .k)) × (a .n ≤ length (a .t3)) × (length (a .t3) ≡ 64)
+sized c =
     let a = c .before .before .before .args in
-    let l : length (a .t3) ≡ 64 = search needs in
     let g = numbers-passed (a .n) (a .n) (a .k) Unit (λ q. tt) (rw (c .enum-told .given .1) at (c .before .before .check-numbers .ensures)) in
-    let h = g .0 .0 .1 in
-    omega arith
+    let l : length (a .t3) ≡ 64 = search needs in
+    (g, omega (arith, g .0 .0 .1), l)
+
+array-share-prefix-ring : tie.Need-array-share-prefix-ring
+array-share-prefix-ring c = let s = sized c in s .1
 
 slice-aggregate-first-bad : tie.Need-slice-aggregate-first-bad
-slice-aggregate-first-bad c =
-    let a = c .before .before .before .before .args in
-    let l : length (a .t3) ≡ 64 = search needs in
-    let g = numbers-passed (a .n) (a .n) (a .k) Unit (λ q. tt) (rw (c .before .enum-told .given .1) at (c .before .before .before .check-numbers .ensures)) in
-    let h = g .0 .0 .1 in
-    simp length-take (omega arith)
+slice-aggregate-first-bad c = let s = sized (c .before) in simp length-take (omega (arith, s .1))
 
 returns : tie.Need-returns
 returns c =
     let a = c .before .before .before .before .before .before .args in
-    let l : length (a .t3) ≡ 64 = search needs in
-    let g = numbers-passed (a .n) (a .n) (a .k) Unit (λ q. tt) (rw (c .before .before .before .enum-told .given .1) at (c .before .before .before .before .before .check-numbers .ensures)) in
-    let h = g .0 .0 .1 in
-    inl (inl (inl (inr (g, (_, refl, head-bad (a .n) (a .k) (a .t3) true (omega arith) _ (c .before .first-bad .ensures) (c .if1 .taken))))))
+    let s = sized (c .before .before .before) in
+    inl (inl (inl (inr (s .0, (_, refl, head-bad (a .n) (a .k) (a .t3) true (s .1) _ (c .before .first-bad .ensures) (c .if1 .taken))))))
 
 sub-first-bad : tie.Need-sub-first-bad
-sub-first-bad c =
-    let a = c .before .before .before .before .before .before .args in
-    let l : length (a .t3) ≡ 64 = search needs in
-    let g = numbers-passed (a .n) (a .n) (a .k) Unit (λ q. tt) (rw (c .before .before .before .enum-told .given .1) at (c .before .before .before .before .before .check-numbers .ensures)) in
-    let h = g .0 .0 .1 in
-    omega arith
+sub-first-bad c = let s = sized (c .before .before .before) in omega (arith, s .1, s .2)
 
 part-first-bad-start : tie.Need-part-first-bad-start
-part-first-bad-start c =
-    let a = c .before .before .before .before .before .before .before .args in
-    let l : length (a .t3) ≡ 64 = search needs in
-    let g = numbers-passed (a .n) (a .n) (a .k) Unit (λ q. tt) (rw (c .before .before .before .before .enum-told .given .1) at
-    (c .before .before .before .before .before .before .check-numbers .ensures)) in
-    let h = g .0 .0 .1 in
-    omega arith
+part-first-bad-start c = let s = sized (c .before .before .before .before) in omega (arith, s .1, s .2)
 
 part-first-bad-end : tie.Need-part-first-bad-end
-part-first-bad-end c =
-    let a = c .before .before .before .before .before .before .before .args in
-    let l : length (a .t3) ≡ 64 = search needs in
-    let g = numbers-passed (a .n) (a .n) (a .k) Unit (λ q. tt) (rw (c .before .before .before .before .enum-told .given .1) at
-    (c .before .before .before .before .before .before .check-numbers .ensures)) in
-    let h = g .0 .0 .1 in
-    omega arith
+part-first-bad-end c = let s = sized (c .before .before .before .before) in omega (arith, s .1, s .2)
 
 sub-if2 : tie.Need-sub-if2
-sub-if2 c =
-    let a = c .before .before .before .before .before .before .before .before .before .args in
-    let l : length (a .t3) ≡ 64 = search needs in
-    let g = numbers-passed (a .n) (a .n) (a .k) Unit (λ q. tt) (rw (c .before .before .before .before .before .before .enum-told .given .1) at
-    (c .before .before .before .before .before .before .before .before .check-numbers .ensures)) in
-    let h = g .0 .0 .1 in
-    omega arith
+sub-if2 c = let s = sized (c .before .before .before .before .before .before) in omega (arith, s .1, s .2)
 
 returns-2 : tie.Need-returns-2
 returns-2 c =
     let a = c .before .before .before .before .before .before .before .before .before .before .args in
-    let l : length (a .t3) ≡ 64 = search needs in
-    let g = numbers-passed (a .n) (a .n) (a .k) Unit (λ q. tt) (rw (c .before .before .before .before .before .before .before .enum-told .given .1) at
-    (c .before .before .before .before .before .before .before .before .before .check-numbers .ensures)) in
-    let h = g .0 .0 .1 in
-    let low = head-good (a .n) (a .k) (a .t3) true (omega arith) _ (c .before .before .before .before .before .first-bad .ensures) (c .before .before .before .before .if1 .left) in
-    let q = take-all (64 - a .n) (drop (a .n) (a .t3)) (simp length-drop (omega arith)) in
-    inl (inl (inl (inr (g, (_, refl, tail-bad (a .n) (a .k) (a .t3) true (omega arith) low _ (rw q at (c .before .first-bad2 .ensures)) (omega arith))))))
+    let s = sized (c .before .before .before .before .before .before .before) in
+    let low = head-good (a .n) (a .k) (a .t3) true (s .1) _ (c .before .before .before .before .before .first-bad .ensures) (c .before .before .before .before .if1 .left) in
+    inl (inl (inl (inr (s .0, (_, refl, tail-bad (a .n) (a .k) (a .t3) true (s .1) low (s .2) _ (c .before .first-bad2 .ensures) (c .if2 .taken))))))
 
 returns-3 : tie.Need-returns-3
 returns-3 c =
@@ -95,13 +64,9 @@ returns-3 c =
 returns-4 : tie.Need-returns-4
 returns-4 c =
     let a = c .before .before .before .before .before .before .before .before .before .before .args in
-    let l : length (a .t3) ≡ 64 = search needs in
-    let g = numbers-passed (a .n) (a .n) (a .k) Unit (λ q. tt) (rw (c .before .before .before .before .before .before .before .enum-told .given .1) at
-    (c .before .before .before .before .before .before .before .before .before .check-numbers .ensures)) in
-    let h = g .0 .0 .1 in
-    let low = head-good (a .n) (a .k) (a .t3) true (omega arith) _ (c .before .before .before .before .before .first-bad .ensures) (c .before .before .before .before .if1 .left) in
-    let q = take-all (64 - a .n) (drop (a .n) (a .t3)) (simp length-drop (omega arith)) in
-    ((((g, tail-good (a .n) (a .k) (a .t3) true (omega arith) low _ (rw q at (c .before .first-bad2 .ensures)) (omega arith)), tt), tt), refl)
+    let s = sized (c .before .before .before .before .before .before .before) in
+    let low = head-good (a .n) (a .k) (a .t3) true (s .1) _ (c .before .before .before .before .before .first-bad .ensures) (c .before .before .before .before .if1 .left) in
+    ((((s .0, tail-good (a .n) (a .k) (a .t3) true (s .1) low (s .2) _ (c .before .first-bad2 .ensures) (c .if2 .left)), tt), tt), refl)
 
 pub check-ring-spec : {M : Type 1} → statement M
 check-ring-spec =

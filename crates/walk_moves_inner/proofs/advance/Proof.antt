@@ -1,10 +1,12 @@
 -- `walk_moves_inner::advance` meets its contract. The loop's invariant, `Stands`: the step has gone from prenecklace to prenecklace, has met none of the kind, and its lyn rises.
-use Prim.Native.Nat.{_<_, _-_}
-use mathlib.Core.Path.{_∙_, sym}
+use Prim.Native.Nat.{ℕ, _<_, _-_}
+use mathlib.Core.Path.{_≡_, _∙_, sym}
+use mathlib.Core.List.{List}
 use native.Mathlib.Omega.{arith}
 use lib.ListN.{length}
 use borrow.Author.Needs.{needs}
-use Rattle.walk_moves_inner.proofs.Standing.{Stands, stands-start, stands-low, stands-none, stands-rises, moved-long, stands-found, stands-on}
+use Rattle.rings.specs.Next.{raised, repeated}
+use Rattle.walk_moves_inner.proofs.Standing.{Stands, Risen, stands-start, stands-low, stands-none, risen}
 use Rattle.walk_moves_inner.proofs.advance.Statement.{statement}
 use Rattle.walk_moves_inner.proofs.advance.Tie as tie
 
@@ -15,90 +17,45 @@ abbrev μ-loop : tie.MeasureT-loop
 μ-loop ring₀ k kind lyn₀ moves₀ ring lyn moves = length ring₀ - lyn
 
 loop-holds : tie.Need-loop-holds Inv-loop μ-loop
-loop-holds c = stands-start _ _ _ (c .before .pre)
+loop-holds c = stands-start (c .before .pre)
 
 same-length : tie.Need-same-length Inv-loop μ-loop
 same-length c = c .before .before .before .loop .inv .walked .long
 
 returns : tie.Need-returns Inv-loop μ-loop
-returns c =
-    let l = c .before .before .before .loop in
-    let g = c .before .before .before .before .before in
-    let a = g .args in
-    let i = c .before .last-low in
-    stands-none (a .kind) (a .k) (a .ring .now) (g .pre) (l .ring) (l .lyn) (l .moves) (i .result) (l .inv) (i .ensures) (c .if1 .taken)
+returns c = stands-none (c .before .before .before .before .before .pre) (c .before .before .before .loop .inv) (c .before .last-low .ensures) (c .if1 .taken)
 
 raise-requires : tie.Need-raise-requires Inv-loop μ-loop
 raise-requires c κs =
-    let l = c .before .before .before .before .loop in
-    let g = c .before .before .before .before .before .before in
-    let a = g .args in
-    let i = c .before .before .last-low in
-    let z : 0 < i .result = omega (arith, c .before .if1 .left) in
-    let q = stands-low (a .kind) (a .k) (a .ring .now) (g .pre) (l .ring) (l .lyn) (l .moves) (i .result) (l .inv) (i .ensures) z in
+    let z : 0 < c .before .before .last-low .result = omega (arith, c .before .if1 .left) in
+    let q = stands-low (c .before .before .before .before .before .before .pre) (c .before .before .before .before .loop .inv) (c .before .before .last-low .ensures) z in
     (z, q .0, q .1)
 
+-- behind a place that was raised
+raised-there : (c : tie.After-raise Inv-loop μ-loop) →
+    let a = c .before .before .before .before .before .before .before .args in
+    let l = c .before .before .before .before .before .loop in
+    let i = c .before .before .before .last-low .result in
+    (next : List ℕ) → next ≡ repeated (length (l .ring)) (raised i (l .ring)) → Risen (a .kind) (a .k) (a .ring .now) (l .lyn) (l .moves) i next
+raised-there c next moved = risen (c .before .before .before .before .before .before .before .pre) (c .before .before .before .before .before .loop .inv) (c .before .before .before .last-low .ensures) (omega (arith, c .before .before .if1 .left)) moved
+
 add-moves : tie.Need-add-moves Inv-loop μ-loop
-add-moves c =
-    omega (
-      arith,
-      c .before .before .before .before .before .before .before .loop .inv .few,
-      c .before .before .before .before .before .before .before .loop .inv .short,
-      c .before .before .before .before .before .before .before .before .before .pre .fits,
-    )
+add-moves c = let l = c .before .before .before .before .before .before .before .loop in omega (arith, l .inv .few, l .inv .short, c .before .before .before .before .before .before .before .before .before .pre .fits)
 
 of-kind-requires : tie.Need-of-kind-requires Inv-loop μ-loop
-of-kind-requires c κs =
-    let l = c .before .before .before .before .before .before .before .loop in
-    let g = c .before .before .before .before .before .before .before .before .before in
-    let a = g .args in
-    let i = c .before .before .before .before .before .last-low in
-    let z : 0 < i .result = omega (arith, c .before .before .before .before .if1 .left) in
-    omega (
-      arith,
-      stands-low (a .kind) (a .k) (a .ring .now) (g .pre) (l .ring) (l .lyn) (l .moves) (i .result) (l .inv) (i .ensures) z .0,
-      moved-long
-          (a .kind) (a .k) (a .ring .now) (g .pre) (l .ring) (l .lyn) (l .moves) (i .result) (l .inv) (i .ensures) z _
-          (c .before .before .raise .ensures),
-    )
+of-kind-requires c κs = let d = c .before .before in omega (arith, raised-there d _ (d .raise .ensures))
 
 same-length-2 : tie.Need-same-length-2 Inv-loop μ-loop
-same-length-2 c =
-    let l = c .before .before .before .before .before .before .before .before .before .loop in
-    let g = c .before .before .before .before .before .before .before .before .before .before .before in
-    let a = g .args in
-    let i = c .before .before .before .before .before .before .before .last-low in
-    let z : 0 < i .result = omega (arith, c .before .before .before .before .before .before .if1 .left) in
-    moved-long (a .kind) (a .k) (a .ring .now) (g .pre) (l .ring) (l .lyn) (l .moves) (i .result) (l .inv) (i .ensures) z _ (c .before .before .before .before .raise .ensures) ∙ l .inv .walked .long
+same-length-2 c = let d = c .before .before .before .before in raised-there d _ (d .raise .ensures) .long
 
 returns-2 : tie.Need-returns-2 Inv-loop μ-loop
-returns-2 c =
-    let l = c .before .before .before .before .before .before .before .before .before .loop in
-    let g = c .before .before .before .before .before .before .before .before .before .before .before in
-    let a = g .args in
-    let i = c .before .before .before .before .before .before .before .last-low in
-    let z : 0 < i .result = omega (arith, c .before .before .before .before .before .before .if1 .left) in
-    stands-found (a .kind) (a .k) (a .ring .now) (g .pre) (l .ring) (l .lyn) (l .moves) (i .result) (l .inv) (i .ensures) z _
-    (c .before .before .before .before .raise .ensures) (sym (c .before .of-kind .ensures) ∙ c .if2 .taken)
+returns-2 c = let d = c .before .before .before .before in raised-there d _ (d .raise .ensures) .found (sym (c .before .of-kind .ensures) ∙ c .if2 .taken)
 
 loop-less : tie.Need-loop-less Inv-loop μ-loop
-loop-less c =
-    let l = c .before .before .before .before .before .before .before .before .before .loop in
-    let g = c .before .before .before .before .before .before .before .before .before .before .before in
-    let a = g .args in
-    let i = c .before .before .before .before .before .before .before .last-low in
-    let z : 0 < i .result = omega (arith, c .before .before .before .before .before .before .if1 .left) in
-    omega (arith, stands-rises (a .kind) (a .k) (a .ring .now) (g .pre) (l .ring) (l .lyn) (l .moves) (i .result) (l .inv) (i .ensures) z, l .inv .short)
+loop-less c = let d = c .before .before .before .before in omega (arith, raised-there d _ (d .raise .ensures))
 
 loop-again : tie.Need-loop-again Inv-loop μ-loop
-loop-again c =
-    let l = c .before .before .before .before .before .before .before .before .before .loop in
-    let g = c .before .before .before .before .before .before .before .before .before .before .before in
-    let a = g .args in
-    let i = c .before .before .before .before .before .before .before .last-low in
-    let z : 0 < i .result = omega (arith, c .before .before .before .before .before .before .if1 .left) in
-    stands-on (a .kind) (a .k) (a .ring .now) (g .pre) (l .ring) (l .lyn) (l .moves) (i .result) (l .inv) (i .ensures) z _
-    (c .before .before .before .before .raise .ensures) (sym (c .before .of-kind .ensures) ∙ c .if2 .left)
+loop-again c = let d = c .before .before .before .before in raised-there d _ (d .raise .ensures) .on (sym (c .before .of-kind .ensures) ∙ c .if2 .left)
 
 pub advance-spec : {M : Type 1} → statement M
 advance-spec =

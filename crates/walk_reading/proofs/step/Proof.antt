@@ -1,4 +1,5 @@
 -- `walk_reading::step` meets its contract.
+use Prim.Native.Nat.{_≤_}
 use mathlib.Core.Path.{refl}
 use native.Mathlib.Omega.{arith}
 use lib.ListN.{length, length-take}
@@ -12,25 +13,19 @@ use Rattle.walk_reading.proofs.step.Tie as tie
 enum-told : tie.Need-enum-told
 enum-told c = search needs
 
+-- the reading passed the checks, and fits into 64 sectors
+passed : (c : tie.After-enum-told) →
+    let a = c .before .before .before .before .before .args in Passed (readingOrder (a .reading .now) (a .k) (length (a .out .now))) × (length (a .reading .now) ≤ 64)
+passed c = let p = rw (c .enum-told .given .1) at (c .before .before .check-step .ensures) in (p, passed-ready _ _ _ p .fits)
+
 array-borrow-prefix-ring : tie.Need-array-borrow-prefix-ring
-array-borrow-prefix-ring c =
-    let g = c .before .before .before .before .before in
-    let p : Passed (readingOrder (g .args .reading .now) (g .args .k) (length (g .args .out .now))) = rw (c .enum-told .given .1) at (c .before .before .check-step .ensures) in
-    omega (arith, passed-ready (g .args .reading .now) (g .args .k) (length (g .args .out .now)) p .fits)
+array-borrow-prefix-ring c = omega (arith, passed c .1)
 
 slice-aggregate-step-in : tie.Need-slice-aggregate-step-in
-slice-aggregate-step-in c =
-    let g = c .before .before .before .before .before .before in
-    let p : Passed (readingOrder (g .args .reading .now) (g .args .k) (length (g .args .out .now))) = rw (c .before .enum-told .given .1) at
-    (c .before .before .before .check-step .ensures) in
-    simp length-take (omega (arith, passed-ready (g .args .reading .now) (g .args .k) (length (g .args .out .now)) p .fits))
+slice-aggregate-step-in c = simp length-take (omega (arith, passed (c .before) .1))
 
 step-in-requires : tie.Need-step-in-requires
-step-in-requires c κs =
-    let g = c .before .before .before .before .before .before .before in
-    let p : Passed (readingOrder (g .args .reading .now) (g .args .k) (length (g .args .out .now))) = rw (c .before .before .enum-told .given .1) at
-    (c .before .before .before .before .check-step .ensures) in
-    (p, simp length-take (omega (arith, passed-ready (g .args .reading .now) (g .args .k) (length (g .args .out .now)) p .fits)))
+step-in-requires c κs = let p = passed (c .before .before) in (p .0, simp length-take (omega (arith, p .1)))
 
 returns : tie.Need-returns
 returns c = (rw (c .before .r .given .1) at (c .before .before .before .check-step .ensures), refl)
