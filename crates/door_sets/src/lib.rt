@@ -2,13 +2,14 @@
 
 use door_spec::RingsSet;
 use door_spec::SetLaid;
+use guard_spec::Rule;
 use refusal::Checked;
 use refusal::Refusal;
 use set_pick_spec::Picked;
 ghost use mathlib.Core.Path.{_≡_};
 ghost use lib.ListN.{length};
 ghost use Rattle.set_spec.specs.Greedy.{picked};
-ghost use Rattle.guard_spec.specs.Choice.{guarded};
+ghost use Rattle.guard_spec.specs.Choice.{guarded, chosenBy};
 ghost use Rattle.door_spec.specs.Flat.{Flat, fullNumber, flatLaid};
 ghost use Rattle.door_spec.specs.Sets.{LaidSays, Lays};
 
@@ -62,16 +63,17 @@ fn lay(set: Picked, out: &mut [u8]) -> SetLaid
     }
 }
 
-// ---- the set of a job
-
-fn lay_plain(n: usize, k: usize, d: usize, wanted: usize, out: &mut [u8]) -> SetLaid
-    ensures { λ r. ⌜ LaidSays n k d wanted (picked n k d wanted) (now (out .entry)) r (now (out .exit)) ⌝ }
+// The set of a rule, laid into the output.
+fn lay_by(rule: Rule, n: usize, k: usize, d: usize, wanted: usize, out: &mut [u8]) -> SetLaid
+    ensures { λ r. ⌜ LaidSays n k d wanted (chosenBy rule n k d wanted) (now (out .entry)) r (now (out .exit)) ⌝ }
 {
     if out.len() != PLACES {
         return SetLaid::Refused(Refusal::Room);
     }
-    lay(sets::pick(n, k, d, wanted), out)
+    lay(sets::pick_by(rule, n, k, d, wanted), out)
 }
+
+// ---- the set of a job
 
 #[no_mangle]
 pub extern "C" fn rings_pick(
@@ -83,19 +85,10 @@ pub extern "C" fn rings_pick(
 ) -> RingsSet
     ensures { λ r. ⌜ Flat (λ a. LaidSays n k d wanted (picked n k d wanted) (now (out .entry)) a (now (out .exit))) flatLaid r ⌝ }
 {
-    flat_laid(lay_plain(n, k, d, wanted, out))
+    flat_laid(lay_by(Rule::Plain, n, k, d, wanted, out))
 }
 
 // ---- the guarded set
-
-fn lay_guarded(n: usize, k: usize, d: usize, wanted: usize, out: &mut [u8]) -> SetLaid
-    ensures { λ r. ⌜ LaidSays n k d wanted (guarded n k d wanted) (now (out .entry)) r (now (out .exit)) ⌝ }
-{
-    if out.len() != PLACES {
-        return SetLaid::Refused(Refusal::Room);
-    }
-    lay(sets::pick_guarded(n, k, d, wanted), out)
-}
 
 #[no_mangle]
 pub extern "C" fn rings_pick_guarded(
@@ -107,5 +100,5 @@ pub extern "C" fn rings_pick_guarded(
 ) -> RingsSet
     ensures { λ r. ⌜ Flat (λ a. LaidSays n k d wanted (guarded n k d wanted) (now (out .entry)) a (now (out .exit))) flatLaid r ⌝ }
 {
-    flat_laid(lay_guarded(n, k, d, wanted, out))
+    flat_laid(lay_by(Rule::Guarded, n, k, d, wanted, out))
 }

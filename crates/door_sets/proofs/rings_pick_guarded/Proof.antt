@@ -4,7 +4,7 @@ use Rattle.door_sets.proofs.rings_pick_guarded.Statement.{statement}
 use Rattle.door_sets.proofs.rings_pick_guarded.Tie as tie
 
 returns : tie.Need-returns
-returns c = record { answer = c .before .before .before .lay-guarded .result; says = c .before .before .before .lay-guarded .ensures; same = c .flat-laid .ensures }
+returns c = record { answer = c .before .before .before .lay-by .result; says = c .before .before .before .lay-by .ensures; same = c .flat-laid .ensures }
 
 pub rings-pick-guarded-spec : {M : Type 1} → statement M
 rings-pick-guarded-spec = tie.close (tie.spec (λ c κs. search needs) (λ c κs. search needs) (λ c. search needs)
