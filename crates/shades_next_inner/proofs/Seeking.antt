@@ -6,6 +6,7 @@
 --     seek-right                                the place that is raised lies further right than that before: there are at most n rounds
 --     seek-few, seek-counts                     what was raised so far is counted, and is at most n
 --     seek-size, seek-run, seek-last, seek-falls, seek-found, seek-on    what is raised is a ring, or the search goes on from there
+--     Rounded, rounded                          all of that, behind a place that was raised
 --     answers-soon                              so whatever the answer, at most n places were raised
 --     above-opening, above-asks                 the reading is a prenecklace; what repeating asks where it is none
 --     above-size, above-run, above-found, above-on, above-answers    its longest beginning that is one is repeated: that is the ring, or the search goes on from there
@@ -93,8 +94,8 @@ pub record Standing (cs : List ℕ) (n k : ℕ) (start ring : List ℕ) (p : ℕ
   pub fresh : p ≡ 0 → take n start ≡ take n ring
   pub further : 0 < p → Further cs n k (take n ring) p
 
-pub seek-start : (cs : List ℕ) (n k : ℕ) (start : List ℕ) → length start ≡ 64 → Opening start n k cs → Standing cs n k start start (lastRaised n start start)
-seek-start cs n k start size p =
+pub seek-start : {cs : List ℕ} {n k : ℕ} {start : List ℕ} → length start ≡ 64 → Opening start n k cs → Standing cs n k start start (lastRaised n start start)
+seek-start {n = n} {start = start} size p =
     record {
       size = size;
       opening = p;
@@ -106,7 +107,17 @@ seek-start cs n k start size p =
       further = λ h. absurd (omega (arith, last-none n start));
     }
 
-module _ (cs : List ℕ) (n k : ℕ) (start ring : List ℕ) (p : ℕ) (at : Standing cs n k start ring p) (i b : ℕ) (found : PlaceFound ring n k cs (record { end = i; shade = b })) where
+-- a place was raised, and what stands before it repeated: next is then the ring, and q places were raised before
+pub record Rounded (cs : List ℕ) (n k : ℕ) (start : List ℕ) (p i q : ℕ) (next : List ℕ) : Type 0 where
+  pub size : length next ≡ 64
+  pub run : Run (sec (take n next)) (length (take n next)) i
+  pub falls : n - lastRaised n start next < n - p
+  pub few : q ≤ n
+  pub counts : q + 1 ≡ raisedTo (take n start) (take n next)
+  pub found : true ≡ countedNecklace cs (take n next) → Finds start n k cs (record { some = true; ring = next; raised = q + 1 })
+  pub on : false ≡ countedNecklace cs (take n next) → Standing cs n k start next (lastRaised n start next)
+
+module _ {cs : List ℕ} {n k : ℕ} {start ring : List ℕ} {p : ℕ} (at : Standing cs n k start ring p) {i b : ℕ} (found : PlaceFound ring n k cs (record { end = i; shade = b })) where
   long : length (take n ring) ≡ n
   long = at .opening .ready .reading .long
 
@@ -134,8 +145,8 @@ module _ (cs : List ℕ) (n k : ℕ) (start ring : List ℕ) (p : ℕ) (at : Sta
   unraised z = raised-none (take n start) (take n ring) (at .fresh (elim (tri p 0) [ lt h ↦ absurd (omega arith) | eq h ↦ h | gt h ↦ absurd (omega (arith, beyond h)) ]))
 
   -- no place can be raised; q were
-  pub seek-none : i ≡ 0 → (q : ℕ) → q ≡ raisedTo (take n start) (take n ring) → Finds start n k cs (record { some = false; ring = ring; raised = q })
-  seek-none z q counted = record {
+  pub seek-none : i ≡ 0 → {q : ℕ} → q ≡ raisedTo (take n start) (take n ring) → Finds start n k cs (record { some = false; ring = ring; raised = q })
+  seek-none z counted = record {
     ring = λ e. absurd (true≢false (sym e));
     raised = λ e. absurd (true≢false (sym e));
     done = λ e. sym (at .next) ∙ step-none cs n k (take n ring) long (no-ring z);
@@ -143,7 +154,7 @@ module _ (cs : List ℕ) (n k : ℕ) (start ring : List ℕ) (p : ℕ) (at : Sta
   }
 
   -- no more were raised than there are sectors
-  pub seek-few : (q : ℕ) → q ≡ raisedTo (take n start) (take n ring) → q ≤ n
+  seek-few : (q : ℕ) → q ≡ raisedTo (take n start) (take n ring) → q ≤ n
   seek-few q counted = omega (arith, raised-few (take n start) (take n ring), long)
 
   module _ (z : i ≡ 0 → ⊥) where
@@ -184,7 +195,7 @@ module _ (cs : List ℕ) (n k : ℕ) (start ring : List ℕ) (p : ℕ) (at : Sta
           rw e at (raise-lyn (sec (take n ring)) (sec (take n (set ring (i - 1) b))) (i - 1) opening-pre (λ m h. sym (lifted-low m h)) (omega (arith, rises, lifted-here)));
     }
 
-    module _ (t : List ℕ) (rep : Repeats i (take n (set ring (i - 1) b)) t) where
+    module _ {t : List ℕ} (rep : Repeats i (take n (set ring (i - 1) b)) t) where
       whole : length t ≡ n
       whole = rep .long ∙ lifted-long
 
@@ -209,18 +220,18 @@ module _ (cs : List ℕ) (n k : ℕ) (start ring : List ℕ) (p : ℕ) (at : Sta
       next-holds = holds t n (set ring (i - 1) b) whole (at .opening .ready .size) (length-set ring (i - 1) b ∙ at .size)
 
       -- the array keeps its length
-      pub seek-size : length (t ++ drop n (set ring (i - 1) b)) ≡ 64
+      seek-size : length (t ++ drop n (set ring (i - 1) b)) ≡ 64
       seek-size = next-holds .size
 
       -- what the test of the new ring asks
-      pub seek-run : Run (sec (take n (t ++ drop n (set ring (i - 1) b)))) (length (take n (t ++ drop n (set ring (i - 1) b)))) i
+      seek-run : Run (sec (take n (t ++ drop n (set ring (i - 1) b)))) (length (take n (t ++ drop n (set ring (i - 1) b)))) i
       seek-run = rw (next-holds .front) (rep .run)
 
       risen : before (take n start) (take n (t ++ drop n (set ring (i - 1) b))) ≡ true
       risen = rw (next-holds .front) (upTo-before-trans (take n start) (take n ring) t (at .reached) (step .above))
 
       -- the place that was raised last is now this one
-      pub seek-last : lastRaised n start (t ++ drop n (set ring (i - 1) b)) ≡ i
+      seek-last : lastRaised n start (t ++ drop n (set ring (i - 1) b)) ≡ i
       seek-last = last-some n start (t ++ drop n (set ring (i - 1) b)) i risen seek-run
 
       -- fewer places are left behind it
@@ -238,7 +249,7 @@ module _ (cs : List ℕ) (n k : ℕ) (start ring : List ℕ) (p : ℕ) (at : Sta
               (omega (arith, lifts .here, rises)) (at .fresh) (λ h. subst (λ (x : ℕ). Run (sec (take n ring)) x p) (sym long) (at .further h .run)) (omega (arith, seek-right))
 
       -- it is a ring of the counts
-      pub seek-found : true ≡ countedNecklace cs (take n (t ++ drop n (set ring (i - 1) b))) → (q : ℕ) → q ≡ raisedTo (take n start) (take n ring) →
+      seek-found : true ≡ countedNecklace cs (take n (t ++ drop n (set ring (i - 1) b))) → (q : ℕ) → q ≡ raisedTo (take n start) (take n ring) →
           Finds start n k cs (record { some = true; ring = t ++ drop n (set ring (i - 1) b); raised = q + 1 })
       seek-found h q counted = record {
         ring = λ e. rw (next-holds .front) (sym (at .next) ∙ step-found cs n k (take n ring) long t step (sym (rw (next-holds .front) at h)));
@@ -248,7 +259,7 @@ module _ (cs : List ℕ) (n k : ℕ) (start ring : List ℕ) (p : ℕ) (at : Sta
       }
 
       -- it is none
-      pub seek-on : false ≡ countedNecklace cs (take n (t ++ drop n (set ring (i - 1) b))) →
+      seek-on : false ≡ countedNecklace cs (take n (t ++ drop n (set ring (i - 1) b))) →
           Standing cs n k start (t ++ drop n (set ring (i - 1) b)) (lastRaised n start (t ++ drop n (set ring (i - 1) b)))
       seek-on h = rw seek-last (record {
         size = next-holds .size;
@@ -273,6 +284,18 @@ module _ (cs : List ℕ) (n k : ℕ) (start ring : List ℕ) (p : ℕ) (at : Sta
                 | gt e ↦ absurd (omega arith)
               ]
 
+      pub rounded : {q : ℕ} → q ≡ raisedTo (take n start) (take n ring) → Rounded cs n k start p i q (t ++ drop n (set ring (i - 1) b))
+      rounded {q = q} counted =
+          record {
+            size = seek-size;
+            run = seek-run;
+            falls = seek-falls;
+            few = seek-few q counted;
+            counts = seek-counts q counted;
+            found = λ h. seek-found h q counted;
+            on = seek-on;
+          }
+
 -- ---- how many places are raised
 
 -- at most n, whatever the answer
@@ -285,7 +308,7 @@ answers-soon w n k cs r a =
 
 -- ---- where the search starts
 
-module _ (cs : List ℕ) (n k : ℕ) (start : List ℕ) (size : length start ≡ 64) (ready : Ready start n k cs) (e p : ℕ) (opened : LongestPrenecklace (take n start) (record { end = e; lyn = p })) where
+module _ {cs : List ℕ} {n k : ℕ} {start : List ℕ} (size : length start ≡ 64) (ready : Ready start n k cs) {e p : ℕ} (opened : LongestPrenecklace (take n start) (record { end = e; lyn = p })) where
   start-long : length (take n start) ≡ n
   start-long = ready .reading .long
 
@@ -300,7 +323,7 @@ module _ (cs : List ℕ) (n k : ℕ) (start : List ℕ) (size : length start ≡
   pub above-asks : Repeatable (take n start) p
   above-asks = record { pos = opened .run .pos; fits = omega (arith, opened .run .fits, opened .within); lyn = opened .run .lyn }
 
-  module _ (other : e ≡ n → ⊥) (t : List ℕ) (rep : Repeats p (take n start) t) where
+  module _ (other : e ≡ n → ⊥) {t : List ℕ} (rep : Repeats p (take n start) t) where
     settled-long : length t ≡ n
     settled-long = rep .long ∙ start-long
 
@@ -357,8 +380,8 @@ module _ (cs : List ℕ) (n k : ℕ) (start : List ℕ) (size : length start ≡
       pub above-on : Opening (t ++ drop n start) n k cs × Headed (t ++ drop n start) n p
       above-on = (step-opening cs n k start t (t ++ drop n start) ready settled (settled-holds .front), headed (t ++ drop n start) n p (omega (arith, above-size, ready .size)) above-run)
 
-      pub above-answers : (r : Sought) → Finds (t ++ drop n start) n k cs r → Finds start n k cs r
-      above-answers r a = record {
+      pub above-answers : {r : Sought} → Finds (t ++ drop n start) n k cs r → Finds start n k cs r
+      above-answers {r = r} a = record {
         ring = λ q. on ∙ a .ring q;
         raised = λ q. rw (settled-holds .front) at (a .raised q) ∙ settled-counts (take n (r .ring)) (rw (settled-holds .front) at (a .ring q));
         done = λ q. on ∙ a .done q;

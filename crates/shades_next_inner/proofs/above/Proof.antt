@@ -1,7 +1,6 @@
 -- `shades_next_inner::above` meets its contract. Where the reading is no prenecklace, its longest beginning that is one is repeated first.
-use mathlib.Core.Path.{_≡_, _∙_, sym}
+use mathlib.Core.Path.{_∙_, sym}
 use native.Mathlib.Omega.{arith}
-use lib.ListN.{length}
 use borrow.Author.Needs.{needs}
 use lib.Seq.{length-take-le}
 use Rattle.shades_next_inner.proofs.Seeking.{above-opening, above-asks, above-size, above-run, above-found, above-on, above-answers}
@@ -15,11 +14,7 @@ scan-requires : tie.Need-scan-requires
 scan-requires c κs = omega (arith, c .before .before .pre .reading .long, c .before .before .pre .pos)
 
 seek-requires : tie.Need-seek-requires
-seek-requires c κs =
-    let a = c .before .before .before .before .before .args in
-    let z : length (a .t1) ≡ 64 = search needs in
-    above-opening (a .counts .now) (a .n) (a .k) (a .t1) z (c .before .before .before .before .before .pre) (c .before .before .scan .result .end)
-    (c .before .before .scan .result .lyn) (c .before .before .scan .ensures) (c .if1 .taken)
+seek-requires c κs = above-opening (search needs) (c .before .before .before .before .before .pre) (c .before .before .scan .ensures) (c .if1 .taken)
 
 returns : tie.Need-returns
 returns c = c .seek .ensures
@@ -28,80 +23,35 @@ slice-aggregate-repeat : tie.Need-slice-aggregate-repeat
 slice-aggregate-repeat c = sym (c .before .before .before .before .before .before .pre .reading .long)
 
 repeat-requires : tie.Need-repeat-requires
-repeat-requires c κs =
-    let a = c .before .before .before .before .before .before .args in
-    let z : length (a .t1) ≡ 64 = search needs in
-    above-asks (a .counts .now) (a .n) (a .k) (a .t1) z (c .before .before .before .before .before .before .pre)
-    (c .before .before .before .scan .result .end) (c .before .before .before .scan .result .lyn) (c .before .before .before .scan .ensures)
+repeat-requires c κs = above-asks (search needs) (c .before .before .before .before .before .before .pre) (c .before .before .before .scan .ensures)
 
 array-share-prefix-ring : tie.Need-array-share-prefix-ring
 array-share-prefix-ring c =
-    let a = c .before .before .before .before .before .before .before .before .args in
-    let z : length (a .t1) ≡ 64 = search needs in
-    omega (
-      arith,
-      above-size (a .counts .now) (a .n) (a .k) (a .t1) z (c .before .before .before .before .before .before .before .before .pre)
-          (c .before .before .before .before .before .scan .result .end) (c .before .before .before .before .before .scan .result .lyn)
-          (c .before .before .before .before .before .scan .ensures) (c .before .before .before .if1 .left) _ (c .before .repeat .ensures),
-      c .before .before .before .before .before .before .before .before .pre .size,
-    )
+    let q = c .before .before .before .before .before .before .before .before .pre in
+    omega (arith, above-size (search needs) q (c .before .before .before .before .before .scan .ensures) (c .before .before .before .if1 .left) (c .before .repeat .ensures), q .size)
 
 slice-aggregate-is-counted : tie.Need-slice-aggregate-is-counted
 slice-aggregate-is-counted c =
-    let a = c .before .before .before .before .before .before .before .before .before .args in
-    let z : length (a .t1) ≡ 64 = search needs in
-    sym
-    (length-take-le _ _
-    (omega (
-      arith,
-      above-size (a .counts .now) (a .n) (a .k) (a .t1) z (c .before .before .before .before .before .before .before .before .before .pre)
-          (c .before .before .before .before .before .before .scan .result .end) (c .before .before .before .before .before .before .scan .result .lyn)
-          (c .before .before .before .before .before .before .scan .ensures) (c .before .before .before .before .if1 .left) _
-          (c .before .before .repeat .ensures),
-      c .before .before .before .before .before .before .before .before .before .pre .size,
-    )))
+    let q = c .before .before .before .before .before .before .before .before .before .pre in
+    sym (length-take-le _ _ (omega (arith, above-size (search needs) q (c .before .before .before .before .before .before .scan .ensures) (c .before .before .before .before .if1 .left) (c .before .before .repeat .ensures), q .size)))
 
 is-counted-requires : tie.Need-is-counted-requires
-is-counted-requires c κs =
-    let a = c .before .before .before .before .before .before .before .before .before .args in
-    let z : length (a .t1) ≡ 64 = search needs in
-    above-run (a .counts .now) (a .n) (a .k) (a .t1) z (c .before .before .before .before .before .before .before .before .before .pre)
-    (c .before .before .before .before .before .before .scan .result .end) (c .before .before .before .before .before .before .scan .result .lyn)
-    (c .before .before .before .before .before .before .scan .ensures) (c .before .before .before .before .if1 .left) _
-    (c .before .before .repeat .ensures)
+is-counted-requires c κs = above-run (search needs) (c .before .before .before .before .before .before .before .before .before .pre) (c .before .before .before .before .before .before .scan .ensures) (c .before .before .before .before .if1 .left) (c .before .before .repeat .ensures)
 
 returns-2 : tie.Need-returns-2
 returns-2 c =
-    let a = c .before .before .before .before .before .before .before .before .before .before .before .args in
-    let z : length (a .t1) ≡ 64 = search needs in
-    above-found (a .counts .now) (a .n) (a .k) (a .t1) z
-    (c .before .before .before .before .before .before .before .before .before .before .before .pre)
-    (c .before .before .before .before .before .before .before .before .scan .result .end)
-    (c .before .before .before .before .before .before .before .before .scan .result .lyn)
-    (c .before .before .before .before .before .before .before .before .scan .ensures) (c .before .before .before .before .before .before .if1 .left)
-    _ (c .before .before .before .before .repeat .ensures) (sym (c .if2 .taken) ∙ c .before .is-counted .ensures)
+    above-found (search needs) (c .before .before .before .before .before .before .before .before .before .before .before .pre) (c .before .before .before .before .before .before .before .before .scan .ensures) (c .before .before .before .before .before .before .if1 .left) (c .before .before .before .before .repeat .ensures)
+    (sym (c .if2 .taken) ∙ c .before .is-counted .ensures)
 
 seek-requires-2 : tie.Need-seek-requires-2
 seek-requires-2 c κs =
-    let a = c .before .before .before .before .before .before .before .before .before .before .before .args in
-    let z : length (a .t1) ≡ 64 = search needs in
-    above-on (a .counts .now) (a .n) (a .k) (a .t1) z (c .before .before .before .before .before .before .before .before .before .before .before .pre)
-    (c .before .before .before .before .before .before .before .before .scan .result .end)
-    (c .before .before .before .before .before .before .before .before .scan .result .lyn)
-    (c .before .before .before .before .before .before .before .before .scan .ensures) (c .before .before .before .before .before .before .if1 .left)
-    _ (c .before .before .before .before .repeat .ensures) (sym (c .if2 .left) ∙ c .before .is-counted .ensures)
+    above-on (search needs) (c .before .before .before .before .before .before .before .before .before .before .before .pre) (c .before .before .before .before .before .before .before .before .scan .ensures) (c .before .before .before .before .before .before .if1 .left) (c .before .before .before .before .repeat .ensures)
+    (sym (c .if2 .left) ∙ c .before .is-counted .ensures)
 
 returns-3 : tie.Need-returns-3
 returns-3 c =
-    let a = c .before .before .before .before .before .before .before .before .before .before .before .before .args in
-    let z : length (a .t1) ≡ 64 = search needs in
-    above-answers (a .counts .now) (a .n) (a .k) (a .t1) z
-    (c .before .before .before .before .before .before .before .before .before .before .before .before .pre)
-    (c .before .before .before .before .before .before .before .before .before .scan .result .end)
-    (c .before .before .before .before .before .before .before .before .before .scan .result .lyn)
-    (c .before .before .before .before .before .before .before .before .before .scan .ensures)
-    (c .before .before .before .before .before .before .before .if1 .left) _ (c .before .before .before .before .before .repeat .ensures)
-    (sym (c .before .if2 .left) ∙ c .before .before .is-counted .ensures) _ (c .seek2 .ensures)
+    above-answers (search needs) (c .before .before .before .before .before .before .before .before .before .before .before .before .pre) (c .before .before .before .before .before .before .before .before .before .scan .ensures) (c .before .before .before .before .before .before .before .if1 .left) (c .before .before .before .before .before .repeat .ensures)
+    (sym (c .before .if2 .left) ∙ c .before .before .is-counted .ensures) (c .seek2 .ensures)
 
 pub above-spec : {M : Type 1} → statement M
 above-spec =

@@ -3,12 +3,14 @@
 use mathlib.Core.Path.{_≡_, refl, _∙_, sym}
 use native.Mathlib.Omega.{arith}
 use borrow.Author.Needs.{needs}
-use lib.ListN.{take, length-set}
+use lib.ListN.{take, drop, set, length-set}
 use lib.Seq.{length-take-le}
-use Prim.Native.Nat.{_-_}
-use Rattle.shades_next_inner.proofs.Seeking.{Standing, headed, lastRaised, seek-start, seek-none, seek-asks, seek-size, seek-run, seek-found, seek-on, seek-falls, seek-few, seek-counts}
+use Prim.Native.Nat.{ℕ, _-_}
+use mathlib.Core.List.{List, _++_}
+use Rattle.shades_next_inner.proofs.Seeking.{Standing, headed, lastRaised, seek-start, seek-none, seek-asks, Rounded, rounded}
 use Rattle.shades_next_inner.proofs.Raised.{raised-none}
 use Rattle.shades_next_inner.specs.Raised.{raisedTo}
+use Rattle.shades_next_inner.specs.Runs.{Repeats}
 use Rattle.shades_raise_inner.specs.Places.{Headed}
 use Rattle.shades_next_inner.proofs.seek.Statement.{statement}
 use Rattle.shades_next_inner.proofs.seek.Tie as tie
@@ -23,18 +25,13 @@ abbrev μ-loop : tie.MeasureT-loop
 μ-loop n k p counts ring₀ lyn₀ raised₀ ring lyn raised = n - lastRaised n ring₀ ring
 
 loop-holds : tie.Need-loop-holds Inv-loop μ-loop
-loop-holds c = (seek-start _ _ _ _ (search needs) (c .before .pre .0), sym (raised-none _ _ refl), c .before .pre .1)
+loop-holds c = (seek-start (search needs) (c .before .pre .0), sym (raised-none _ _ refl), c .before .pre .1)
 
 find-requires : tie.Need-find-requires Inv-loop μ-loop
 find-requires c κs = (c .loop .inv .0 .opening, c .loop .inv .2)
 
 returns : tie.Need-returns Inv-loop μ-loop
-returns c =
-    let l = c .before .before .loop in
-    let a = c .before .before .before .before .args in
-    let r = c .before .find .result in
-    seek-none (a .counts .now) (a .n) (a .k) (a .start) (l .ring) _ (l .inv .0) (r .end) (r .shade) (c .before .find .ensures) (c .if1 .taken)
-    (l .raised) (l .inv .1)
+returns c = let l = c .before .before .loop in seek-none (l .inv .0) (c .before .find .ensures) (c .if1 .taken) (l .inv .1)
 
 cast-ring : tie.Need-cast-ring Inv-loop μ-loop
 cast-ring c = omega (arith, c .before .before .find .ensures .known (omega (arith, c .before .if1 .left)), c .before .before .before .before .before .pre .0 .ready .shades)
@@ -56,103 +53,44 @@ slice-aggregate-repeat c =
     (omega (arith, c .before .before .before .before .loop .inv .0 .size, c .before .before .before .before .before .before .pre .0 .ready .size))))
 
 repeat-requires : tie.Need-repeat-requires Inv-loop μ-loop
-repeat-requires c κs =
-    let l = c .before .before .before .before .loop in
-    let a = c .before .before .before .before .before .before .args in
-    let r = c .before .before .before .find .result in
-    seek-asks (a .counts .now) (a .n) (a .k) (a .start) (l .ring) _ (l .inv .0) (r .end) (r .shade) (c .before .before .before .find .ensures)
-    (c .before .before .if1 .left)
+repeat-requires c κs = seek-asks (c .before .before .before .before .loop .inv .0) (c .before .before .before .find .ensures) (c .before .before .if1 .left)
+
+-- behind a place that was raised, where t is what stands in the first n sectors
+round : (c : tie.After-repeat Inv-loop μ-loop) →
+    let a = c .before .before .before .before .before .before .before .args in
+    let l = c .before .before .before .before .before .loop in
+    let r = c .before .before .before .before .find .result in
+    (t : List ℕ) → Repeats (r .end) (take (a .n) (set (l .ring) (r .end - 1) (r .shade))) t →
+    Rounded (a .counts .now) (a .n) (a .k) (a .start) (lastRaised (a .n) (a .start) (l .ring)) (r .end) (l .raised) (t ++ drop (a .n) (set (l .ring) (r .end - 1) (r .shade)))
+round c t rep = let l = c .before .before .before .before .before .loop in rounded (l .inv .0) (c .before .before .before .before .find .ensures) (c .before .before .before .if1 .left) rep (l .inv .1)
 
 add-raised : tie.Need-add-raised Inv-loop μ-loop
-add-raised c =
-    let l = c .before .before .before .before .before .before .loop in
-    let a = c .before .before .before .before .before .before .before .before .args in
-    let r = c .before .before .before .before .before .find .result in
-    omega (
-      arith,
-      seek-few (a .counts .now) (a .n) (a .k) (a .start) (l .ring) _ (l .inv .0) (r .end) (r .shade) (c .before .before .before .before .before .find .ensures) (l .raised) (l .inv .1),
-      c .before .before .before .before .before .before .before .before .pre .0 .ready .size,
-    )
+add-raised c = omega (arith, round (c .before) _ (c .before .repeat .ensures) .few, c .before .before .before .before .before .before .before .before .pre .0 .ready .size)
 
 array-share-prefix-ring : tie.Need-array-share-prefix-ring Inv-loop μ-loop
-array-share-prefix-ring c =
-    let l = c .before .before .before .before .before .before .loop in
-    let a = c .before .before .before .before .before .before .before .before .args in
-    let r = c .before .before .before .before .before .find .result in
-    omega (
-      arith,
-      seek-size (a .counts .now) (a .n) (a .k) (a .start) (l .ring) _ (l .inv .0) (r .end) (r .shade)
-          (c .before .before .before .before .before .find .ensures) (c .before .before .before .before .if1 .left) _ (c .before .repeat .ensures),
-      c .before .before .before .before .before .before .before .before .pre .0 .ready .size,
-    )
+array-share-prefix-ring c = omega (arith, round (c .before) _ (c .before .repeat .ensures) .size, c .before .before .before .before .before .before .before .before .pre .0 .ready .size)
 
 slice-aggregate-is-counted : tie.Need-slice-aggregate-is-counted Inv-loop μ-loop
 slice-aggregate-is-counted c =
-    let l = c .before .before .before .before .before .before .before .loop in
-    let a = c .before .before .before .before .before .before .before .before .before .args in
-    let r = c .before .before .before .before .before .before .find .result in
-    sym
-    (length-take-le _ _
-    (omega (
-      arith,
-      seek-size (a .counts .now) (a .n) (a .k) (a .start) (l .ring) _ (l .inv .0) (r .end) (r .shade)
-          (c .before .before .before .before .before .before .find .ensures) (c .before .before .before .before .before .if1 .left) _
-          (c .before .before .repeat .ensures),
-      c .before .before .before .before .before .before .before .before .before .pre .0 .ready .size,
-    )))
+    let d = c .before .before in
+    sym (length-take-le _ _ (omega (arith, round d _ (d .repeat .ensures) .size, d .before .before .before .before .before .before .before .pre .0 .ready .size)))
 
 is-counted-requires : tie.Need-is-counted-requires Inv-loop μ-loop
-is-counted-requires c κs =
-    let l = c .before .before .before .before .before .before .before .loop in
-    let a = c .before .before .before .before .before .before .before .before .before .args in
-    let r = c .before .before .before .before .before .before .find .result in
-    seek-run (a .counts .now) (a .n) (a .k) (a .start) (l .ring) _ (l .inv .0) (r .end) (r .shade)
-    (c .before .before .before .before .before .before .find .ensures) (c .before .before .before .before .before .if1 .left) _
-    (c .before .before .repeat .ensures)
+is-counted-requires c κs = let d = c .before .before in round d _ (d .repeat .ensures) .run
 
 returns-2 : tie.Need-returns-2 Inv-loop μ-loop
-returns-2 c =
-    let l = c .before .before .before .before .before .before .before .before .before .loop in
-    let a = c .before .before .before .before .before .before .before .before .before .before .before .args in
-    let r = c .before .before .before .before .before .before .before .before .find .result in
-    seek-found (a .counts .now) (a .n) (a .k) (a .start) (l .ring) _ (l .inv .0) (r .end) (r .shade)
-    (c .before .before .before .before .before .before .before .before .find .ensures)
-    (c .before .before .before .before .before .before .before .if1 .left) _ (c .before .before .before .before .repeat .ensures)
-    (sym (c .if2 .taken) ∙ c .before .is-counted .ensures) (l .raised) (l .inv .1)
+returns-2 c = let d = c .before .before .before .before in round d _ (d .repeat .ensures) .found (sym (c .if2 .taken) ∙ c .before .is-counted .ensures)
 
 loop-less : tie.Need-loop-less Inv-loop μ-loop
-loop-less c =
-    let l = c .before .before .before .before .before .before .before .before .before .loop in
-    let a = c .before .before .before .before .before .before .before .before .before .before .before .args in
-    let r = c .before .before .before .before .before .before .before .before .find .result in
-    seek-falls (a .counts .now) (a .n) (a .k) (a .start) (l .ring) _ (l .inv .0) (r .end) (r .shade)
-    (c .before .before .before .before .before .before .before .before .find .ensures)
-    (c .before .before .before .before .before .before .before .if1 .left) _ (c .before .before .before .before .repeat .ensures)
+loop-less c = let d = c .before .before .before .before in round d _ (d .repeat .ensures) .falls
 
 loop-again : tie.Need-loop-again Inv-loop μ-loop
 loop-again c =
-    let l = c .before .before .before .before .before .before .before .before .before .loop in
-    let a = c .before .before .before .before .before .before .before .before .before .before .before .args in
-    let r = c .before .before .before .before .before .before .before .before .find .result in (
-      seek-on (a .counts .now) (a .n) (a .k) (a .start) (l .ring) _ (l .inv .0) (r .end) (r .shade)
-          (c .before .before .before .before .before .before .before .before .find .ensures)
-          (c .before .before .before .before .before .before .before .if1 .left) _ (c .before .before .before .before .repeat .ensures)
-          (sym (c .if2 .left) ∙ c .before .is-counted .ensures),
-      seek-counts (a .counts .now) (a .n) (a .k) (a .start) (l .ring) _ (l .inv .0) (r .end) (r .shade)
-          (c .before .before .before .before .before .before .before .before .find .ensures)
-          (c .before .before .before .before .before .before .before .if1 .left) _ (c .before .before .before .before .repeat .ensures) (l .raised)
-          (l .inv .1),
-      headed _ (a .n) (r .end)
-          (omega (
-            arith,
-            seek-size (a .counts .now) (a .n) (a .k) (a .start) (l .ring) _ (l .inv .0) (r .end) (r .shade)
-                (c .before .before .before .before .before .before .before .before .find .ensures)
-                (c .before .before .before .before .before .before .before .if1 .left) _ (c .before .before .before .before .repeat .ensures),
-            c .before .before .before .before .before .before .before .before .before .before .before .pre .0 .ready .size,
-          ))
-          (seek-run (a .counts .now) (a .n) (a .k) (a .start) (l .ring) _ (l .inv .0) (r .end) (r .shade)
-          (c .before .before .before .before .before .before .before .before .find .ensures)
-          (c .before .before .before .before .before .before .before .if1 .left) _ (c .before .before .before .before .repeat .ensures)),
+    let d = c .before .before .before .before in
+    let x = round d _ (d .repeat .ensures) in (
+      x .on (sym (c .if2 .left) ∙ c .before .is-counted .ensures),
+      x .counts,
+      headed _ (d .before .before .before .before .before .before .before .args .n) _ (omega (arith, x .size, d .before .before .before .before .before .before .before .pre .0 .ready .size)) (x .run),
     )
 
 pub seek-spec : {M : Type 1} → statement M
