@@ -22,7 +22,7 @@ pub fn start(s: &[u8], k: usize) -> Started
     let v = check_readings_inner::check_reading(s, k);
     match v {
         Checked::Refused(r) => Started {
-            walk: walk_start_inner::empty(),
+            walk: walk_record_inner::empty(),
             answer: Checked::Refused(r),
         },
         Checked::Good => walk_start_inner::start_good(s, k),

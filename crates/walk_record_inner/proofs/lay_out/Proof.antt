@@ -1,8 +1,8 @@
--- `walk_start_inner::lay_out` meets its contract: the reading copied over zeros.
+-- `walk_record_inner::lay_out` meets its contract: the reading copied over zeros.
 use Rattle.word_copy_laws.proofs.Copy.{laid}
 use borrow.Author.Needs.{needs}
-use Rattle.walk_start_inner.proofs.lay_out.Statement.{statement}
-use Rattle.walk_start_inner.proofs.lay_out.Tie as tie
+use Rattle.walk_record_inner.proofs.lay_out.Statement.{statement}
+use Rattle.walk_record_inner.proofs.lay_out.Tie as tie
 
 returns : tie.Need-returns
 returns c = laid (c .before .before .before .before .args .s .now) _ 64 (c .before .copy .ensures .1)
