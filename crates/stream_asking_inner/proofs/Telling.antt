@@ -14,6 +14,7 @@ use Rattle.stream_asking_inner.specs.declared.Kind.the-variants.{Count, 
 use Rattle.stream_asking_inner.specs.Says.{Said, mostOf}
 
 pub said-tells : (kind : Kind) → Tells (Said kind) (mostOf kind)
+unfolding Said
 said-tells Count = report-tells
 said-tells Desk = desk-tells
 

@@ -12,7 +12,7 @@ use Rattle.desk_texts_inner.specs.Says.{deskRoom}
 use Rattle.stream_asking_inner.specs.declared.Kind.{Kind}
 use Rattle.stream_asking_inner.specs.declared.Kind.the-variants.{Count, Desk}
 
-abbrev pub Said : Kind → Relation
+unfoldable pub Said : Kind → Relation
 Said Count = reports.Answers
 Said Desk = desks.DeskAnswers
 

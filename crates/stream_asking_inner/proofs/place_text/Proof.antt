@@ -1,4 +1,5 @@
 -- `stream_asking_inner::place_text` meets its contract.
+use Rattle.stream_asking_inner.specs.Says.{Said}
 use borrow.Author.Needs.{needs}
 use Rattle.stream_asking_inner.proofs.place_text.Statement.{statement}
 use Rattle.stream_asking_inner.proofs.place_text.Tie as tie
@@ -13,10 +14,12 @@ place-answer-requires-2 : tie.Need-place-answer-requires-2
 place-answer-requires-2 c κs = rw (c .before .enum-told2 .given .1) at (c .before .before .before .before .before .pre)
 
 returns : tie.Need-returns
-returns c = rw (c .before .before .before .before .enum-told .given .1) (c .before .before .place-answer .ensures)
+unfolding Said
+returns c = rw (c .before .before .before .before .enum-told .given .1, Said) (c .before .before .place-answer .ensures)
 
 returns-2 : tie.Need-returns-2
-returns-2 c = rw (c .before .before .before .before .enum-told2 .given .1) (c .before .before .place-answer2 .ensures)
+unfolding Said
+returns-2 c = rw (c .before .before .before .before .enum-told2 .given .1, Said) (c .before .before .place-answer2 .ensures)
 
 pub place-text-spec : {M : Type 1} → statement M
 place-text-spec =
