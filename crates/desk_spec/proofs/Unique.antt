@@ -11,10 +11,7 @@ use mathlib.Core.List.{List}
 use native.Mathlib.Omega.{arith}
 use lib.ListN.{length}
 use lib.Ieee.{Float}
-use Rattle.rings.specs.Alike.{sameRing, evenHanded}
 use Rattle.rings.specs.Necklace.{necklace, lyndon}
-use Rattle.rings.specs.Prenecklace.{prenecklace}
-use Rattle.refusal.specs.Calls.{oneReading, twoReadings}
 use Rattle.classify_spec.proofs.Unique.{one-answer as one-class}
 use Rattle.home_spec.specs.declared.Homed.{Homed}
 use Rattle.home_spec.proofs.Unique.{one-homed, one-told, one-distance}
@@ -25,7 +22,6 @@ use Rattle.how_many_spec.proofs.Unique.{one-count}
 use Rattle.walk_spec.specs.declared.Outcome.{Outcome}
 use Rattle.walk_bracelet_spec.specs.declared.Arrival.{Arrival}
 use Rattle.walk_reading_spec.proofs.Unique.{one-step-from, one-bracelet-from}
-use Rattle.words.specs.Sum.{sumOf}
 use Rattle.shades_spec.specs.declared.FirstAnswer.{FirstAnswer}
 use Rattle.shades_spec.specs.declared.NextAnswer.{NextAnswer}
 use Rattle.shades_spec.proofs.Unique.{one-first as one-first-ring, one-next}
@@ -64,9 +60,9 @@ one-stepped kind k w t u x y =
     one-shows {A = Outcome × List ℕ} _ _ (λ a b p q. let e = one-step-from kind w k (blank (length w)) (a .0) (b .0) (a .1) (b .1) p q in λ i. (e .0 i, e .1 i)) t u x y
 
 pub one-step : (v : Step) (k : ℕ) (w t u : List ℕ) → StepPrints v k w t → StepPrints v k w u → t ≡ u
-one-step Necklace k w t u x y = one-stepped necklace k w t u x y
-one-step Lyndon k w t u x y = one-stepped lyndon k w t u x y
-one-step Prenecklace k w t u x y = one-stepped prenecklace k w t u x y
+one-step Necklace k w t u x y = one-stepped _ k w t u x y
+one-step Lyndon k w t u x y = one-stepped _ k w t u x y
+one-step Prenecklace k w t u x y = one-stepped _ k w t u x y
 one-step Bracelet k w t u x y =
     one-shows {A = Arrival × List ℕ} _ _ (λ a b p q. let e = one-bracelet-from w k (blank (length w)) (a .0) (b .0) (a .1) (b .1) p q in λ i. (e .0 i, e .1 i)) t u x y
 
@@ -74,12 +70,12 @@ pub one-about : (v : About) (k : ℕ) (w t u : List ℕ) → AboutSays v k w t �
 one-about Class k w t u x y = one-shows _ _ (one-class w k) t u x y
 one-about Home k w t u x y =
     one-shows {A = Homed × List ℕ} _ _ (λ a b p q. let e = one-homed w k (blank (length w)) (a .0) (b .0) (a .1) (b .1) p q in λ i. (e .0 i, e .1 i)) t u x y
-one-about Even k w t u x y = one-shows _ _ (one-told (oneReading w k) (evenHanded w)) t u x y
+one-about Even k w t u x y = one-shows _ _ (one-told _ _) t u x y
 one-about Place k w t u x y = one-shows _ _ (one-telling w k) t u x y
 one-about (OfOne.Step v) k w t u x y = one-step v k w t u x y
 
 pub one-both : (v : Both) (k : ℕ) (a b t u : List ℕ) → BothSays v k a b t → BothSays v k a b u → t ≡ u
-one-both Same k a b t u x y = one-shows _ _ (one-told (twoReadings a b k) (sameRing a b)) t u x y
+one-both Same k a b t u x y = one-shows _ _ (one-told _ _) t u x y
 one-both Apart k a b t u x y = one-shows _ _ (one-distance a b k) t u x y
 
 -- ---- numbers
@@ -102,7 +98,7 @@ one-seen k e ts r t u x y = one-shows _ _ (one-sighted ts r k e) t u x y
 
 pub one-first : (k : ℕ) (cs t u : List ℕ) → FirstPrints k cs t → FirstPrints k cs u → t ≡ u
 one-first k cs t u x y =
-    one-shows {A = FirstAnswer × List ℕ} _ _ (λ a b p q. let e = one-first-ring k cs (blank (sumOf cs)) (a .0) (b .0) (a .1) (b .1) p q in λ i. (e .0 i, e .1 i)) t u x y
+    one-shows {A = FirstAnswer × List ℕ} _ _ (λ a b p q. let e = one-first-ring k cs _ (a .0) (b .0) (a .1) (b .1) p q in λ i. (e .0 i, e .1 i)) t u x y
 
 pub one-after-ring : (k : ℕ) (w cs t u : List ℕ) → AfterPrints k w cs t → AfterPrints k w cs u → t ≡ u
 one-after-ring k w cs t u x y =
