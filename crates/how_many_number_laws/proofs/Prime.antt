@@ -8,7 +8,8 @@ use Prim.Native.Nat.{ℕ, zero, suc, _+_, _*_, _/_, _<_, _∣_}
 use mathlib.Core.Path.{_≡_, refl, sym, ap, subst, _∙_}
 use mathlib.Core.Bool.{true, false, not, _&&_}
 use native.Mathlib.Omega.{arith}
-use native.Mathlib.Nat.{mul-pos, mul-left-comm, mul-comm, le-mul-of-pos-right, dvd-refl, dvd-trans, dvd-mul-right, dvd-mul-left-of-dvd, le-of-dvd, pos-of-dvd-of-pos, mul-dvd-mul, mul-dvd-mul-left, dvd-of-mul-dvd-mul-left}
+use native.Mathlib.Nat.{mul-pos, mul-left-comm, mul-comm, le-mul-of-pos-right}
+use native.Mathlib.Nat.{dvd-refl, dvd-trans, dvd-mul-right, dvd-mul-left-of-dvd, le-of-dvd, pos-of-dvd-of-pos, mul-dvd-mul, mul-dvd-mul-left, dvd-of-mul-dvd-mul-left}
 use lib.Dec.{eqb, ltb}
 use borrow.Author.Tests.{lt-ltb, ltb-true, eq-eqb, ne-eqb, eqb-true, not-true, not-false}
 use Rattle.words.specs.Search.{allBelow}

@@ -18,7 +18,8 @@ use Rattle.words.specs.Order.{before, upTo, same}
 use Rattle.words.specs.Readings.{Reading, readings, bit, total, count}
 use Rattle.words.proofs.Split.{lt, eq, gt, tri, Test, passes, fails, test, both, not-right, refuted, clash}
 use Rattle.words.proofs.Sequence.{sec, Less}
-use Rattle.words.proofs.Lex.{Lex, ahead, equal, behind, lex, same-refl, same-false, before-irrefl, before-trans, before-asym, before-upTo, before-not-upTo, upTo-refl, upTo-split, upTo-before-trans, not-before, not-less-upTo}
+use Rattle.words.proofs.Lex.{Lex, ahead, equal, behind, lex, same-refl, same-false, before-irrefl, before-trans, before-asym, before-upTo, before-not-upTo}
+use Rattle.words.proofs.Lex.{upTo-refl, upTo-split, upTo-before-trans, not-before, not-less-upTo}
 use Rattle.words.proofs.Readings.{readings-all, nothing-first}
 use Rattle.words.proofs.Count.{sumBelow, sum-cong, total-cons, total-le, count-split, count-cong, count-one}
 use Rattle.rings.specs.Necklace.{necklace}

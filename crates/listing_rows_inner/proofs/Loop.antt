@@ -216,7 +216,8 @@ module _ {n k : ℕ} {v tail : List ℕ} {rings₀ sum₀ : ℕ} {b : List ℕ} 
 
 -- ---- the end of the loop
 
-module _ (s : State) (b : List ℕ) (from : ℕ) (ring : List ℕ) (rings sum at : ℕ) (b′ : List ℕ) (a : Along (s .n) (s .k) (stateRing s) (drop (s .n) (s .ring)) (s .rings) (s .moves) b from ring rings sum at b′) where
+module _ (s : State) (b : List ℕ) (from : ℕ) (ring : List ℕ) (rings sum at : ℕ) (b′ : List ℕ)
+    (a : Along (s .n) (s .k) (stateRing s) (drop (s .n) (s .ring)) (s .rings) (s .moves) b from ring rings sum at b′) where
   pub keeps-length : length b′ ≡ length b
   keeps-length = placed-length b from (a .text) at b′ (a .placed)
 

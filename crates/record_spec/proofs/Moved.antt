@@ -21,7 +21,9 @@ use Rattle.record_spec.specs.Says.{ReadSays}
 use Rattle.record_spec.specs.Writes.{WriteSays}
 use Rattle.record_spec.proofs.Rounds.{written-read, length-answer, answer-home, copied, read-written}
 
-module _ (c : List ℕ) (s : ℕ) (b : List ℕ) (n k : ℕ) (x : Kind) (next : ℕ) (d : List ℕ) (h : ReadSays c s b (Record n k x next) d) (y : Kind) (v : List ℕ) (p e : ℕ) (f : List ℕ) (g : WriteSays (take n d) k y v p (After e) f) (o : List ℕ) (l : length o ≡ 64) (r : Entry) (u : List ℕ) (a : ReadSays f p o r u) where
+module _ (c : List ℕ) (s : ℕ) (b : List ℕ) (n k : ℕ) (x : Kind) (next : ℕ) (d : List ℕ) (h : ReadSays c s b (Record n k x next) d)
+    (y : Kind) (v : List ℕ) (p e : ℕ) (f : List ℕ) (g : WriteSays (take n d) k y v p (After e) f)
+    (o : List ℕ) (l : length o ≡ 64) (r : Entry) (u : List ℕ) (a : ReadSays f p o r u) where
   long : length (take n d) ≡ n
   long = length-answer c s b n k x next d h
 

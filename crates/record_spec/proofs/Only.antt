@@ -1,4 +1,5 @@
--- What the reader looks at: the start, the output, and of the catalogue no more than the 68 bytes from the start on, since a record's head has 4 and n, which is at most 64, is the most bytes that its sectors take.
+-- What the reader looks at: the start, the output, and of the catalogue no more than the 68 bytes from the start on, since a record's head has 4 and n, which is at most 64,
+-- is the most bytes that its sectors take.
 --     drop-take              what is left of a beginning is a beginning of what is left
 --     opening t              those bytes of a part t
 --     opening-record, opening-given     the record that t begins with is good, or refused, exactly as it is there

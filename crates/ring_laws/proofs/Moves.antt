@@ -14,7 +14,8 @@ use lib.ListN.{length}
 use Rattle.words.specs.Order.{before, upTo, same}
 use Rattle.words.specs.Readings.{Reading, readings, bit}
 use Rattle.words.proofs.Split.{Test, passes, fails, test, both, both-left, both-right, not-right, refuted, clash}
-use Rattle.words.proofs.Lex.{Lex, ahead, equal, behind, lex, same-true, same-refl, same-false, before-irrefl, before-trans, before-asym, upTo-refl, before-upTo, before-not-upTo, upTo-before-trans, upTo-not-before}
+use Rattle.words.proofs.Lex.{Lex, ahead, equal, behind, lex, same-true, same-refl, same-false, before-irrefl, before-trans, before-asym}
+use Rattle.words.proofs.Lex.{upTo-refl, before-upTo, before-not-upTo, upTo-before-trans, upTo-not-before}
 use Rattle.words.proofs.Readings.{readings-all}
 use Rattle.words.proofs.Count.{count-zero, count-split, count-one}
 use Rattle.rings.specs.Prenecklace.{prenecklace}
@@ -47,7 +48,8 @@ moves-start k w = count-zero (passed w (some w)) (readings (length w) k) none-pa
         clash (before w u) (both-left (before w u) (prenecklace u) a) (upTo-not-before w u (both-right (before w u && prenecklace u) (upTo u w) e)))
 
 -- c is a prenecklace not below w, v is the least prenecklace above c: u is passed on the way to v where it is passed on the way to c, or is v
-module _ (n k : ℕ) (w c v : List ℕ) (up : upTo w c ≡ true) (gap : before c v ≡ true) (prev : prenecklace v ≡ true) (least : (u : List ℕ) → Reading n k u → prenecklace u ≡ true → before c u ≡ true → upTo v u ≡ true) where
+module _ (n k : ℕ) (w c v : List ℕ) (up : upTo w c ≡ true) (gap : before c v ≡ true) (prev : prenecklace v ≡ true)
+    (least : (u : List ℕ) → Reading n k u → prenecklace u ≡ true → before c u ≡ true → upTo v u ≡ true) where
   split-last : (u : List ℕ) → Reading n k u → bit (passed w (some v) u) ≡ bit (passed w (some c) u) + bit (same v u)
   unfolding passed aboveOf
   split-last u r = elim (lex u c) [ ahead l ↦ low (before-upTo u c l) (before-trans u c v l gap) | equal e ↦ low (rw e (upTo-refl c)) (rw e gap) | behind l ↦ high l (test (prenecklace u)) ]

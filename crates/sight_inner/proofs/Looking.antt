@@ -43,7 +43,8 @@ pub part-ring : (rs : List ℕ) (n j at end : ℕ) → at ≡ n * j → end ≡ 
 part-ring rs n j at end e f = let g : end - at ≡ n = omega arith in rw (g, e) refl
 
 -- what is told of it, where a turn is given up at one more sector than may be misread, or than there are
-module _ (e : ℕ) (rs r : List ℕ) (j limit : ℕ) (b : Bool) (q : limit ≡ suc (min (length r) e)) (s : b ≡ ltb (apart r (take (length r * j + length r - length r * j) (drop (length r * j) rs))) limit) where
+module _ (e : ℕ) (rs r : List ℕ) (j limit : ℕ) (b : Bool) (q : limit ≡ suc (min (length r) e))
+    (s : b ≡ ltb (apart r (take (length r * j + length r - length r * j) (drop (length r * j) rs))) limit) where
   told : b ≡ ltb (apart r (ringAt (length r) rs j)) limit
   told = s ∙ ap (λ (w : List ℕ). ltb (apart r w) limit) (part-ring rs (length r) j (length r * j) (length r * j + length r) refl refl)
 

@@ -1,7 +1,7 @@
 // The calls `sets::pick` and, where a line ends with 1, `sets::pick_guarded` run and compared with all that they leave: the rings in the places, how many were taken
 // and whether that is the wanted number, how many other sectors are not 0; or a refusal's number and place, with all of that; and behind each what `sets::lay_out` makes of
-// it, the rings end to end. The cases are the lines of stdin: n, k, the distance and the wanted number. The expected text, stdout, is worked out from the definitions: every reading in order, each, and for guarded sets its mirror image and
-// its turns, compared with all taken.
+// it, the rings end to end. The cases are the lines of stdin: n, k, the distance and the wanted number. The expected text, stdout, is worked out from the definitions: every
+// reading in order, each, and for guarded sets its mirror image and its turns, compared with all taken.
 
 use refusal::Checked;
 use sets::Picked;

@@ -6,7 +6,8 @@ use mathlib.Core.Bool.{true}
 use native.Mathlib.Omega.{arith}
 use lib.ListN.{length, take, drop, length-take}
 use borrow.Author.Needs.{needs}
-use Rattle.listing_rows_inner.proofs.Loop.{Along, along-start, along-fits, along-size, along-ready, along-rings, came, came-size, came-moves, line-room, line-further, along-on, stops, keeps-length, says-full, says-ended}
+use Rattle.listing_rows_inner.proofs.Loop.{Along, along-start, along-fits, along-size, along-ready, along-rings, along-on}
+use Rattle.listing_rows_inner.proofs.Loop.{came, came-size, came-moves, line-room, line-further, stops, keeps-length, says-full, says-ended}
 use Rattle.listing_rows_inner.proofs.fill_rows.Statement.{statement}
 use Rattle.listing_rows_inner.proofs.fill_rows.Tie as tie
 

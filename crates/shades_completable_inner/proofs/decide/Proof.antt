@@ -3,7 +3,8 @@ use Prim.Native.Nat.{_+_, _-_}
 use mathlib.Core.Path.{sym}
 use native.Mathlib.Omega.{arith}
 use lib.ListN.{length}
-use Rattle.shades_completable_inner.proofs.Testing.{Testing, test-start, test-stuck, test-order, test-bounds, test-dropped, test-pushed, test-chained, test-under, test-over, test-on, test-longer}
+use Rattle.shades_completable_inner.proofs.Testing.{Testing, test-start, test-stuck, test-order, test-bounds, test-dropped, test-pushed}
+use Rattle.shades_completable_inner.proofs.Testing.{test-chained, test-under, test-over, test-on, test-longer}
 use borrow.Author.Needs.{needs}
 use Rattle.shades_completable_inner.proofs.decide.Statement.{statement}
 use Rattle.shades_completable_inner.proofs.decide.Tie as tie

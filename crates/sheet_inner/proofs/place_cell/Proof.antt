@@ -29,12 +29,15 @@ place-ring-requires c κs =
 
 returns : tie.Need-returns
 returns c =
-    let w = c .before .before .before .before .before .before .before .before .before .before .before .before .before .before .before .before .before .before .before .before .before .args .ring .now in
-    cell-fits _ _ w _ _ _ (c .before .before .before .before .before .before .before .before .before .before .before .before .before .before .before .before .before .before .per-page .ensures .0) (c .before .before .before .before .before .before .before .before .before .before .before .before .before .before .before .before .before .across-of .ensures) (c .before .before .before .before .before .before .before .before .before .before .before .before .before .before .before .before .down-of .ensures) _ _ _ _
-    (fits-append (fits-append (fits-append
-    (c .before .before .before .before .before .before .before .before .before .before .before .before .before .before .place-cell-head .ensures)
-    (c .before .before .before .before .before .before .before .before .before .before .place-ring .ensures))
-    (c .before .before .before .before .before .before .place-tail .ensures)) (c .before .before .place-cell-foot .ensures))
+    let foot = c .before .before in
+    let tail = foot .before .before .before .before in
+    let ring = tail .before .before .before .before in
+    let head = ring .before .before .before .before in
+    let down = head .before .before in
+    let page = down .before .before in
+    let w = page .before .before .before .args .ring .now in
+    cell-fits _ _ w _ _ _ (page .per-page .ensures .0) (down .before .across-of .ensures) (down .down-of .ensures) _ _ _ _
+    (fits-append (fits-append (fits-append (head .place-cell-head .ensures) (ring .place-ring .ensures)) (tail .place-tail .ensures)) (foot .place-cell-foot .ensures))
 
 pub place-cell-spec : {M : Type 1} → statement M
 place-cell-spec =
