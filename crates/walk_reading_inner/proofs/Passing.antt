@@ -1,74 +1,46 @@
--- The checks of a step from a lent reading: how they end, and what they give to the step.
---     more-step              a refusal of the checks up to 4 is that of all five
---     step-off, step-on      those passed, and the class tells whether the reading is on a walk
+-- What the checks of a step from a lent reading give to the step, and how it ends.
 --     passed-ready           a reading that passed is ready for a step by prenecklaces
 --     passed-bytes           and for one to the next bracelet
 --     next-long              the next of a kind is as long as the reading
 --     step-moved, step-done, bracelet-moved, bracelet-done    how a step from a copy of the reading ends, and its ring copied to the output
-use Prim.Native.Nat.{ℕ, _≤_}
+use Prim.Native.Nat.{ℕ}
 use mathlib.Core.Path.{_≡_, refl, sym, ap, _∙_}
-use mathlib.Core.Bool.{Bool, true, false}
+use mathlib.Core.Bool.{Bool}
 use mathlib.Core.Option.{none, some}
-use mathlib.Core.Logic.{inl, inr}
 use mathlib.Core.List.{List, _++_}
 use native.Mathlib.Omega.{arith}
 use lib.ListN.{length, take, drop}
-use lib.Seq.{take-all}
-use Rattle.words.proofs.Split.{clash}
-use Rattle.rings.specs.declared.Class.{Class}
-use Rattle.rings.specs.Prenecklace.{prenecklace}
-use Rattle.rings.specs.Class.{classOf, isLoose, loosePlace, lookAt}
 use Rattle.rings.specs.Alike.{bracelet}
 use Rattle.rings.specs.Steps.{nextOf, moves}
-use Rattle.ring_laws.proofs.Classes.{loose-class, tight-class}
 use Rattle.ring_laws.proofs.FullWalk.{next-facts}
 use Rattle.word_copy_laws.proofs.Copy.{copied}
-use Rattle.refusal.specs.declared.Refusal.{Refusal}
-use Rattle.refusal.specs.declared.Refusal.the-variants.{OffWalk}
-use Rattle.refusal.specs.Order.{Passed, Given}
-use Rattle.refusal.specs.Calls.{withRoom}
+use Rattle.refusal.specs.Order.{Passed}
 use Rattle.walk_kind_laws.specs.Kinds.{ReadyToStep}
 use Rattle.bracelet_next_inner.specs.Going.{ByteReading}
 use Rattle.walk_spec.specs.declared.Outcome.the-variants as O
 use Rattle.walk_bracelet_spec.specs.declared.Arrival.the-variants as A
 use Rattle.walk_reading_spec.specs.Says.{readingOrder, StepFromSays, BraceletFromSays}
 
-module _ (w : List ℕ) (k m : ℕ) where
-  -- the last check alone is asked besides
-  pub more-step : (r : Refusal) → Given (withRoom w k m) r → Given (readingOrder w k m) r
-  more-step r (inl g) = inl g
-  more-step r (inr (l, (e, g))) = absurd (g refl)
+-- what passed
+module _ (w : List ℕ) (k m : ℕ) (passed : Passed (readingOrder w k m)) where
+  pub passed-room : m ≡ length w
+  passed-room = passed .0 .0 .1
 
-  module _ (found : Class) (passed : Passed (withRoom w k m)) (is : found ≡ classOf w) where
-    pub step-off : (p : ℕ) → isLoose found ≡ true → p ≡ loosePlace found → Given (readingOrder w k m) (OffWalk p)
-    unfolding lookAt
-    step-off p h q =
-        inr
-        (passed .0, (ap OffWalk (q ∙ ap loosePlace is ∙ ap lookAt (sym (take-all (length w) w (omega arith)))), λ t. clash (prenecklace w) t (loose-class w (rw is at h))))
+  pub passed-ready : ReadyToStep k w
+  passed-ready =
+      record {
+        pos = passed .0 .0 .0 .0 .0 .0 .0;
+        fits = passed .0 .0 .0 .0 .0 .0 .1;
+        shades = passed .0 .0 .0 .0 .1 .0;
+        few = passed .0 .0 .0 .0 .1 .1;
+        reading = record { long = refl; shades = passed .0 .0 .0 .1 };
+        pre = passed .1;
+      }
 
-    pub step-on : isLoose found ≡ false → Passed (readingOrder w k m)
-    step-on h = (passed .0, tight-class w (rw is at h))
-
-  -- what passed
-  module _ (passed : Passed (readingOrder w k m)) where
-    pub passed-room : m ≡ length w
-    passed-room = passed .0 .0 .1
-
-    pub passed-ready : ReadyToStep k w
-    passed-ready =
-        record {
-          pos = passed .0 .0 .0 .0 .0 .0 .0;
-          fits = passed .0 .0 .0 .0 .0 .0 .1;
-          shades = passed .0 .0 .0 .0 .1 .0;
-          few = passed .0 .0 .0 .0 .1 .1;
-          reading = record { long = refl; shades = passed .0 .0 .0 .1 };
-          pre = passed .1;
-        }
-
-    pub passed-bytes : ByteReading k w
-    passed-bytes =
-        let r = passed-ready in
-        record { pos = r .pos; some-shades = omega (arith, r .shades); shades = omega (arith, r .few); reading = r .reading }
+  pub passed-bytes : ByteReading k w
+  passed-bytes =
+      let r = passed-ready in
+      record { pos = r .pos; some-shades = omega (arith, r .shades); shades = omega (arith, r .few); reading = r .reading }
 
 pub next-long : (kind : List ℕ → Bool) (k : ℕ) (w v : List ℕ) → nextOf kind k w ≡ some v → length v ≡ length w
 next-long kind k w v e = next-facts kind k w v e .0 .long

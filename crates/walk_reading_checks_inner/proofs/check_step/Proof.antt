@@ -1,9 +1,9 @@
--- `walk_reading::check_step` meets its contract.
+-- `walk_reading_checks_inner::check_step` meets its contract.
 use mathlib.Core.Path.{sym, _∙_}
-use Rattle.walk_reading.proofs.Passing.{more-step, step-off, step-on}
+use Rattle.walk_reading_checks_inner.proofs.Checking.{more-step, step-off, step-on}
 use borrow.Author.Needs.{needs}
-use Rattle.walk_reading.proofs.check_step.Statement.{statement}
-use Rattle.walk_reading.proofs.check_step.Tie as tie
+use Rattle.walk_reading_checks_inner.proofs.check_step.Statement.{statement}
+use Rattle.walk_reading_checks_inner.proofs.check_step.Tie as tie
 
 enum-told : tie.Need-enum-told
 enum-told c = search needs

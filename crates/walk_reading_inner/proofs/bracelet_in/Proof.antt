@@ -1,10 +1,10 @@
--- `walk_reading::bracelet_in` meets its contract.
+-- `walk_reading_inner::bracelet_in` meets its contract.
 use lib.ListN.{length}
 use Rattle.word_copy_laws.proofs.Copy.{copied}
-use Rattle.walk_reading.proofs.Passing.{passed-bytes, bracelet-moved, bracelet-done}
+use Rattle.walk_reading_inner.proofs.Passing.{passed-bytes, bracelet-moved, bracelet-done}
 use borrow.Author.Needs.{needs}
-use Rattle.walk_reading.proofs.bracelet_in.Statement.{statement}
-use Rattle.walk_reading.proofs.bracelet_in.Tie as tie
+use Rattle.walk_reading_inner.proofs.bracelet_in.Statement.{statement}
+use Rattle.walk_reading_inner.proofs.bracelet_in.Tie as tie
 
 next-requires : tie.Need-next-requires
 next-requires c κs =

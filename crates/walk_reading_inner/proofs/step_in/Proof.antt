@@ -1,13 +1,13 @@
--- `walk_reading::step_in` meets its contract.
+-- `walk_reading_inner::step_in` meets its contract.
 use Prim.Native.Nat.{_<_}
 use native.Mathlib.Omega.{arith}
 use lib.ListN.{length}
 use Rattle.walk_kind_laws.specs.Kinds.{kindOf}
 use Rattle.word_copy_laws.proofs.Copy.{copied}
-use Rattle.walk_reading.proofs.Passing.{passed-ready, step-moved, step-done}
+use Rattle.walk_reading_inner.proofs.Passing.{passed-ready, step-moved, step-done}
 use borrow.Author.Needs.{needs}
-use Rattle.walk_reading.proofs.step_in.Statement.{statement}
-use Rattle.walk_reading.proofs.step_in.Tie as tie
+use Rattle.walk_reading_inner.proofs.step_in.Statement.{statement}
+use Rattle.walk_reading_inner.proofs.step_in.Tie as tie
 
 advance-requires : tie.Need-advance-requires
 advance-requires c κs =
