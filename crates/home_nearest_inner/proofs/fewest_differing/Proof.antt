@@ -1,6 +1,6 @@
 -- `home_nearest_inner::fewest_differing` meets its contract. The loop's invariant: the two are at most best apart, and no turn passed differs at fewer
 -- places.
-use Prim.Native.Nat.{_≤_, _+_, _-_}
+use Prim.Native.Nat.{_≤_, _-_}
 use native.Mathlib.Omega.{arith}
 use lib.ListN.{length}
 use borrow.Author.Needs.{needs}
@@ -15,27 +15,16 @@ abbrev μ-loop : tie.MeasureT-loop
 μ-loop a b n best₀ i₀ best i = length a - i
 
 loop-holds : tie.Need-loop-holds Inv-loop μ-loop
-loop-holds c = let a = c .before .before .args in (nearest-start (a .a .now) (a .b .now), omega arith)
+loop-holds c = (nearest-start, omega arith)
 
 returns : tie.Need-returns Inv-loop μ-loop
-returns c =
-    let a = c .before .before .before .before .before .before .args in
-    let l = c .before .before .before .loop in
-    nearest-none (a .a .now) (a .b .now) (l .i + 1) (c .before .differing-below .result)
-    (nearest-more (a .a .now) (a .b .now) (l .i) (l .best) (c .before .differing-below .result) (l .inv .0) (c .before .before .loop-test .taken)
-    (c .before .differing-below .ensures)) (c .if1 .taken)
+returns c = nearest-none (nearest-more (c .before .before .before .loop .inv .0) (omega (arith, c .before .before .loop-test .taken)) (c .before .differing-below .ensures)) (c .if1 .taken)
 
 loop-again : tie.Need-loop-again Inv-loop μ-loop
-loop-again c =
-    let a = c .before .before .before .before .before .before .args in
-    let l = c .before .before .before .loop in
-    (nearest-more (a .a .now) (a .b .now) (l .i) (l .best) (c .before .differing-below .result) (l .inv .0) (c .before .before .loop-test .taken) (c .before .differing-below .ensures), omega arith)
+loop-again c = (nearest-more (c .before .before .before .loop .inv .0) (omega (arith, c .before .before .loop-test .taken)) (c .before .differing-below .ensures), omega arith)
 
 returns-2 : tie.Need-returns-2 Inv-loop μ-loop
-returns-2 c =
-    let a = c .before .before .before .before .args in
-    let l = c .before .loop in
-    nearest-end (a .a .now) (a .b .now) (l .i) (l .best) (l .inv .0) (c .loop-test .left)
+returns-2 c = nearest-end (c .before .loop .inv .0) (omega (arith, c .loop-test .left))
 
 pub fewest-differing-spec : {M : Type 1} → statement M
 fewest-differing-spec =

@@ -1,6 +1,5 @@
 -- `home_nearest_inner::is_nearer` meets its contract. The loop's invariant: no turn passed is nearer than d.
-use Prim.Native.Nat.{_≤_, _-_}
-use native.Mathlib.Omega.{arith}
+use Prim.Native.Nat.{_-_}
 use lib.ListN.{length}
 use Rattle.home_nearest_inner.proofs.Nearer.{NoneNearer, turns-start, turns-more, turns-found, turns-end}
 use borrow.Author.Needs.{needs}
@@ -8,35 +7,22 @@ use Rattle.home_nearest_inner.proofs.is_nearer.Statement.{statement}
 use Rattle.home_nearest_inner.proofs.is_nearer.Tie as tie
 
 abbrev Inv-loop : tie.InvT-loop
-Inv-loop a b d j₀ j = (j ≤ length a) × NoneNearer a b d j
+Inv-loop a b d j₀ j = NoneNearer a b d j
 
 abbrev μ-loop : tie.MeasureT-loop
 μ-loop a b d j₀ j = length a - j
 
 loop-holds : tie.Need-loop-holds Inv-loop μ-loop
-loop-holds c = let a = c .before .before .args in (omega arith, turns-start (a .a .now) (a .b .now) (a .d))
+loop-holds c = turns-start
 
 returns : tie.Need-returns Inv-loop μ-loop
-returns c =
-    let a = c .before .before .before .before .before .before .args in
-    let l = c .before .before .before .loop in
-    turns-found (a .a .now) (a .b .now) (a .d) (l .j) (c .before .differing-below .result) (c .before .differing-below .ensures)
-    (c .before .before .loop-test .taken) (c .if1 .taken)
+returns c = turns-found (c .before .before .before .loop .inv) (c .before .differing-below .ensures) (c .before .before .loop-test .taken) (c .if1 .taken)
 
 loop-again : tie.Need-loop-again Inv-loop μ-loop
-loop-again c =
-    let a = c .before .before .before .before .before .before .args in
-    let l = c .before .before .before .loop in (
-      omega arith,
-      turns-more (a .a .now) (a .b .now) (a .d) (l .j) (c .before .differing-below .result) (c .before .differing-below .ensures) (l .inv .1)
-          (c .if1 .left),
-    )
+loop-again c = turns-more (c .before .before .before .loop .inv) (c .before .differing-below .ensures) (c .before .before .loop-test .taken) (c .if1 .left)
 
 returns-2 : tie.Need-returns-2 Inv-loop μ-loop
-returns-2 c =
-    let a = c .before .before .before .before .args in
-    let l = c .before .loop in
-    turns-end (a .a .now) (a .b .now) (a .d) (l .j) (c .before .before .before .before .pre .0) (l .inv .1) (c .loop-test .left)
+returns-2 c = turns-end (c .before .before .before .before .pre .0) (c .before .loop .inv) (c .loop-test .left)
 
 pub is-nearer-spec : {M : Type 1} → statement M
 is-nearer-spec = tie.close (tie.spec Inv-loop μ-loop loop-holds (λ c κs. search needs) returns (λ c. search needs)
