@@ -31,7 +31,7 @@ pub fn fill_rows(s: State, buf: &mut [u8], from: usize) -> Rows
     let mut at = from;
     let mut more = true;
     while at + LINE_ROOM <= buf.len() {
-        let went = walk_step_inner::go_on(&mut ring[..n], k);
+        let went = walk_ring_inner::go_on(&mut ring[..n], k);
         let outcome = went.outcome;
         let Outcome::Moved(m) = outcome else {
             more = false;

@@ -1,12 +1,12 @@
--- `walk_step_inner::go_on` meets its contract.
+-- `walk_ring_inner::go_on` meets its contract.
 use Prim.Native.Nat.{_<_}
 use mathlib.Core.Path.{refl}
 use native.Mathlib.Omega.{arith}
 use borrow.Author.Needs.{needs}
 use Rattle.walk_kind_laws.specs.Kinds.{kindOf}
 use Rattle.walk_record_laws.proofs.Good.{went-period}
-use Rattle.walk_step_inner.proofs.go_on.Statement.{statement}
-use Rattle.walk_step_inner.proofs.go_on.Tie as tie
+use Rattle.walk_ring_inner.proofs.go_on.Statement.{statement}
+use Rattle.walk_ring_inner.proofs.go_on.Tie as tie
 
 returns : tie.Need-returns
 unfolding kindOf
