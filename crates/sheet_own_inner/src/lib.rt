@@ -42,7 +42,9 @@ fn line_end(s: &[u8], at: usize) -> usize
 pub fn own_sheet(sheet: Sheet, s: &[u8]) -> Sheet
     ensures { λ r. ⌜ r ≡ ownSheet sheet (lines (now (s .entry))) ⌝ }
 {
-    sheet_words_inner::with_n(text_spell_inner::piece_end(s, b'\n'), sheet)
+    let mut own = sheet;
+    own.n = text_spell_inner::piece_end(s, b'\n');
+    own
 }
 
 // The checks of target i, which shows the ring of a line; it is spelt into the lent bytes.
@@ -79,7 +81,7 @@ pub fn check_lines(sheet: Sheet, s: &[u8], ring: &mut [u8]) -> LinesTold
     LinesTold::Good(i)
 }
 
-// Target i, which shows the ring of a line that has passed its checks; it is spelt into the lent bytes.
+// Target i, which shows the ring of a line that has passed its checks, at the beginning of the buffer, and how long that is; the ring is spelt into the lent bytes.
 fn place_spelt(
     sheet: Sheet,
     line: &[u8],
@@ -100,7 +102,7 @@ fn place_spelt(
     }
 }
 
-// The same at the beginning of the buffer, and how long that is.
+// The same, with bytes of its own for the ring.
 fn place_line(sheet: Sheet, line: &[u8], i: usize, last: bool, buf: &mut [u8]) -> usize
     requires { ⌜ Passed (lineOrder sheet (now line) i) ⌝ }
     requires { ⌜ targetRoom ≤ length (now buf) ⌝ }
@@ -111,7 +113,7 @@ fn place_line(sheet: Sheet, line: &[u8], i: usize, last: bool, buf: &mut [u8]) -
     place_spelt(sheet, line, i, last, &mut ring[..n], buf)
 }
 
-// Target i of a sheet whose lines have all passed, from the line that begins at `at`.
+// The same of a text whose lines have all passed, of which line i begins at `at`; and where the next begins.
 pub fn place_next(sheet: Sheet, s: &[u8], at: usize, i: usize, count: usize, buf: &mut [u8]) -> Step
     requires { ⌜ (count ≡ length (lines (now s))) × LinesPass sheet (lines (now s)) count ⌝ }
     requires { ⌜ LineReached (now s) at i × (i < count) ⌝ }

@@ -10,7 +10,7 @@ use sheet_words_spec::Word;
 ghost use Prim.Native.Nat.{_≤_};
 ghost use mathlib.Core.Path.{_≡_};
 ghost use lib.ListN.{length};
-ghost use Rattle.sheet_words_spec.specs.Words.{numberIn, numberOrOther, wordOf, nothingAsked, oneNumber, plainFor, wishFor, meantNumber, meantName, meant, asked, fitted, withNumberN, withNumberK, withNumberD, withWanted, withSource, withTone, withSize, withColumns};
+ghost use Rattle.sheet_words_spec.specs.Words.{numberIn, numberOrOther, wordOf, nothingAsked, oneNumber, plainFor, wishFor, meantNumber, meantName, meant, asked, fitted, withSource, withTone, withColumns};
 ghost use Rattle.sheet_words_inner.specs.Says.{wordsFrom, WordAt, EndsAs, ReadsAs};
 
 // A sheet that was read, where the line asks for one.
@@ -48,75 +48,7 @@ fn word_of(t: &[u8]) -> Word
     number_or_other(t)
 }
 
-// The sheet with another number, source, gray, size or number of columns.
-pub fn with_n(x: usize, o: Sheet) -> Sheet
-    ensures { λ r. ⌜ r ≡ withNumberN x o ⌝ }
-{
-    let source = o.source;
-    let tone = o.tone;
-    Sheet {
-        n: x,
-        k: o.k,
-        d: o.d,
-        wanted: o.wanted,
-        source,
-        tone,
-        size: o.size,
-        columns: o.columns,
-    }
-}
-
-fn with_k(x: usize, o: Sheet) -> Sheet
-    ensures { λ r. ⌜ r ≡ withNumberK x o ⌝ }
-{
-    let source = o.source;
-    let tone = o.tone;
-    Sheet {
-        n: o.n,
-        k: x,
-        d: o.d,
-        wanted: o.wanted,
-        source,
-        tone,
-        size: o.size,
-        columns: o.columns,
-    }
-}
-
-fn with_d(x: usize, o: Sheet) -> Sheet
-    ensures { λ r. ⌜ r ≡ withNumberD x o ⌝ }
-{
-    let source = o.source;
-    let tone = o.tone;
-    Sheet {
-        n: o.n,
-        k: o.k,
-        d: x,
-        wanted: o.wanted,
-        source,
-        tone,
-        size: o.size,
-        columns: o.columns,
-    }
-}
-
-fn with_wanted(x: usize, o: Sheet) -> Sheet
-    ensures { λ r. ⌜ r ≡ withWanted x o ⌝ }
-{
-    let source = o.source;
-    let tone = o.tone;
-    Sheet {
-        n: o.n,
-        k: o.k,
-        d: o.d,
-        wanted: x,
-        source,
-        tone,
-        size: o.size,
-        columns: o.columns,
-    }
-}
-
+// The sheet with another source, gray or number of columns.
 fn with_source(x: Source, o: Sheet) -> Sheet
     ensures { λ r. ⌜ r ≡ withSource x o ⌝ }
 {
@@ -149,55 +81,22 @@ fn with_tone(x: Tone, o: Sheet) -> Sheet
     }
 }
 
-fn with_size(x: usize, o: Sheet) -> Sheet
-    ensures { λ r. ⌜ r ≡ withSize x o ⌝ }
-{
-    let source = o.source;
-    let tone = o.tone;
-    Sheet {
-        n: o.n,
-        k: o.k,
-        d: o.d,
-        wanted: o.wanted,
-        source,
-        tone,
-        size: x,
-        columns: o.columns,
-    }
-}
-
 fn with_columns(x: usize, o: Sheet) -> Sheet
     ensures { λ r. ⌜ r ≡ withColumns x o ⌝ }
 {
-    let source = o.source;
-    let tone = o.tone;
-    Sheet {
-        n: o.n,
-        k: o.k,
-        d: o.d,
-        wanted: o.wanted,
-        source,
-        tone,
-        size: o.size,
-        columns: x,
-    }
+    let mut sheet = o;
+    sheet.columns = x;
+    sheet
 }
 
 // One number was given: it is K, and the rings are one's own.
 fn one_number(o: Sheet) -> Sheet
     ensures { λ r. ⌜ r ≡ oneNumber o ⌝ }
 {
-    let tone = o.tone;
-    Sheet {
-        n: 0,
-        k: o.n,
-        d: o.d,
-        wanted: o.wanted,
-        source: Source::Own,
-        tone,
-        size: o.size,
-        columns: o.columns,
-    }
+    let mut sheet = o;
+    sheet.k = o.n;
+    sheet.n = 0;
+    with_source(Source::Own, sheet)
 }
 
 // The plain choice, where a guarded one stood.
@@ -262,28 +161,32 @@ fn meant_number(a: Awaits, x: usize, o: Sheet) -> Asked
 {
     match a {
         Awaits::First => {
-            let sheet = with_n(x, o);
+            let mut sheet = o;
+            sheet.n = x;
             Asked {
                 sheet,
                 awaits: Awaits::Second,
             }
         }
         Awaits::Second => {
-            let sheet = with_k(x, o);
+            let mut sheet = o;
+            sheet.k = x;
             Asked {
                 sheet,
                 awaits: Awaits::Third,
             }
         }
         Awaits::Third => {
-            let sheet = with_d(x, o);
+            let mut sheet = o;
+            sheet.d = x;
             Asked {
                 sheet,
                 awaits: Awaits::Fourth,
             }
         }
         Awaits::Fourth => {
-            let sheet = with_wanted(x, o);
+            let mut sheet = o;
+            sheet.wanted = x;
             Asked {
                 sheet,
                 awaits: Awaits::Wish,
@@ -294,14 +197,16 @@ fn meant_number(a: Awaits, x: usize, o: Sheet) -> Asked
             awaits: Awaits::Wrong,
         },
         Awaits::Size => {
-            let sheet = with_size(x, o);
+            let mut sheet = o;
+            sheet.size = x;
             Asked {
                 sheet,
                 awaits: Awaits::Wish,
             }
         }
         Awaits::Columns => {
-            let sheet = with_columns(x, o);
+            let mut sheet = o;
+            sheet.columns = x;
             Asked {
                 sheet,
                 awaits: Awaits::Wish,
