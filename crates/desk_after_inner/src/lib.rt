@@ -20,15 +20,8 @@ fn place_next_ring(buf: &mut [u8], at: usize, a: NextAnswer, ring: &[u8]) -> usi
     ensures { λ r. ⌜ LinePrinted (now (buf .entry)) at (nextRingText a (now (ring .entry))) r (now (buf .exit)) ⌝ }
 {
     match a {
-        NextAnswer::Ring => desk_texts_inner::place_line(
-            buf,
-            at,
-            b"ring @\n",
-            &[],
-            ring.len(),
-            ring,
-        ),
-        NextAnswer::Done => desk_texts_inner::place_line(buf, at, b"done\n", &[], 0, b""),
+        NextAnswer::Ring => desk_texts_inner::place_ring(buf, at, ring),
+        NextAnswer::Done => desk_texts_inner::place_done(buf, at),
         NextAnswer::Refused(r) => desk_texts_inner::place_refusal(buf, at, r),
     }
 }

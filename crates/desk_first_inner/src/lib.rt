@@ -21,14 +21,7 @@ fn place_first_ring(buf: &mut [u8], at: usize, a: FirstAnswer, ring: &[u8]) -> u
     ensures { λ r. ⌜ LinePrinted (now (buf .entry)) at (firstRingText a (now (ring .entry))) r (now (buf .exit)) ⌝ }
 {
     match a {
-        FirstAnswer::Ring => desk_texts_inner::place_line(
-            buf,
-            at,
-            b"ring @\n",
-            &[],
-            ring.len(),
-            ring,
-        ),
+        FirstAnswer::Ring => desk_texts_inner::place_ring(buf, at, ring),
         FirstAnswer::Refused(r) => desk_texts_inner::place_refusal(buf, at, r),
     }
 }

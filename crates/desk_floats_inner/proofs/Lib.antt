@@ -1,2 +1,2 @@
--- Which patterns are numbers, and the patterns of digits (Patterns).
+-- Which patterns and floats are numbers, and the patterns of digits (Patterns).
 pub mod Patterns

@@ -1,5 +1,6 @@
--- Which patterns are numbers, and the patterns of digits.
+-- Which patterns and floats are numbers, and the patterns of digits.
 --     another-field, no-digits    a pattern with another exponent's field, or with no digits, is a number's or an infinity's
+--     number-bits                 a float that equals itself has bits of its own
 --     zero-by-zero                a division that makes what is not a number
 --     not-a-number                every other is what is not a number
 --     pattern-bytes               the pattern of digits by its four bytes
@@ -13,8 +14,8 @@ use borrow.Author.Tests.{ne-eqb, eq-eqb}
 use lib.Dec.{T, eqb}
 use lib.ListN.{length, getD, set, take, drop}
 use lib.Seq.{getD-take, getD-drop, getD-set-same, getD-set-other}
-use lib.Ieee.{Float, nan, binary32, nanBits, ofBits, ofFields, odd, div}
-use Rattle.words.proofs.Split.{lt, eq, gt, tri}
+use lib.Ieee.{Float, nan, inf, fin, binary32, isNan, nanBits, ne, ofBits, ofFields, odd, div}
+use Rattle.words.proofs.Split.{clash, lt, eq, gt, tri}
 use Rattle.desk_spec.specs.Floats.{patternOf, floatOf}
 use Rattle.desk_floats_inner.specs.Says.{FloatsSay}
 
@@ -29,6 +30,12 @@ another-field b h = rw (ne-eqb (b % 2147483648 / 8388608) 255 h) tt
 pub no-digits : (b : ℕ) → b % 8388608 ≡ 0 → T (not (nanBits binary32 b))
 unfolding nanBits
 no-digits b h = rw (eq-eqb (b % 8388608) 0 h) (never (eqb (b % 2147483648 / 8388608) 255))
+
+pub number-bits : (x : Float) → ne x x ≡ false → T (not (isNan x))
+unfolding isNan ne
+number-bits nan h = clash true refl h
+number-bits (inf s) h = tt
+number-bits (fin s m e) h = tt
 
 -- what is not a number, made by a division
 pub zero-by-zero : div binary32 (ofBits binary32 0) (ofBits binary32 0) ≡ nan

@@ -31,7 +31,7 @@ fn pattern_at(s: &[u8], at: usize) -> u32
 }
 
 // The float of a pattern. What is not a number is made by a division: no pattern of it is turned into a float.
-fn of_pattern(bits: u32) -> f32
+pub fn of_pattern(bits: u32) -> f32
     ensures { λ r. ⌜ r ≡ ofBits binary32 bits ⌝ }
 {
     if bits % 0x8000_0000 / 0x0080_0000 != 255 {

@@ -1,6 +1,7 @@
 -- The verb of a word, name after name and group after group.
 --     named-yes, named-no    by the test of one name
 --     named-then             a name, and what follows it
+--     either-then            two names, and what follows them
 --     group-then             a group, and what follows it
 use Prim.Native.Nat.{ℕ}
 use mathlib.Core.Path.{_≡_, refl, sym, ap, _∙_}
@@ -21,6 +22,10 @@ named-no t name v next e = sym (ap (λ (b : Bool). elim b [ true ↦ Known v | f
 -- what follows a name may be said otherwise
 pub named-then : (t name : List ℕ) (v : Verb) (r x y : Found) → r ≡ named t name v x → x ≡ y → r ≡ named t name v y
 named-then t name v r x y p q = p ∙ ap (λ (z : Found). named t name v z) q
+
+-- and what follows two names
+pub either-then : (t a b : List ℕ) (u v : Verb) (r x y : Found) → r ≡ named t a u (named t b v x) → x ≡ y → r ≡ named t a u (named t b v y)
+either-then t a b u v r x y p q = p ∙ ap (λ (z : Found). named t a u (named t b v z)) q
 
 -- and so may a group and what follows it
 pub group-then : (r f g x y : Found) → r ≡ orElse f x → f ≡ g → x ≡ y → r ≡ orElse g y

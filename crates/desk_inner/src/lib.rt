@@ -5,10 +5,12 @@ use desk_spec::Both;
 use desk_spec::Found;
 use desk_spec::Step;
 use desk_spec::Verb;
-ghost use Prim.Native.Nat.{_+_, _≤_};
+ghost use Prim.Native.Nat.{_+_, _<_, _≤_};
 ghost use mathlib.Core.Path.{_≡_};
 ghost use lib.ListN.{length};
 ghost use Rattle.stream_spec.specs.Blocks.{Puts};
+ghost use Rattle.text_spec.specs.Ascii.{space};
+ghost use Rattle.text_words_spec.specs.Words.{PieceAt};
 ghost use Rattle.desk_spec.specs.Verbs.{named, orElse, aboutOf, bothOf, countOf, stepOf, stripOf, cameraOf, shadesOf, verbOf};
 ghost use Rattle.desk_spec.specs.Answers.{VerbSays, DeskAnswers};
 ghost use Rattle.desk_texts_inner.specs.Says.{deskRoom};
@@ -21,6 +23,13 @@ fn or_named(t: &[u8], name: &[u8], v: Verb, next: Found) -> Found
         return Found::Known(v);
     }
     next
+}
+
+// One of two names, else what follows.
+fn or_either(t: &[u8], a: &[u8], u: Verb, b: &[u8], v: Verb, next: Found) -> Found
+    ensures { λ r. ⌜ r ≡ named (now (t .entry)) (now (a .entry)) u (named (now (t .entry)) (now (b .entry)) v next) ⌝ }
+{
+    or_named(t, a, u, or_named(t, b, v, next))
 }
 
 // The first that is known.
@@ -36,43 +45,69 @@ fn or_else(f: Found, next: Found) -> Found
 fn about_of(t: &[u8]) -> Found
     ensures { λ r. ⌜ r ≡ aboutOf (now (t .entry)) ⌝ }
 {
-    let d = or_named(t, b"place", Verb::About(About::Place), Found::Unknown);
-    let c = or_named(t, b"even", Verb::About(About::Even), d);
-    let b = or_named(t, b"home", Verb::About(About::Home), c);
-    or_named(t, b"class", Verb::About(About::Class), b)
+    let c = or_either(
+        t,
+        b"even",
+        Verb::About(About::Even),
+        b"place",
+        Verb::About(About::Place),
+        Found::Unknown,
+    );
+    or_either(
+        t,
+        b"class",
+        Verb::About(About::Class),
+        b"home",
+        Verb::About(About::Home),
+        c,
+    )
 }
 
 fn both_of(t: &[u8]) -> Found
     ensures { λ r. ⌜ r ≡ bothOf (now (t .entry)) ⌝ }
 {
-    let b = or_named(t, b"apart", Verb::Both(Both::Apart), Found::Unknown);
-    or_named(t, b"same", Verb::Both(Both::Same), b)
+    or_either(
+        t,
+        b"same",
+        Verb::Both(Both::Same),
+        b"apart",
+        Verb::Both(Both::Apart),
+        Found::Unknown,
+    )
 }
 
 fn count_of(t: &[u8]) -> Found
     ensures { λ r. ⌜ r ≡ countOf (now (t .entry)) ⌝ }
 {
-    let b = or_named(t, b"stock", Verb::Stock, Found::Unknown);
-    or_named(t, b"many", Verb::Many, b)
+    or_either(
+        t,
+        b"many",
+        Verb::Many,
+        b"stock",
+        Verb::Stock,
+        Found::Unknown,
+    )
 }
 
 fn step_of(t: &[u8]) -> Found
     ensures { λ r. ⌜ r ≡ stepOf (now (t .entry)) ⌝ }
 {
-    let d = or_named(
+    let c = or_either(
         t,
+        b"prenecklace",
+        Verb::About(About::Step(Step::Prenecklace)),
         b"bracelet",
         Verb::About(About::Step(Step::Bracelet)),
         Found::Unknown,
     );
-    let c = or_named(
+    or_either(
         t,
-        b"prenecklace",
-        Verb::About(About::Step(Step::Prenecklace)),
-        d,
-    );
-    let b = or_named(t, b"lyndon", Verb::About(About::Step(Step::Lyndon)), c);
-    or_named(t, b"next", Verb::About(About::Step(Step::Necklace)), b)
+        b"next",
+        Verb::About(About::Step(Step::Necklace)),
+        b"lyndon",
+        Verb::About(About::Step(Step::Lyndon)),
+        c,
+    )
 }
 
 fn strip_of(t: &[u8]) -> Found
@@ -84,15 +119,27 @@ fn strip_of(t: &[u8]) -> Found
 fn camera_of(t: &[u8]) -> Found
     ensures { λ r. ⌜ r ≡ cameraOf (now (t .entry)) ⌝ }
 {
-    let b = or_named(t, b"shade", Verb::Shade, Found::Unknown);
-    or_named(t, b"sight", Verb::Sight, b)
+    or_either(
+        t,
+        b"sight",
+        Verb::Sight,
+        b"shade",
+        Verb::Shade,
+        Found::Unknown,
+    )
 }
 
 fn shades_of(t: &[u8]) -> Found
     ensures { λ r. ⌜ r ≡ shadesOf (now (t .entry)) ⌝ }
 {
-    let b = or_named(t, b"after", Verb::After, Found::Unknown);
-    or_named(t, b"first", Verb::First, b)
+    or_either(
+        t,
+        b"first",
+        Verb::First,
+        b"after",
+        Verb::After,
+        Found::Unknown,
+    )
 }
 
 // The verb of a word, group after group.
@@ -131,6 +178,20 @@ fn place_verb(v: Verb, t: &[u8], buf: &mut [u8], at: usize) -> usize
     }
 }
 
+// What a line prints whose first word ends at the place e.
+fn place_word(line: &[u8], e: usize, buf: &mut [u8], at: usize) -> usize
+    requires { ⌜ length (now line) ≤ 4095 ⌝ }
+    requires { ⌜ PieceAt space (now line) e ⌝ }
+    requires { ⌜ e < length (now line) ⌝ }
+    requires { ⌜ at + deskRoom ≤ length (now buf) ⌝ }
+    ensures { λ r. ⌜ Puts (DeskAnswers (now (line .entry))) deskRoom (now (buf .entry)) at r (now (buf .exit)) ⌝ }
+{
+    match verb_of(&line[..e]) {
+        Found::Unknown => desk_texts_inner::place_malformed(buf, at),
+        Found::Known(v) => place_verb(v, &line[e + 1..], buf, at),
+    }
+}
+
 // What a line prints, its newline left out.
 pub fn place_answer(line: &[u8], buf: &mut [u8], at: usize) -> usize
     requires { ⌜ at + deskRoom ≤ length (now buf) ⌝ }
@@ -143,8 +204,5 @@ pub fn place_answer(line: &[u8], buf: &mut [u8], at: usize) -> usize
     if line.len() <= e {
         return desk_texts_inner::place_malformed(buf, at);
     }
-    match verb_of(&line[..e]) {
-        Found::Unknown => desk_texts_inner::place_malformed(buf, at),
-        Found::Known(v) => place_verb(v, &line[e + 1..], buf, at),
-    }
+    place_word(line, e, buf, at)
 }

@@ -37,7 +37,7 @@ fn place_outside(buf: &mut [u8], at: usize, x: f32) -> usize
         digit(b, 0x0010),
         digit(b, 1),
     ];
-    desk_texts_inner::place_line(buf, at, b"outside @\n", &[], 8, &digits)
+    desk_texts_inner::place_ring_line(buf, at, b"outside @\n", &digits)
 }
 
 fn place_sector(buf: &mut [u8], at: usize, a: Sector) -> usize
@@ -46,16 +46,9 @@ fn place_sector(buf: &mut [u8], at: usize, a: Sector) -> usize
     ensures { λ r. ⌜ LinePrinted (now (buf .entry)) at (toldSectorText a) r (now (buf .exit)) ⌝ }
 {
     match a {
-        Sector::Shade(s) => desk_texts_inner::place_line(
-            buf,
-            at,
-            b"shade %\n",
-            &[s as usize],
-            0,
-            b"",
-        ),
+        Sector::Shade(s) => desk_texts_inner::place_number(buf, at, b"shade %\n", s as usize),
         Sector::Outside(x) => place_outside(buf, at, x),
-        Sector::NotANumber => desk_texts_inner::place_line(buf, at, b"not a number\n", &[], 0, b""),
+        Sector::NotANumber => desk_texts_inner::place_words(buf, at, b"not a number\n"),
     }
 }
 
@@ -76,14 +69,7 @@ pub fn place_ring_read(buf: &mut [u8], at: usize, a: RingRead, ring: &[u8]) -> u
     ensures { λ r. ⌜ LinePrinted (now (buf .entry)) at (shadesText a (now (ring .entry))) r (now (buf .exit)) ⌝ }
 {
     match a {
-        RingRead::Written => desk_texts_inner::place_line(
-            buf,
-            at,
-            b"ring @\n",
-            &[],
-            ring.len(),
-            ring,
-        ),
+        RingRead::Written => desk_texts_inner::place_ring(buf, at, ring),
         RingRead::Refused(r) => desk_texts_inner::place_refusal(buf, at, r),
     }
 }

@@ -1,16 +1,18 @@
 -- From what is told of the words to what the question prints.
 --     put-spelt                 the rings and the reading lie end to end
---     no-most, put-most         how many sectors may be misread stands in front of them
---     no-sight, put-sight       and k in front of that
-use Prim.Native.Nat.{ℕ, _-_, _≤_}
+--     no-head, no-second, both-heads    two numbers in front, one after the other
+--     no-sight, put-sight       k, and how many sectors may be misread, stand in front of them
+use Prim.Native.Nat.{ℕ, _+_, _-_, _≤_}
 use mathlib.Core.Path.{_≡_, refl, sym, ap, _∙_}
 use mathlib.Core.Bool.{Bool, true, false}
 use mathlib.Core.Logic.{inl, inr}
 use mathlib.Core.List.{List, _∷_}
 use native.Mathlib.Omega.{arith}
 use lib.ListN.{length, take, drop, length-drop}
-use lib.Seq.{length-take-le}
+use lib.Seq.{length-take-le, drop-drop}
 use Rattle.text_spec.specs.Decimal.{decimal}
+use Rattle.text_words_spec.specs.Words.{pieces}
+use Rattle.text_words_spec.proofs.Pieces.{behind-same}
 use Rattle.stream_spec.specs.Blocks.{Puts}
 use Rattle.words.specs.Readings.{Sized}
 use Rattle.refusal.specs.declared.Refusal.{Refusal}
@@ -23,13 +25,14 @@ use Rattle.desk_spec.specs.Sights.{AsLong, lengthsOrder, SightedSays, alike, un
 use Rattle.desk_spec.specs.Answers.{AnswerShows, SeenSays}
 use Rattle.desk_texts_inner.specs.Says.{deskRoom}
 use Rattle.desk_texts_inner.proofs.Putting.{puts-on, put-good, put-as}
-use Rattle.desk_words_inner.specs.declared.Head.the-variants.{Number, Malformed}
+use Rattle.desk_words_inner.specs.declared.Head.the-variants as W
 use Rattle.desk_words_inner.specs.Says.{HeadSays}
 use Rattle.desk_words_inner.proofs.Heads.{rest-words}
 use Rattle.desk_words_inner.proofs.Shapes.{rest-all}
 use Rattle.desk_rings_inner.specs.Says.{ReadsRings, EndToEnd, EachSays}
 use Rattle.desk_rings_inner.proofs.Spaced.{words-cons}
-use Rattle.desk_sight_inner.specs.Says.{TellSays, ReadsMost, SeenAmong, SeenWithin}
+use Rattle.desk_sight_inner.specs.declared.Heads.the-variants.{Numbers, Malformed}
+use Rattle.desk_sight_inner.specs.Says.{TellSays, SeenAmong, HeadsSay}
 
 -- ---- rings and a reading
 
@@ -54,36 +57,51 @@ module _ (u out : List ℕ) (l m k e : ℕ) (p : EndToEnd u out l m) where
   put-spelt b x c at r c′ y =
       put-good (ReadsRings u) (SeenAmong k e) c at r c′ (p .ts, p .last) (p .reads) (puts-on _ _ (λ t z. record { answer = z .answer; says = told b x (z .answer) (z .says); is = z .is }) c at r c′ y)
 
--- ---- a number in front
+-- ---- two numbers in front
 
 module _ (t : List ℕ) where
-  pub no-most : HeadSays t Malformed → (q : ℕ × List (List ℕ) × List ℕ) → ReadsMost t q → ⊥
-  no-most h q x = let w = words-cons (q .1) (q .2) in h (q .0) (w .0) (w .1) (x .short) (x .words ∙ ap (λ (y : List (List ℕ)). decimal (q .0) ∷ y) (w .2))
+  pub no-head : HeadSays t W.Malformed → HeadsSay t Malformed
+  no-head h k e u us s r w = h k (decimal e) (u ∷ us) s w
 
-  pub no-sight : HeadSays t Malformed → (q : ℕ × ℕ × List (List ℕ) × List ℕ) → ReadsSight t q → ⊥
-  no-sight h q x = h (q .0) _ _ (x .short) (x .words)
+  module _ (k at : ℕ) (h : HeadSays t (W.Number k at)) where
+    pub no-second : HeadSays (take (length t - at) (drop at t)) W.Malformed → HeadsSay t Malformed
+    no-second n j e u us s r w = let m = rw (rest-all t at) at n in m e u us r (rest-words t k at h j (decimal e ∷ u ∷ us) w)
 
-  module _ (j at : ℕ) (h : HeadSays t (Number j at)) (b : List ℕ) (p r : ℕ) (b′ : List ℕ) where
-    pub put-most : (k : ℕ) → Puts (Replies (ReadsRings (take (length t - at) (drop at t))) (SeenAmong k j)) deskRoom b p r b′ → Puts (Replies (ReadsMost t) (SeenWithin k)) deskRoom b p r b′
-    put-most k x = put-as _ _ _ _ on back b p r b′ (rw (rest-all t at) at x)
-      where
-        on : (q : List (List ℕ) × List ℕ) → ReadsRings (drop at t) q → (y : ℕ × List (List ℕ) × List ℕ) × ReadsMost t y × ((u : List ℕ) → SeenAmong k j q u → SeenWithin k y u)
-        on q s = ((j, q .0, q .1), record { short = h .0; rings = s .rings; sectors = s .sectors; words = h .2 ∙ ap (λ (y : List (List ℕ)). decimal j ∷ y) (s .words) }, λ u y. y)
+    pub both-heads : (e f : ℕ) → HeadSays (take (length t - at) (drop at t)) (W.Number e f) → HeadsSay t (Numbers k e (at + f))
+    both-heads e f x =
+        let y = rw (rest-all t at) at x in (
+          h .0,
+          y .0,
+          omega (arith, h .1, y .1, length-drop at t),
+          h .2 ∙ ap (λ (z : List (List ℕ)). decimal k ∷ z) (y .2 ∙ ap (λ (z : List ℕ). decimal e ∷ pieces 32 z) (drop-drop f at t)),
+        )
 
-        back : (q : ℕ × List (List ℕ) × List ℕ) → ReadsMost t q → (y : List (List ℕ) × List ℕ) × ReadsRings (drop at t) y
-        back q y = ((q .1, q .2), record { rings = y .rings; sectors = y .sectors; words = rest-words t j at h (q .0) _ (y .words) })
+  pub no-sight : HeadsSay t Malformed → (q : ℕ × ℕ × List (List ℕ) × List ℕ) → ReadsSight t q → ⊥
+  no-sight h q x =
+      let w = words-cons (q .2) (q .3) in
+      h (q .0) (q .1) (w .0) (w .1) (x .short) (x .second) (x .words ∙ ap (λ (y : List (List ℕ)). decimal (q .0) ∷ decimal (q .1) ∷ y) (w .2))
 
-    pub put-sight : Puts (Replies (ReadsMost (take (length t - at) (drop at t))) (SeenWithin j)) deskRoom b p r b′ →
+  module _ (k e at : ℕ) (h : HeadsSay t (Numbers k e at)) (b : List ℕ) (p r : ℕ) (b′ : List ℕ) where
+    pub put-sight : Puts (Replies (ReadsRings (take (length t - at) (drop at t))) (SeenAmong k e)) deskRoom b p r b′ →
         Puts (Replies (ReadsSight t) (λ q. SeenSays (q .0) (q .1) (q .2) (q .3))) deskRoom b p r b′
     put-sight x = put-as _ _ _ _ on back b p r b′ (rw (rest-all t at) at x)
       where
-        on : (q : ℕ × List (List ℕ) × List ℕ) → ReadsMost (drop at t) q →
-            (y : ℕ × ℕ × List (List ℕ) × List ℕ) × ReadsSight t y × ((u : List ℕ) → SeenWithin j q u → SeenSays (y .0) (y .1) (y .2) (y .3) u)
+        on : (q : List (List ℕ) × List ℕ) → ReadsRings (drop at t) q →
+            (y : ℕ × ℕ × List (List ℕ) × List ℕ) × ReadsSight t y × ((u : List ℕ) → SeenAmong k e q u → SeenSays (y .0) (y .1) (y .2) (y .3) u)
         on q s = (
-          (j, q .0, q .1, q .2),
-          record { short = h .0; second = s .short; rings = s .rings; sectors = s .sectors; words = h .2 ∙ ap (λ (y : List (List ℕ)). decimal j ∷ y) (s .words) },
+          (k, e, q .0, q .1),
+          record {
+            short = h .0;
+            second = h .1;
+            rings = s .rings;
+            sectors = s .sectors;
+            words = h .3 ∙ ap (λ (y : List (List ℕ)). decimal k ∷ decimal e ∷ y) (s .words);
+          },
           λ u y. y,
         )
 
-        back : (q : ℕ × ℕ × List (List ℕ) × List ℕ) → ReadsSight t q → (y : ℕ × List (List ℕ) × List ℕ) × ReadsMost (drop at t) y
-        back q y = ((q .1, q .2, q .3), record { short = y .second; rings = y .rings; sectors = y .sectors; words = rest-words t j at h (q .0) _ (y .words) })
+        back : (q : ℕ × ℕ × List (List ℕ) × List ℕ) → ReadsSight t q → (y : List (List ℕ) × List ℕ) × ReadsRings (drop at t) y
+        back q y = (
+          (q .2, q .3),
+          record { rings = y .rings; sectors = y .sectors; words = behind-same _ _ _ _ (behind-same _ _ _ _ (sym (h .3) ∙ y .words)) },
+        )

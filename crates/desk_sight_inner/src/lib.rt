@@ -14,7 +14,7 @@ ghost use Rattle.desk_spec.specs.Texts.{sightText};
 ghost use Rattle.desk_spec.specs.Answers.{AnswerShows, VerbSays};
 ghost use Rattle.desk_texts_inner.specs.Says.{deskRoom, LinePrinted};
 ghost use Rattle.desk_rings_inner.specs.Says.{ReadsRings};
-ghost use Rattle.desk_sight_inner.specs.Says.{TellSays, ReadsMost, SeenAmong, SeenWithin};
+ghost use Rattle.desk_sight_inner.specs.Says.{TellSays, SeenAmong, HeadsSay};
 
 // The line of an answer.
 fn place_sighting(buf: &mut [u8], at: usize, a: Sighting) -> usize
@@ -26,28 +26,24 @@ fn place_sighting(buf: &mut [u8], at: usize, a: Sighting) -> usize
             target,
             shift,
             misread,
-        } => desk_texts_inner::place_line(
+        } => desk_texts_inner::place_plain(
             buf,
             at,
             b"front % turned % misread %\n",
             &[target, shift, misread],
-            0,
-            b"",
         ),
         Sighting::Back {
             target,
             shift,
             misread,
-        } => desk_texts_inner::place_line(
+        } => desk_texts_inner::place_plain(
             buf,
             at,
             b"back % turned % misread %\n",
             &[target, shift, misread],
-            0,
-            b"",
         ),
-        Sighting::Several => desk_texts_inner::place_line(buf, at, b"several\n", &[], 0, b""),
-        Sighting::Unknown => desk_texts_inner::place_line(buf, at, b"unknown\n", &[], 0, b""),
+        Sighting::Several => desk_texts_inner::place_words(buf, at, b"several\n"),
+        Sighting::Unknown => desk_texts_inner::place_words(buf, at, b"unknown\n"),
         Sighting::Refused(r) => desk_texts_inner::place_refusal(buf, at, r),
     }
 }
@@ -103,19 +99,22 @@ fn ask_sight(k: usize, most: usize, u: &[u8], out: &mut [u8], buf: &mut [u8], at
     }
 }
 
-// How many sectors may be misread, and the words behind it.
-fn place_most(k: usize, t: &[u8], buf: &mut [u8], at: usize) -> usize
-    requires { ⌜ length (now t) ≤ 4095 ⌝ }
-    requires { ⌜ at + deskRoom ≤ length (now buf) ⌝ }
-    ensures { λ r. ⌜ Puts (Replies (ReadsMost (now (t .entry))) (SeenWithin k)) deskRoom (now (buf .entry)) at r (now (buf .exit)) ⌝ }
+// The two numbers in front of the rings, k and how many sectors may be misread, and the place behind them.
+enum Heads {
+    Numbers(usize, usize, usize),
+    Malformed,
+}
+
+fn heads_of(t: &[u8]) -> Heads
+    ensures { λ r. ⌜ HeadsSay (now (t .entry)) r ⌝ }
 {
-    match desk_words_inner::head_of(t) {
-        Head::Malformed => desk_texts_inner::place_malformed(buf, at),
-        Head::Number(most, e) => {
-            let mut out = [0u8; 4095];
-            ask_sight(k, most, &t[e..], &mut out, buf, at)
-        }
-    }
+    let Head::Number(k, e) = desk_words_inner::head_of(t) else {
+        return Heads::Malformed;
+    };
+    let Head::Number(most, f) = desk_words_inner::head_of(&t[e..]) else {
+        return Heads::Malformed;
+    };
+    Heads::Numbers(k, most, e + f)
 }
 
 // What the text behind `sight` prints.
@@ -124,8 +123,11 @@ pub fn place_sight(t: &[u8], buf: &mut [u8], at: usize) -> usize
     requires { ⌜ at + deskRoom ≤ length (now buf) ⌝ }
     ensures { λ r. ⌜ Puts (VerbSays verbs.Sight (now (t .entry))) deskRoom (now (buf .entry)) at r (now (buf .exit)) ⌝ }
 {
-    match desk_words_inner::head_of(t) {
-        Head::Malformed => desk_texts_inner::place_malformed(buf, at),
-        Head::Number(k, e) => place_most(k, &t[e..], buf, at),
+    match heads_of(t) {
+        Heads::Malformed => desk_texts_inner::place_malformed(buf, at),
+        Heads::Numbers(k, most, e) => {
+            let mut out = [0u8; 4095];
+            ask_sight(k, most, &t[e..], &mut out, buf, at)
+        }
     }
 }

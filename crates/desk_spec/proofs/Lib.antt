@@ -1,4 +1,9 @@
--- What a text behind a verb prints, worked out by hand (Samples), that a text asks one question (Questions), that a reading among rings has one answer, and which rings are looked at (Sights), floats by their bits, worked out by hand (Floats), that a line prints one text (Unique).
+-- What is proved of the lines of the desk.
+--     Samples    what a text behind a verb prints, worked out by hand
+--     Questions  a text asks one question
+--     Sights     a reading among rings has one answer, and which rings are looked at
+--     Floats     floats by their bits, worked out by hand
+--     Unique     a line prints one text
 pub mod Samples
 pub mod Questions
 pub mod Sights

@@ -2,6 +2,7 @@
 
 use desk_spec::Step;
 use walk_bracelet_spec::Arrival;
+use walk_kind_laws::Kind;
 use walk_spec::Outcome;
 ghost use Prim.Native.Nat.{_+_, _≤_};
 ghost use mathlib.Core.Path.{_≡_};
@@ -9,7 +10,9 @@ ghost use lib.ListN.{length};
 ghost use Rattle.stream_spec.specs.Blocks.{Puts};
 ghost use Rattle.desk_spec.specs.declared.Step.the-variants as steps;
 ghost use Rattle.desk_spec.specs.Texts.{stepText, arrivalText};
-ghost use Rattle.desk_spec.specs.Answers.{StepPrints, blank};
+ghost use Rattle.walk_kind_laws.specs.Kinds.{kindOf};
+ghost use Rattle.walk_reading_spec.specs.Says.{StepFromSays};
+ghost use Rattle.desk_spec.specs.Answers.{KindPrints, StepPrints, blank};
 ghost use Rattle.desk_texts_inner.specs.Says.{deskRoom, longestRing, LinePrinted};
 
 // ---- what an answer prints
@@ -28,7 +31,7 @@ fn place_outcome(buf: &mut [u8], at: usize, a: Outcome, ring: &[u8]) -> usize
             ring.len(),
             ring,
         ),
-        Outcome::Done(m) => desk_texts_inner::place_line(buf, at, b"done moves %\n", &[m], 0, b""),
+        Outcome::Done(m) => desk_texts_inner::place_number(buf, at, b"done moves %\n", m),
         Outcome::Refused(r) => desk_texts_inner::place_refusal(buf, at, r),
     }
 }
@@ -39,44 +42,36 @@ fn place_arrival(buf: &mut [u8], at: usize, a: Arrival, ring: &[u8]) -> usize
     ensures { λ r. ⌜ LinePrinted (now (buf .entry)) at (arrivalText a (now (ring .entry))) r (now (buf .exit)) ⌝ }
 {
     match a {
-        Arrival::Moved => desk_texts_inner::place_line(buf, at, b"next @\n", &[], ring.len(), ring),
-        Arrival::Done => desk_texts_inner::place_line(buf, at, b"done\n", &[], 0, b""),
+        Arrival::Moved => desk_texts_inner::place_ring_line(buf, at, b"next @\n", ring),
+        Arrival::Done => desk_texts_inner::place_done(buf, at),
         Arrival::Refused(r) => desk_texts_inner::place_refusal(buf, at, r),
     }
 }
 
 // ---- the answer to each step
 
-fn answer_next(k: usize, w: &[u8], out: &mut [u8], buf: &mut [u8], at: usize) -> usize
+// A step to the next of a kind.
+fn step_to(kind: Kind, k: usize, w: &[u8], out: &mut [u8]) -> Outcome
+    ensures { λ r. ⌜ StepFromSays (kindOf kind) (now (w .entry)) k (now (out .entry)) r (now (out .exit)) ⌝ }
+{
+    match kind {
+        Kind::Necklace => walk_reading::next_necklace(w, k, out),
+        Kind::Lyndon => walk_reading::next_lyndon(w, k, out),
+        Kind::Prenecklace => walk_reading::next_prenecklace(w, k, out),
+    }
+}
+
+fn answer_kind(kind: Kind, k: usize, w: &[u8], out: &mut [u8], buf: &mut [u8], at: usize) -> usize
     requires { ⌜ length (now w) ≤ 4095 ⌝ }
     requires { ⌜ now out ≡ blank (length (now w)) ⌝ }
     requires { ⌜ at + deskRoom ≤ length (now buf) ⌝ }
-    ensures { λ r. ⌜ Puts (StepPrints steps.Necklace k (now (w .entry))) deskRoom (now (buf .entry)) at r (now (buf .exit)) ⌝ }
+    ensures { λ r. ⌜ Puts (KindPrints (kindOf kind) k (now (w .entry))) deskRoom (now (buf .entry)) at r (now (buf .exit)) ⌝ }
 {
-    let a = walk_reading::next_necklace(w, k, out);
+    let a = step_to(kind, k, w, out);
     place_outcome(buf, at, a, out)
 }
 
-fn answer_lyndon(k: usize, w: &[u8], out: &mut [u8], buf: &mut [u8], at: usize) -> usize
-    requires { ⌜ length (now w) ≤ 4095 ⌝ }
-    requires { ⌜ now out ≡ blank (length (now w)) ⌝ }
-    requires { ⌜ at + deskRoom ≤ length (now buf) ⌝ }
-    ensures { λ r. ⌜ Puts (StepPrints steps.Lyndon k (now (w .entry))) deskRoom (now (buf .entry)) at r (now (buf .exit)) ⌝ }
-{
-    let a = walk_reading::next_lyndon(w, k, out);
-    place_outcome(buf, at, a, out)
-}
-
-fn answer_prenecklace(k: usize, w: &[u8], out: &mut [u8], buf: &mut [u8], at: usize) -> usize
-    requires { ⌜ length (now w) ≤ 4095 ⌝ }
-    requires { ⌜ now out ≡ blank (length (now w)) ⌝ }
-    requires { ⌜ at + deskRoom ≤ length (now buf) ⌝ }
-    ensures { λ r. ⌜ Puts (StepPrints steps.Prenecklace k (now (w .entry))) deskRoom (now (buf .entry)) at r (now (buf .exit)) ⌝ }
-{
-    let a = walk_reading::next_prenecklace(w, k, out);
-    place_outcome(buf, at, a, out)
-}
-
+// One ring from each mirror pair: its answer tells no moves.
 fn answer_bracelet(k: usize, w: &[u8], out: &mut [u8], buf: &mut [u8], at: usize) -> usize
     requires { ⌜ length (now w) ≤ 4095 ⌝ }
     requires { ⌜ now out ≡ blank (length (now w)) ⌝ }
@@ -94,9 +89,9 @@ pub fn answer_step(v: Step, k: usize, w: &[u8], out: &mut [u8], buf: &mut [u8], 
     ensures { λ r. ⌜ Puts (StepPrints v k (now (w .entry))) deskRoom (now (buf .entry)) at r (now (buf .exit)) ⌝ }
 {
     match v {
-        Step::Necklace => answer_next(k, w, out, buf, at),
-        Step::Lyndon => answer_lyndon(k, w, out, buf, at),
-        Step::Prenecklace => answer_prenecklace(k, w, out, buf, at),
+        Step::Necklace => answer_kind(Kind::Necklace, k, w, out, buf, at),
+        Step::Lyndon => answer_kind(Kind::Lyndon, k, w, out, buf, at),
+        Step::Prenecklace => answer_kind(Kind::Prenecklace, k, w, out, buf, at),
         Step::Bracelet => answer_bracelet(k, w, out, buf, at),
     }
 }

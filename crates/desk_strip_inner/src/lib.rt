@@ -18,7 +18,7 @@ fn place_written(buf: &mut [u8], at: usize, a: Written, strip: &[u8]) -> usize
     ensures { λ r. ⌜ LinePrinted (now (buf .entry)) at (stripText a (now (strip .entry))) r (now (buf .exit)) ⌝ }
 {
     match a {
-        Written::Strip => desk_texts_inner::place_line(buf, at, b"@\n", &[], strip.len(), strip),
+        Written::Strip => desk_texts_inner::place_ring_line(buf, at, b"@\n", strip),
         Written::Refused(r) => desk_texts_inner::place_refusal(buf, at, r),
     }
 }

@@ -1,2 +1,3 @@
--- From texts that are placed to what a question prints (Putting).
+-- From texts that are placed to what a question prints (Putting); how long a text with numbers alone gets (Plain).
 pub mod Putting
+pub mod Plain

@@ -9,10 +9,11 @@ use refusal::Refusal;
 use rings::Class;
 use strip_spec::Position;
 ghost use Prim.Native.Nat.{_+_, _≤_};
+ghost use mathlib.Core.List.{[], _∷_};
 ghost use lib.ListN.{length};
 ghost use Rattle.text_fill_spec.specs.Filled.{filledText, longest};
-ghost use Rattle.desk_spec.specs.Texts.{refusalText, malformedText, nameText, classText, homeText, toldText, distanceText, placeText, manyText, stockText};
-ghost use Rattle.desk_texts_inner.specs.Says.{deskRoom, longestRing, LinePrinted};
+ghost use Rattle.desk_spec.specs.Texts.{plainText, countedRingText, refusalText, malformedText, nameText, classText, homeText, toldText, distanceText, placeText, manyText, stockText};
+ghost use Rattle.desk_texts_inner.specs.Says.{deskRoom, longestRing, longestPlain, ringLineText, doneText, LinePrinted};
 
 // A filled text that is no longer than a line.
 pub fn place_line(
@@ -30,6 +31,59 @@ pub fn place_line(
     text_fill_inner::place_filled(buf, at, text, numbers, n, ring)
 }
 
+// A short text with numbers and no ring.
+pub fn place_plain(buf: &mut [u8], at: usize, text: &[u8], numbers: &[usize]) -> usize
+    requires { ⌜ length (now text) ≤ longestPlain ⌝ }
+    requires { ⌜ at + deskRoom ≤ length (now buf) ⌝ }
+    ensures { λ r. ⌜ LinePrinted (now (buf .entry)) at (plainText (now (text .entry)) (now (numbers .entry))) r (now (buf .exit)) ⌝ }
+{
+    place_line(buf, at, text, numbers, 0, b"")
+}
+
+// One with no number.
+pub fn place_words(buf: &mut [u8], at: usize, text: &[u8]) -> usize
+    requires { ⌜ length (now text) ≤ longestPlain ⌝ }
+    requires { ⌜ at + deskRoom ≤ length (now buf) ⌝ }
+    ensures { λ r. ⌜ LinePrinted (now (buf .entry)) at (plainText (now (text .entry)) []) r (now (buf .exit)) ⌝ }
+{
+    place_plain(buf, at, text, &[])
+}
+
+// One with one number.
+pub fn place_number(buf: &mut [u8], at: usize, text: &[u8], x: usize) -> usize
+    requires { ⌜ length (now text) ≤ longestPlain ⌝ }
+    requires { ⌜ at + deskRoom ≤ length (now buf) ⌝ }
+    ensures { λ r. ⌜ LinePrinted (now (buf .entry)) at (plainText (now (text .entry)) (x ∷ [])) r (now (buf .exit)) ⌝ }
+{
+    place_plain(buf, at, text, &[x])
+}
+
+// A text with a ring and no number.
+pub fn place_ring_line(buf: &mut [u8], at: usize, text: &[u8], ring: &[u8]) -> usize
+    requires { ⌜ longest (now text) (length (now ring)) ≤ deskRoom ⌝ }
+    requires { ⌜ at + deskRoom ≤ length (now buf) ⌝ }
+    ensures { λ r. ⌜ LinePrinted (now (buf .entry)) at (countedRingText (now (text .entry)) [] (now (ring .entry))) r (now (buf .exit)) ⌝ }
+{
+    place_line(buf, at, text, &[], ring.len(), ring)
+}
+
+// The line of a ring that was asked for.
+pub fn place_ring(buf: &mut [u8], at: usize, ring: &[u8]) -> usize
+    requires { ⌜ length (now ring) ≤ longestRing ⌝ }
+    requires { ⌜ at + deskRoom ≤ length (now buf) ⌝ }
+    ensures { λ r. ⌜ LinePrinted (now (buf .entry)) at (ringLineText (now (ring .entry))) r (now (buf .exit)) ⌝ }
+{
+    place_ring_line(buf, at, b"ring @\n", ring)
+}
+
+// The line where there is no next ring.
+pub fn place_done(buf: &mut [u8], at: usize) -> usize
+    requires { ⌜ at + deskRoom ≤ length (now buf) ⌝ }
+    ensures { λ r. ⌜ LinePrinted (now (buf .entry)) at doneText r (now (buf .exit)) ⌝ }
+{
+    place_words(buf, at, b"done\n")
+}
+
 // The line of a refusal.
 pub fn place_refusal(buf: &mut [u8], at: usize, r: Refusal) -> usize
     requires { ⌜ at + deskRoom ≤ length (now buf) ⌝ }
@@ -37,7 +91,7 @@ pub fn place_refusal(buf: &mut [u8], at: usize, r: Refusal) -> usize
 {
     let x = refusal::number(r);
     let p = refusal::place(r);
-    place_line(buf, at, b"refused % at %\n", &[x, p], 0, b"")
+    place_plain(buf, at, b"refused % at %\n", &[x, p])
 }
 
 // The line of what is no question.
@@ -54,10 +108,10 @@ fn place_class(buf: &mut [u8], at: usize, c: Class) -> usize
     ensures { λ r. ⌜ LinePrinted (now (buf .entry)) at (nameText c) r (now (buf .exit)) ⌝ }
 {
     match c {
-        Class::Loose(p) => place_line(buf, at, b"loose at %\n", &[p], 0, b""),
-        Class::Opening(p) => place_line(buf, at, b"opening %\n", &[p], 0, b""),
-        Class::Repeating(p) => place_line(buf, at, b"repeating %\n", &[p], 0, b""),
-        Class::Single => place_line(buf, at, b"single\n", &[], 0, b""),
+        Class::Loose(p) => place_number(buf, at, b"loose at %\n", p),
+        Class::Opening(p) => place_number(buf, at, b"opening %\n", p),
+        Class::Repeating(p) => place_number(buf, at, b"repeating %\n", p),
+        Class::Single => place_words(buf, at, b"single\n"),
     }
 }
 
@@ -94,8 +148,8 @@ pub fn place_told(buf: &mut [u8], at: usize, a: Told) -> usize
     ensures { λ r. ⌜ LinePrinted (now (buf .entry)) at (toldText a) r (now (buf .exit)) ⌝ }
 {
     match a {
-        Told::Yes => place_line(buf, at, b"yes\n", &[], 0, b""),
-        Told::No => place_line(buf, at, b"no\n", &[], 0, b""),
+        Told::Yes => place_words(buf, at, b"yes\n"),
+        Told::No => place_words(buf, at, b"no\n"),
         Told::Refused(r) => place_refusal(buf, at, r),
     }
 }
@@ -105,7 +159,7 @@ pub fn place_distance(buf: &mut [u8], at: usize, a: Distance) -> usize
     ensures { λ r. ⌜ LinePrinted (now (buf .entry)) at (distanceText a) r (now (buf .exit)) ⌝ }
 {
     match a {
-        Distance::Apart(x) => place_line(buf, at, b"apart %\n", &[x], 0, b""),
+        Distance::Apart(x) => place_number(buf, at, b"apart %\n", x),
         Distance::Refused(r) => place_refusal(buf, at, r),
     }
 }
@@ -115,7 +169,7 @@ pub fn place_position(buf: &mut [u8], at: usize, a: Position) -> usize
     ensures { λ r. ⌜ LinePrinted (now (buf .entry)) at (placeText a) r (now (buf .exit)) ⌝ }
 {
     match a {
-        Position::Place(p) => place_line(buf, at, b"place %\n", &[p], 0, b""),
+        Position::Place(p) => place_number(buf, at, b"place %\n", p),
         Position::Refused(r) => place_refusal(buf, at, r),
     }
 }
@@ -129,7 +183,7 @@ pub fn place_many(buf: &mut [u8], at: usize, a: Counted, b: Counted) -> usize
         Counted::Refused(r) => place_refusal(buf, at, r),
         Counted::Rings(x) => match b {
             Counted::Refused(r) => place_refusal(buf, at, r),
-            Counted::Rings(y) => place_line(buf, at, b"% %\n", &[x, y], 0, b""),
+            Counted::Rings(y) => place_plain(buf, at, b"% %\n", &[x, y]),
         },
     }
 }
@@ -138,5 +192,5 @@ pub fn place_stock(buf: &mut [u8], at: usize, b: u8) -> usize
     requires { ⌜ at + deskRoom ≤ length (now buf) ⌝ }
     ensures { λ r. ⌜ LinePrinted (now (buf .entry)) at (stockText b) r (now (buf .exit)) ⌝ }
 {
-    place_line(buf, at, b"%\n", &[b as usize], 0, b"")
+    place_number(buf, at, b"%\n", b as usize)
 }

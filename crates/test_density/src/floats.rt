@@ -2,17 +2,6 @@
 
 ghost use Prim.Native.Nat.{_<_};
 
-// The float of a pattern. What is not a number is made by a division: no pattern of it is turned into a float.
-fn of_pattern(bits: u32) -> f32 {
-    if bits % 0x8000_0000 / 0x0080_0000 != 255 {
-        return f32::from_bits(bits);
-    }
-    if bits % 0x0080_0000 == 0 {
-        return f32::from_bits(bits);
-    }
-    0.0 / 0.0
-}
-
 // The number of two bytes, the first the higher.
 fn pair(high: u8, low: u8) -> u32
     ensures { λ r. ⌜ r < 65536 ⌝ }
@@ -29,7 +18,7 @@ fn joined(b: [u8; 4]) -> u32 {
 pub fn word(line: &[u8], before: usize) -> f32 {
     let mut b = [0u8; 4];
     test_cases::bytes(line, before, &mut b);
-    of_pattern(joined(b))
+    desk_floats_inner::of_pattern(joined(b))
 }
 
 fn digit(bits: u32, weight: u32) -> u8 {

@@ -40,7 +40,12 @@ returns c =
 
 returns-2 : tie.Need-returns-2
 returns-2 c =
-    put-reading (c .before .before .before .before .before .before .before .before .before .before .before .before .before .before .before .args .t .now) (c .before .before .before .before .before .before .before .before .before .before .k .given .0 .0) _ (rw (c .before .before .before .before .before .before .before .before .before .before .k .given .1) at (c .before .before .before .before .before .before .before .before .before .before .before .before .head-of .ensures)) (AboutSays (c .before .before .before .before .before .before .before .before .before .before .before .before .before .before .before .args .v)) _ _ _ _ (c .before .before .before .before .ask-about .ensures)
+    let asked = c .before .before .before .before in
+    let told = asked .before .before .before .before .before .before in
+    let head = told .before .before in
+    let facts = head .before .before .before in
+    let k = told .k .given in
+    put-reading (facts .args .t .now) (k .0 .0) _ (rw (k .1) at (head .head-of .ensures)) (AboutSays (facts .args .v)) _ _ _ _ (asked .ask-about .ensures)
 
 pub place-about-spec : {M : Type 1} → statement M
 place-about-spec =

@@ -19,10 +19,12 @@ returns-2 c =
 
 returns-3 : tie.Need-returns-3
 returns-3 c =
-    let p = rw (not-false (c .before .before .before .before .before .before .before .before .before .before .before .before .before .before .spell .result) (c .before .before .before .before .before .before .before .before .before .before .before .if1 .left)) at (c .before .before .before .before .before .before .before .before .before .before .before .before .before .before .spell .ensures) in
-    let q = rw (not-false (c .before .before .before .before .before .before .before .before .before .spell2 .result)
-    (c .before .before .before .before .before .before .if2 .left)) at
-    (c .before .before .before .before .before .before .before .before .before .spell2 .ensures) in
+    let second = c .before .before .before .before .before .before in
+    let first = second .before .before .before .before .before in
+    let spell = first .before .before .before .spell in
+    let spell2 = second .before .before .before .spell2 in
+    let p = rw (not-false (spell .result) (first .if1 .left)) at (spell .ensures) in
+    let q = rw (not-false (spell2 .result) (second .if2 .left)) at (spell2 .ensures) in
     put-good _ _ _ _ _ _ (_, _) (p, q) (c .before .before .answer-both .ensures)
 
 pub ask-both-spec : {M : Type 1} → statement M

@@ -1,5 +1,4 @@
 -- `desk_inner::count_of` meets its contract.
-use Rattle.desk_inner.proofs.Verbs.{named-then}
 use Rattle.desk_spec.specs.Verbs.{countOf}
 use borrow.Author.Needs.{needs}
 use Rattle.desk_inner.proofs.count_of.Statement.{statement}
@@ -7,9 +6,9 @@ use Rattle.desk_inner.proofs.count_of.Tie as tie
 
 returns : tie.Need-returns
 unfolding countOf
-returns c = named-then _ _ _ _ _ _ (c .or-named2 .ensures) (c .before .before .or-named .ensures)
+returns c = c .or-either .ensures
 
 pub count-of-spec : {M : Type 1} → statement M
 count-of-spec =
     tie.close
-    (tie.spec (λ c. search needs) (λ c κs. search needs) (λ c. search needs) (λ c κs. search needs) returns)
+    (tie.spec (λ c. search needs) (λ c. search needs) (λ c κs. search needs) returns)

@@ -1,21 +1,16 @@
 -- `desk_inner::step_of` meets its contract.
-use Rattle.desk_inner.proofs.Verbs.{named-then}
 use Rattle.desk_spec.specs.Verbs.{stepOf}
+use Rattle.desk_inner.proofs.Verbs.{either-then}
 use borrow.Author.Needs.{needs}
 use Rattle.desk_inner.proofs.step_of.Statement.{statement}
 use Rattle.desk_inner.proofs.step_of.Tie as tie
 
 returns : tie.Need-returns
 unfolding stepOf
-returns c =
-    let or-named4 = c .or-named4 in
-    let or-named3 = c .before .before .or-named3 in
-    let or-named2 = c .before .before .before .before .or-named2 in
-    let or-named = c .before .before .before .before .before .before .or-named in
-    named-then _ _ _ _ _ _ (or-named4 .ensures) (named-then _ _ _ _ _ _ (or-named3 .ensures) (named-then _ _ _ _ _ _ (or-named2 .ensures) (or-named .ensures)))
+returns c = either-then _ _ _ _ _ _ _ _ (c .or-either2 .ensures) (c .before .before .before .or-either .ensures)
 
 pub step-of-spec : {M : Type 1} → statement M
 step-of-spec =
     tie.close
-    (tie.spec (λ c. search needs) (λ c κs. search needs) (λ c. search needs) (λ c κs. search needs)
-    (λ c. search needs) (λ c κs. search needs) (λ c. search needs) (λ c κs. search needs) returns)
+    (tie.spec (λ c. search needs) (λ c. search needs) (λ c κs. search needs) (λ c. search needs) (λ c. search needs)
+    (λ c κs. search needs) returns)

@@ -1,6 +1,6 @@
 -- `desk_sector_inner::place_outside` meets its contract.
 use Rattle.text_fill_spec.specs.Filled.{slots, longest}
-use Rattle.desk_sector_inner.proofs.Numbers.{number-bits}
+use Rattle.desk_floats_inner.proofs.Patterns.{number-bits}
 use borrow.Author.Needs.{needs}
 use Rattle.desk_sector_inner.proofs.place_outside.Statement.{statement}
 use Rattle.desk_sector_inner.proofs.place_outside.Tie as tie
@@ -8,14 +8,14 @@ use Rattle.desk_sector_inner.proofs.place_outside.Tie as tie
 float-to-bits-b : tie.Need-float-to-bits-b
 float-to-bits-b c = number-bits _ (c .before .pre .0)
 
-place-line-requires : tie.Need-place-line-requires
+place-ring-line-requires : tie.Need-place-ring-line-requires
 unfolding slots longest
-place-line-requires c κs = search needs
+place-ring-line-requires c κs = search needs
 
 returns : tie.Need-returns
 returns c =
-    let line = c .before .before .place-line in
-    let d = c .before .before .before .before .before .before .before in
+    let line = c .before .before .place-ring-line in
+    let d = c .before .before .before .before .before .before in
     let d8 = d .digit8 .ensures in
     let d7 = d .before .digit7 .ensures in
     let d6 = d .before .before .digit6 .ensures in
@@ -31,4 +31,4 @@ place-outside-spec =
     tie.close
     (tie.spec float-to-bits-b (λ c κs. search needs) (λ c κs. search needs) (λ c κs. search needs)
     (λ c κs. search needs) (λ c κs. search needs) (λ c κs. search needs) (λ c κs. search needs) (λ c κs. search needs)
-    (λ c. search needs) (λ c. search needs) (λ c. search needs) place-line-requires (λ c. search needs) returns)
+    (λ c. search needs) (λ c. search needs) place-ring-line-requires (λ c. search needs) returns)

@@ -1,35 +1,31 @@
 -- `desk_sector_inner::place_sector` meets its contract.
-use Rattle.text_fill_spec.specs.Filled.{slots, longest}
 use borrow.Author.Needs.{needs}
 use Rattle.desk_sector_inner.proofs.place_sector.Statement.{statement}
 use Rattle.desk_sector_inner.proofs.place_sector.Tie as tie
-
-place-line-requires : tie.Need-place-line-requires
-unfolding slots longest
-place-line-requires c κs = search needs
 
 place-outside-requires : tie.Need-place-outside-requires
 place-outside-requires c κs =
     let facts = c .before .before .before .before .before in
     (rw (c .before .before .a2 .given .1) at (facts .pre .0), facts .pre .1)
 
-place-line-requires-2 : tie.Need-place-line-requires-2
-unfolding slots longest
-place-line-requires-2 c κs = search needs
-
 returns : tie.Need-returns
-returns c = rw (c .before .before .before .before .before .before .before .before .a .given .1) (c .before .before .place-line .ensures)
+returns c =
+    let arm = c .before .before .before .before .before .before .a in
+    rw (arm .given .1) (c .before .before .place-number .ensures)
 
 returns-2 : tie.Need-returns-2
-returns-2 c = rw (c .before .before .before .before .before .a2 .given .1) (c .before .before .place-outside .ensures)
+returns-2 c =
+    let arm = c .before .before .before .before .before .a2 in
+    rw (arm .given .1) (c .before .before .place-outside .ensures)
 
 returns-3 : tie.Need-returns-3
-returns-3 c = rw (c .before .before .before .before .before .before .before .enum-told .given .1) (c .before .before .place-line2 .ensures)
+returns-3 c =
+    let arm = c .before .before .before .before .before .enum-told in
+    rw (arm .given .1) (c .before .before .place-words .ensures)
 
 pub place-sector-spec : {M : Type 1} → statement M
 place-sector-spec =
     tie.close
-    (tie.spec (λ c. search needs) (λ c. search needs) (λ c. search needs) (λ c. search needs) (λ c. search needs)
-    place-line-requires (λ c. search needs) place-outside-requires (λ c. search needs) (λ c. search needs)
-    (λ c. search needs) (λ c. search needs) place-line-requires-2 (λ c. search needs) returns (λ c. search needs)
-    returns-2 (λ c. search needs) returns-3)
+    (tie.spec (λ c. search needs) (λ c. search needs) (λ c. search needs) (λ c κs. search needs) (λ c. search needs)
+    place-outside-requires (λ c. search needs) (λ c. search needs) (λ c κs. search needs) (λ c. search needs) returns
+    (λ c. search needs) returns-2 (λ c. search needs) returns-3)

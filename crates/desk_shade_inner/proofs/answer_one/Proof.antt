@@ -1,7 +1,4 @@
 -- `desk_shade_inner::answer_one` meets its contract.
-use lib.ListN.{getD}
-use lib.Ieee.{nan}
-use Rattle.desk_spec.specs.Floats.{firstCard}
 use Rattle.desk_sector_inner.proofs.Numbers.{numbered-read}
 use Rattle.desk_shade_inner.proofs.Asking.{put-one}
 use borrow.Author.Needs.{needs}
@@ -11,9 +8,8 @@ use Rattle.desk_shade_inner.proofs.answer_one.Tie as tie
 place-sector-read-requires : tie.Need-place-sector-read-requires
 place-sector-read-requires c κs =
     let facts = c .before .before .before .before .before .before .before in
-    let xs = facts .args .xs .now in
     let sector-shade = c .before .sector-shade in
-    (numbered-read (getD xs 2 nan) (facts .args .k) (firstCard xs) (sector-shade .result) (sector-shade .ensures), facts .pre .1)
+    (numbered-read _ _ _ (sector-shade .result) (sector-shade .ensures), facts .pre .1)
 
 returns : tie.Need-returns
 returns c =

@@ -6,30 +6,31 @@ use borrow.Author.Needs.{needs}
 use Rattle.desk_sight_inner.proofs.place_sight.Statement.{statement}
 use Rattle.desk_sight_inner.proofs.place_sight.Tie as tie
 
-enum-told : tie.Need-enum-told
-enum-told c = search needs
+sub-ask-sight : tie.Need-sub-ask-sight
+sub-ask-sight c = let h = rw (c .before .k .given .1) at (c .before .before .before .heads-of .ensures) in omega (arith, h .2)
 
-sub-place-most : tie.Need-sub-place-most
-sub-place-most c = let h = rw (c .before .k .given .1) at (c .before .before .before .head-of .ensures) in omega (arith, h .1)
-
-part-place-most-start : tie.Need-part-place-most-start
-part-place-most-start c = let h = rw (c .before .k .given .1) at (c .before .before .before .head-of .ensures) in omega (arith, h .1)
+part-ask-sight-start : tie.Need-part-ask-sight-start
+part-ask-sight-start c = let h = rw (c .before .k .given .1) at (c .before .before .before .heads-of .ensures) in omega (arith, h .2)
 
 returns : tie.Need-returns
 returns c =
-    let d = c .before .before .before .before in
-    let n = no-sight (d .before .before .before .before .before .args .t .now) (rw (d .enum-told .given .1) at (d .before .before .head-of .ensures)) in
-    put-bad _ _ _ _ _ _ n (c .before .before .place-malformed .ensures)
+    let told = c .before .before .before .before in
+    let heads = told .before .before in
+    let facts = heads .before .before .before in
+    put-bad _ _ _ _ _ _ (no-sight (facts .args .t .now) (rw (told .enum-told .given .1) at (heads .heads-of .ensures))) (c .before .before .place-malformed .ensures)
 
 returns-2 : tie.Need-returns-2
 returns-2 c =
-    let d = c .before .before .before .before .before .before in
-    let k = d .k .given in
-    put-sight (d .before .before .before .before .before .args .t .now) (k .0 .0) _ (rw (k .1) at (d .before .before .head-of .ensures)) _ _ _ _ (c .before .before .place-most .ensures)
+    let asked = c .before .before .before in
+    let told = asked .before .before .before .before .before in
+    let heads = told .before .before in
+    let facts = heads .before .before .before in
+    let k = told .k .given in
+    put-sight (facts .args .t .now) _ _ _ (rw (k .1) at (heads .heads-of .ensures)) _ _ _ _ (asked .ask-sight .ensures)
 
 pub place-sight-spec : {M : Type 1} → statement M
 place-sight-spec =
     tie.close
-    (tie.spec (λ c κs. search needs) enum-told (λ c κs. search needs) (λ c. search needs) sub-place-most
-    part-place-most-start (λ c. search needs) (λ c κs. search needs) (λ c. search needs) returns (λ c. search needs)
-    returns-2)
+    (tie.spec (λ c κs. search needs) (λ c. search needs) (λ c κs. search needs) (λ c. search needs) sub-ask-sight
+    part-ask-sight-start (λ c. search needs) (λ c. search needs) (λ c κs. search needs) (λ c. search needs) returns
+    (λ c. search needs) returns-2)

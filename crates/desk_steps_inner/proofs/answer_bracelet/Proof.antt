@@ -7,18 +7,16 @@ use Rattle.desk_steps_inner.proofs.answer_bracelet.Tie as tie
 
 place-arrival-requires : tie.Need-place-arrival-requires
 place-arrival-requires c κs =
-    let facts = c .before .before .before .before .before .before .before .before .before in
-    let next-bracelet = c .before .before .before .before .next-bracelet in
-    let g = facts in
-    (ring-short (g .args .w .now) _ _ (g .pre .0) (g .pre .1 .0) (next-bracelet .kept .1 .1 .0), g .pre .1 .1)
+    let called = c .before .before .before .before in
+    let asked = called .before .before .before .before .before in
+    (ring-short (asked .args .w .now) _ _ (asked .pre .0) (asked .pre .1 .0) (called .next-bracelet .kept .1 .1 .0), asked .pre .1 .1)
 
 returns : tie.Need-returns
 returns c =
-    let next-bracelet = c .before .before .before .before .before .before .before .next-bracelet in
-    let facts = c .before .before .before .before .before .before .before .before .before .before .before .before in
-    let place-arrival = c .before .before .place-arrival in
-    let s = next-bracelet in
-    put-shown _ _ (s .result, _) (rw (facts .pre .1 .0) at (s .ensures)) _ _ _ _ (place-arrival .ensures)
+    let placed = c .before .before in
+    let called = placed .before .before .before .before .before in
+    let asked = called .before .before .before .before .before in
+    put-shown _ _ (called .next-bracelet .result, _) (rw (asked .pre .1 .0) at (called .next-bracelet .ensures)) _ _ _ _ (placed .place-arrival .ensures)
 
 pub answer-bracelet-spec : {M : Type 1} → statement M
 answer-bracelet-spec =

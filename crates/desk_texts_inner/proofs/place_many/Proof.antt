@@ -1,29 +1,28 @@
 -- `desk_texts_inner::place_many` meets its contract.
-use Rattle.text_fill_spec.specs.Filled.{slots, longest}
 use borrow.Author.Needs.{needs}
 use Rattle.desk_texts_inner.proofs.place_many.Statement.{statement}
 use Rattle.desk_texts_inner.proofs.place_many.Tie as tie
 
-place-line-requires : tie.Need-place-line-requires
-unfolding slots longest
-place-line-requires c κs = search needs
-
 returns : tie.Need-returns
-returns c = rw (c .before .before .before .before .before .a .given .1) (c .before .before .place-refusal .ensures)
+returns c =
+    let arm = c .before .before .before .before .before .a in
+    rw (arm .given .1) (c .before .before .place-refusal .ensures)
 
 returns-2 : tie.Need-returns-2
-returns-2 c = rw (c .before .before .before .before .before .before .before .before .a2 .given .1, c .before .before .before .before .before .b .given .1) (c .before .before .place-refusal2 .ensures)
+returns-2 c =
+    let inner = c .before .before .before .before .before .b in
+    let outer = c .before .before .before .before .before .before .before .before .a2 in
+    rw (outer .given .1, inner .given .1) (c .before .before .place-refusal2 .ensures)
 
 returns-3 : tie.Need-returns-3
 returns-3 c =
-    rw (
-      c .before .before .before .before .before .before .before .before .before .before .before .a2 .given .1,
-      c .before .before .before .before .before .before .before .before .b2 .given .1,
-    ) (c .before .before .place-line .ensures)
+    let inner = c .before .before .before .before .before .before .before .b2 in
+    let outer = c .before .before .before .before .before .before .before .before .before .before .a2 in
+    rw (outer .given .1, inner .given .1) (c .before .before .place-plain .ensures)
 
 pub place-many-spec : {M : Type 1} → statement M
 place-many-spec =
     tie.close
     (tie.spec (λ c. search needs) (λ c κs. search needs) (λ c. search needs) (λ c. search needs)
-    (λ c κs. search needs) (λ c. search needs) (λ c. search needs) (λ c. search needs) (λ c. search needs)
-    place-line-requires (λ c. search needs) returns (λ c. search needs) returns-2 (λ c. search needs) returns-3)
+    (λ c κs. search needs) (λ c. search needs) (λ c. search needs) (λ c. search needs) (λ c κs. search needs)
+    (λ c. search needs) returns (λ c. search needs) returns-2 (λ c. search needs) returns-3)

@@ -1,11 +1,11 @@
 -- `test_density::floats::print` is safe: only a number's pattern is asked for.
 use borrow.Author.Needs.{needs}
-use Rattle.test_density.proofs.Patterns.{number-no-nan}
+use Rattle.desk_floats_inner.proofs.Patterns.{number-bits}
 use Rattle.test_density.proofs.floats.print.Statement.{statement}
 use Rattle.test_density.proofs.floats.print.Tie as tie
 
 float-to-bits-print-pattern : tie.Need-float-to-bits-print-pattern
-float-to-bits-print-pattern c = number-no-nan _ (c .if1 .left)
+float-to-bits-print-pattern c = number-bits _ (c .if1 .left)
 
 pub print-spec : {M : Type 1} → statement M
 print-spec =

@@ -1,2 +1,0 @@
--- Which patterns and floats are numbers (Patterns).
-pub mod Patterns
