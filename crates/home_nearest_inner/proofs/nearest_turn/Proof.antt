@@ -21,10 +21,14 @@ loop-holds : tie.Need-loop-holds Inv-loop μ-loop
 loop-holds c = not-yet-start
 
 returns : tie.Need-returns Inv-loop μ-loop
-returns c = not-yet-found (c .before .before .before .loop .inv) (c .before .before .before .before .before .before .pre .2) (c .before .differing-below .ensures) (c .before .before .loop-test .taken) (c .if1 .taken)
+returns c =
+    not-yet-found (c .before .before .before .loop .inv) (c .before .before .before .before .before .before .pre .2) (c .before .differing-below .ensures) (c .before .before .loop-test .taken)
+    (c .if1 .taken)
 
 loop-again : tie.Need-loop-again Inv-loop μ-loop
-loop-again c = not-yet-on (c .before .before .before .loop .inv) (c .before .before .before .before .before .before .pre .2) (c .before .differing-below .ensures) (c .before .before .loop-test .taken) (c .if1 .left)
+loop-again c =
+    not-yet-on (c .before .before .before .loop .inv) (c .before .before .before .before .before .before .pre .2) (c .before .differing-below .ensures) (c .before .before .loop-test .taken)
+    (c .if1 .left)
 
 returns-2 : tie.Need-returns-2 Inv-loop μ-loop
 returns-2 c = absurd (not-yet-never (c .before .before .before .before .pre .0) (c .before .loop .inv) (c .loop-test .left))

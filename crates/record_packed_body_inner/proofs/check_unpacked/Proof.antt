@@ -49,7 +49,8 @@ add-t24 c =
 returns-2 : tie.Need-returns-2
 returns-2 c =
     let g = rw (c .before .before .before .j .given .1) at (c .before .before .before .before .before .look .ensures) in
-    not-home (holding (c .before .before .before .before .before .before .before)) (g .1) (c .before .before .before .before .before .before .padding-clear .ensures) (c .byte-of2 .ensures) (g .0) (g .2) (c .before .if2 .taken)
+    not-home (holding (c .before .before .before .before .before .before .before)) (g .1) (c .before .before .before .before .before .before .padding-clear .ensures)
+    (c .byte-of2 .ensures) (g .0) (g .2) (c .before .if2 .taken)
 
 returns-3 : tie.Need-returns-3
 returns-3 c = bad-shade (holding (c .before .before .before .before .before .before)) (c .byte-of .ensures) (rw (c .before .before .i .given .1) at (c .before .before .before .before .look .ensures))

@@ -27,30 +27,38 @@ repeat-requires c κs = above-asks (search needs) (c .before .before .before .be
 
 array-share-prefix-ring : tie.Need-array-share-prefix-ring
 array-share-prefix-ring c =
-    let q = c .before .before .before .before .before .before .before .before .pre in
-    omega (arith, above-size (search needs) q (c .before .before .before .before .before .scan .ensures) (c .before .before .before .if1 .left) (c .before .repeat .ensures), q .size)
+    let d = c .before .before .before .before .before in
+    let z = above-size (search needs) (d .before .before .before .pre) (d .scan .ensures) (c .before .before .before .if1 .left) (c .before .repeat .ensures) in
+    omega (arith, z, d .before .before .before .pre .size)
 
 slice-aggregate-is-counted : tie.Need-slice-aggregate-is-counted
 slice-aggregate-is-counted c =
-    let q = c .before .before .before .before .before .before .before .before .before .pre in
-    sym (length-take-le _ _ (omega (arith, above-size (search needs) q (c .before .before .before .before .before .before .scan .ensures) (c .before .before .before .before .if1 .left) (c .before .before .repeat .ensures), q .size)))
+    let d = c .before .before .before .before .before .before in
+    let z = above-size (search needs) (d .before .before .before .pre) (d .scan .ensures) (c .before .before .before .before .if1 .left) (c .before .before .repeat .ensures) in
+    sym (length-take-le _ _ (omega (arith, z, d .before .before .before .pre .size)))
 
 is-counted-requires : tie.Need-is-counted-requires
-is-counted-requires c κs = above-run (search needs) (c .before .before .before .before .before .before .before .before .before .pre) (c .before .before .before .before .before .before .scan .ensures) (c .before .before .before .before .if1 .left) (c .before .before .repeat .ensures)
+is-counted-requires c κs =
+    let d = c .before .before .before .before .before .before in
+    above-run (search needs) (d .before .before .before .pre) (d .scan .ensures) (c .before .before .before .before .if1 .left) (c .before .before .repeat .ensures)
 
 returns-2 : tie.Need-returns-2
 returns-2 c =
-    above-found (search needs) (c .before .before .before .before .before .before .before .before .before .before .before .pre) (c .before .before .before .before .before .before .before .before .scan .ensures) (c .before .before .before .before .before .before .if1 .left) (c .before .before .before .before .repeat .ensures)
+    let d = c .before .before .before .before .before .before .before .before in
+    above-found (search needs) (d .before .before .before .pre) (d .scan .ensures) (c .before .before .before .before .before .before .if1 .left) (c .before .before .before .before .repeat .ensures)
     (sym (c .if2 .taken) ∙ c .before .is-counted .ensures)
 
 seek-requires-2 : tie.Need-seek-requires-2
 seek-requires-2 c κs =
-    above-on (search needs) (c .before .before .before .before .before .before .before .before .before .before .before .pre) (c .before .before .before .before .before .before .before .before .scan .ensures) (c .before .before .before .before .before .before .if1 .left) (c .before .before .before .before .repeat .ensures)
+    let d = c .before .before .before .before .before .before .before .before in
+    above-on (search needs) (d .before .before .before .pre) (d .scan .ensures) (c .before .before .before .before .before .before .if1 .left) (c .before .before .before .before .repeat .ensures)
     (sym (c .if2 .left) ∙ c .before .is-counted .ensures)
 
 returns-3 : tie.Need-returns-3
 returns-3 c =
-    above-answers (search needs) (c .before .before .before .before .before .before .before .before .before .before .before .before .pre) (c .before .before .before .before .before .before .before .before .before .scan .ensures) (c .before .before .before .before .before .before .before .if1 .left) (c .before .before .before .before .before .repeat .ensures)
+    let d = c .before .before .before .before .before .before .before .before .before in
+    above-answers (search needs) (d .before .before .before .pre) (d .scan .ensures) (c .before .before .before .before .before .before .before .if1 .left)
+    (c .before .before .before .before .before .repeat .ensures)
     (sym (c .before .if2 .left) ∙ c .before .before .is-counted .ensures) (c .seek2 .ensures)
 
 pub above-spec : {M : Type 1} → statement M

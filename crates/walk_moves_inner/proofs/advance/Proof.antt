@@ -37,10 +37,14 @@ raised-there : (c : tie.After-raise Inv-loop μ-loop) →
     let l = c .before .before .before .before .before .loop in
     let i = c .before .before .before .last-low .result in
     (next : List ℕ) → next ≡ repeated (length (l .ring)) (raised i (l .ring)) → Risen (a .kind) (a .k) (a .ring .now) (l .lyn) (l .moves) i next
-raised-there c next moved = risen (c .before .before .before .before .before .before .before .pre) (c .before .before .before .before .before .loop .inv) (c .before .before .before .last-low .ensures) (omega (arith, c .before .before .if1 .left)) moved
+raised-there c next moved =
+    let l = c .before .before .before .before .before in
+    risen (l .before .before .pre) (l .loop .inv) (c .before .before .before .last-low .ensures) (omega (arith, c .before .before .if1 .left)) moved
 
 add-moves : tie.Need-add-moves Inv-loop μ-loop
-add-moves c = let l = c .before .before .before .before .before .before .before .loop in omega (arith, l .inv .few, l .inv .short, c .before .before .before .before .before .before .before .before .before .pre .fits)
+add-moves c =
+    let l = c .before .before .before .before .before .before .before in
+    omega (arith, l .loop .inv .few, l .loop .inv .short, l .before .before .pre .fits)
 
 of-kind-requires : tie.Need-of-kind-requires Inv-loop μ-loop
 of-kind-requires c κs = let d = c .before .before in omega (arith, raised-there d _ (d .raise .ensures))
