@@ -1,3 +1,2 @@
--- What becomes of a block (Blocks), and of a time through the catalogue (Times).
-pub mod Blocks
+-- What becomes of a time through the catalogue (Times).
 pub mod Times

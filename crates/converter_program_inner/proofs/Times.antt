@@ -1,9 +1,8 @@
 -- A time through the catalogue, block after block.
+--     fit-still                        lent and given back, there is as much room
 --     reached-none                     before the first block
---     at-on, at-done, at-stopped       behind a block
---     same-whole, same-changed         the two ends compared
---     once-reached, once-stopped       how a time ended
---     written-through, written-stopped, through-whole    how both did
+--     at-on, at-ends, at-within        behind a block: another is read, or none
+--     written-through, through-whole   how both times ended
 use Prim.Native.Nat.{ℕ, _+_, _<_, _≤_}
 use mathlib.Core.Path.{_≡_, refl, sym, ap, _∙_}
 use mathlib.Core.Logic.{_⊎_, inl, inr}
@@ -12,7 +11,7 @@ use mathlib.Core.List.{List, [], _++_}
 use native.Mathlib.Omega.{arith}
 use lib.Dec.{eqb}
 use lib.ListN.{length, take, length-append, length-take}
-use borrow.Author.Tests.{eq-eqb, ne-eqb, eqb-true, eqb-false}
+use borrow.Author.Tests.{eqb-true}
 use Rattle.words.proofs.Split.{passes, fails, test}
 use Rattle.refusal.specs.declared.Refusal.{Refusal}
 use Rattle.converter_spec.specs.Converts.{Damaged}
@@ -24,26 +23,29 @@ use Rattle.converter_blocks_spec.proofs.Places.{number-moved, damage-moved, dam
 use Rattle.converter_blocks_spec.proofs.Through.{goes-on}
 use Rattle.program_ending_inner.specs.declared.Ending.{Ending}
 use Rattle.program_ending_inner.specs.declared.Ending.the-variants as E
-use Rattle.converter_program_inner.specs.declared.Turn.{Turn}
-use Rattle.converter_program_inner.specs.declared.Turn.the-variants.{On, Done, Stopped}
-use Rattle.converter_program_inner.specs.declared.Pass.{Pass}
-use Rattle.converter_program_inner.specs.declared.Pass.the-variants as P
-use Rattle.converter_program_inner.specs.Says.{failedOf, Why, BlockBecomes, AtSays, Reached, StopSays, PassSays, sameEnd, WrittenSays, ThroughSays}
-use Rattle.converter_program_inner.specs.Says.AtSays.{unread, full, ended}
+use Rattle.program_passes_inner.specs.Passes.{limit, failedOf, sameEnd, Course, goesFurther, EndWithin, finishAt}
+use Rattle.program_passes_inner.specs.Passes.Course.{On, Done, Stopped}
+use Rattle.program_passes_inner.proofs.Courses.{too-far}
+use Rattle.converter_pass_inner.specs.Says.{mostBlock, BuffersFit, Why, BlockBecomes, AtSays}
+use Rattle.converter_pass_inner.specs.Says.AtSays.{unread, read}
+use Rattle.converter_program_inner.specs.Says.{Reached, StopSays, PassSays, WrittenSays, ThroughSays}
 use Rattle.converter_program_inner.specs.Says.ThroughSays.{stopped, whole}
+
+pub fit-still : (b d f g : List ℕ) → BuffersFit b d → length f ≡ length b → length g ≡ length d → BuffersFit f g
+fit-still b d f g r k l = record { some = omega (arith, r .some); short = omega (arith, r .short); same = omega (arith, r .same) }
 
 pub reached-none : (w : Bool) → Reached w 0
 reached-none false = ([], refl, none refl)
 reached-none true = ([], [], refl, done refl refl)
 
--- ---- which of the three a turn is
+-- ---- which of the three a course is
 
-abbrev which : Turn → ℕ
+abbrev which : Course → ℕ
 which (On m) = 0
 which (Done m) = 1
 which (Stopped t) = 2
 
-abbrev why : Turn → Ending
+abbrev why : Course → Ending
 why (On m) = E.Whole
 why (Done m) = E.Whole
 why (Stopped t) = t
@@ -71,41 +73,39 @@ failed-stops : (w : Bool) → StopSays w (failedOf w)
 failed-stops false = refl
 failed-stops true = refl
 
-module _ (w : Bool) (p : ℕ) (b d : List ℕ) (v : Turn) (q : Reached w p) where
+module _ (w : Bool) (p : ℕ) (b d : List ℕ) (v : Course) (q : Reached w p) where
   -- a block that is not the last has a whole record
   pub at-on : (m : ℕ) → v ≡ On m → 68 ≤ length b → AtSays w p b d v → (0 < m) × (m ≤ length b) × Reached w (p + m)
   at-on m e l (unread f) = absurd (let z : _≡_ {A = ℕ} 0 2 = ap which (sym e ∙ f) in omega arith)
-  at-on m e l (full k) = let h : BlockBecomes w p b false d (On m) = rw e at k in (goes-on b m (h .1) l, h .1 .0, on-reached w p b d m h q)
-  at-on m e l (ended n i k) = let h : BlockBecomes w p (take n b) true (take n d) (On m) = rw e at k in absurd (true≢false (h .0))
+  at-on m e l (read true n i k) = let h : BlockBecomes w p (take n b) true (take n d) (On m) = rw e at k in absurd (true≢false (h .0))
+  at-on m e l (read false n i k) =
+      let h : BlockBecomes w p (take n b) false (take n d) (On m) = rw e at k in
+      let j : length (take n b) ≡ length b = omega (arith, i, length-take n b) in
+      (goes-on (take n b) m (h .1) (omega (arith, j, l)), omega (arith, j, h .1 .0), on-reached w p (take n b) (take n d) m h q)
 
-  pub at-done : (m : ℕ) → v ≡ Done m → AtSays w p b d v → (m ≤ length b) × Reached w (p + m)
+  at-done : (m : ℕ) → v ≡ Done m → AtSays w p b d v → (m ≤ length b) × Reached w (p + m)
   at-done m e (unread f) = absurd (let z : _≡_ {A = ℕ} 1 2 = ap which (sym e ∙ f) in omega arith)
-  at-done m e (full k) = let h : BlockBecomes w p b false d (Done m) = rw e at k in absurd (true≢false (sym (h .0)))
-  at-done m e (ended n i k) =
-      let h : BlockBecomes w p (take n b) true (take n d) (Done m) = rw e at k in
-      (omega (arith, h .1, length-take n b), done-reached w p (take n b) true (take n d) m h q)
+  at-done m e (read last n i k) =
+      let h : BlockBecomes w p (take n b) last (take n d) (Done m) = rw e at k in
+      (omega (arith, h .1, length-take n b), done-reached w p (take n b) last (take n d) m h q)
 
-  pub at-stopped : (t : Ending) → v ≡ Stopped t → AtSays w p b d v → StopSays w t
+  at-stopped : (t : Ending) → v ≡ Stopped t → AtSays w p b d v → StopSays w t
   at-stopped t e (unread f) = let g : t ≡ failedOf w = ap why (sym e ∙ f) in rw g (failed-stops w)
-  at-stopped t e (full k) = let h : BlockBecomes w p b false d (Stopped t) = rw e at k in why-stops w p b false t h q
-  at-stopped t e (ended n i k) = let h : BlockBecomes w p (take n b) true (take n d) (Stopped t) = rw e at k in why-stops w p (take n b) true t h q
+  at-stopped t e (read last n i k) = let h : BlockBecomes w p (take n b) last (take n d) (Stopped t) = rw e at k in why-stops w p (take n b) last t h q
 
--- ---- the two ends
+module _ (w : Bool) (p : ℕ) (b d : List ℕ) (q : Reached w p) where
+  -- how a time ends with a block
+  pub at-ends : (v : Course) → 68 ≤ length b → goesFurther p v ≡ false → AtSays w p b d v → PassSays w (finishAt p v)
+  at-ends (On m) l e h = (p + m, too-far p m e, at-on w p b d (On m) q m refl l h .2)
+  at-ends (Done m) l e h = at-done w p b d (Done m) q m refl h .1
+  at-ends (Stopped t) l e h = at-stopped w p b d (Stopped t) q t refl h
 
-pub same-whole : (a b : ℕ) → a ≡ b → E.Whole ≡ sameEnd a b
-unfolding sameEnd
-same-whole a b e = rw (eq-eqb a b e, sameEnd) refl
+  pub at-within : (v : Course) → p < limit → length b ≤ mostBlock → AtSays w p b d v → EndWithin p v
+  at-within (On m) i l h = tt
+  at-within (Done m) i l h = omega (arith, at-done w p b d (Done m) q m refl h .0)
+  at-within (Stopped t) i l h = tt
 
-pub same-changed : (a b : ℕ) → (a ≡ b → ⊥) → E.Changed ≡ sameEnd a b
-unfolding sameEnd
-same-changed a b e = rw (ne-eqb a b e, sameEnd) refl
-
--- how a time ended
-pub once-reached : (w : Bool) (v : Pass) (e : ℕ) → v ≡ P.Through e → PassSays w v → Reached w e
-once-reached w v e f h = rw f at h
-
-pub once-stopped : (w : Bool) (v : Pass) (t : Ending) → v ≡ P.Stopped t → PassSays w v → StopSays w t
-once-stopped w v t f h = rw f at h
+-- ---- how a time ended
 
 -- both went through
 pub written-through : (e a : ℕ) (t : Ending) → Reached true a → t ≡ sameEnd e a → WrittenSays e t

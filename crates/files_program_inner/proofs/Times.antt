@@ -1,10 +1,8 @@
--- What becomes of a block, and of a time through the file.
+-- What becomes of a time through the file.
 --     roomy-still                      lent and given back, there is as much room
---     taken-room, taken-turn           a block that was gone through
 --     reached-none                     before the first block
---     at-on, at-done, at-stopped       behind a block
---     once-told, once-stopped, written-told, through-written    how a time ended, and both
---     refused-first, turn-is-on, turn-is-done, turn-is-stopped    what the code answers
+--     at-on, at-ends, at-within        behind a block: another is read, or none
+--     written-told, through-written    how both times ended
 use Prim.Native.Nat.{ℕ, _+_, _*_, _<_, _≤_}
 use mathlib.Core.Path.{_≡_, refl, sym, ap, _∙_}
 use mathlib.Core.Logic.{_⊎_, inl, inr}
@@ -13,7 +11,6 @@ use mathlib.Core.List.{List, [], _++_}
 use native.Mathlib.Omega.{arith}
 use lib.Dec.{eqb}
 use lib.ListN.{length, take, drop, length-append, length-take, length-drop}
-use lib.Seq.{sets-eq, take-at}
 use borrow.Author.Tests.{eqb-true}
 use Rattle.words.proofs.Split.{passes, fails, test}
 use Rattle.refusal.specs.declared.Refusal.{Refusal}
@@ -21,64 +18,45 @@ use Rattle.refusal.specs.declared.Checked.the-variants as C
 use Rattle.refusal.specs.Numbers.{numberOf, placeOf}
 use Rattle.program_ending_inner.specs.declared.Ending.{Ending}
 use Rattle.program_ending_inner.specs.declared.Ending.the-variants as E
-use Rattle.converter_program_inner.specs.Says.{sameEnd}
+use Rattle.program_passes_inner.specs.Passes.{limit, sameEnd, Course, goesFurther, EndWithin, finishAt}
+use Rattle.program_passes_inner.specs.Passes.Course.{On, Done, Stopped}
+use Rattle.program_passes_inner.proofs.Courses.{too-far}
 use Rattle.files_spec.specs.declared.Job.{Job}
 use Rattle.files_spec.specs.declared.How.{How}
 use Rattle.files_spec.specs.declared.How.the-variants as H
 use Rattle.files_spec.specs.declared.Taken.{Taken}
 use Rattle.files_spec.specs.Shows.{lastText}
-use Rattle.files_spec.specs.Blocks.{Records, none, BadRecord, Left, TakenSays, TakeSays}
+use Rattle.files_spec.specs.Blocks.{Records, none, BadRecord, Left, TakenSays}
 use Rattle.files_spec.proofs.Cut.{records-joined, told-over, told-bad}
-use Rattle.files_text_inner.specs.Room.{recordRoom}
-use Rattle.files_records_inner.specs.Says.{share}
-use Rattle.files_program_inner.specs.declared.Time.{Time}
-use Rattle.files_program_inner.specs.declared.Time.the-variants.{Only, First, Second}
-use Rattle.files_program_inner.specs.declared.Turn.{Turn}
-use Rattle.files_program_inner.specs.declared.Turn.the-variants.{On, Done, Stopped}
-use Rattle.files_program_inner.specs.declared.Pass.{Pass}
-use Rattle.files_program_inner.specs.declared.Pass.the-variants as P
-use Rattle.files_program_inner.specs.Says.{SmallFile, RoomyFile, onceFor, writesOf, fileFailedOf, refusedOf, turnOf, FileTurnSays, FileAtSays, FileReached, FileTold, Broken, FileStopSays, FilePassSays, FileWrittenSays, FileThroughSays}
-use Rattle.files_program_inner.specs.Says.FileTurnSays.{gone, unwritten}
-use Rattle.files_program_inner.specs.Says.FileAtSays.{unread, full, ended}
+use Rattle.files_pass_inner.specs.declared.Time.{Time}
+use Rattle.files_pass_inner.specs.declared.Time.the-variants.{Only, First, Second}
+use Rattle.files_pass_inner.specs.Says.{most, RoomyFile, fileFailedOf, refusedOf, turnOf, FileTurnSays, FileAtSays}
+use Rattle.files_pass_inner.specs.Says.FileTurnSays.{gone, unwritten}
+use Rattle.files_pass_inner.specs.Says.FileAtSays.{unread, read}
+use Rattle.files_program_inner.specs.Says.{onceFor, FileReached, FileTold, Broken, FileStopSays, FilePassSays, FileWrittenSays, FileThroughSays}
 use Rattle.files_program_inner.specs.Says.FileThroughSays.{stopped, whole}
 
 pub roomy-still : (b d f g : List ℕ) → RoomyFile b d → length f ≡ length b → length g ≡ length d → RoomyFile f g
 roomy-still b d f g r k l = record { some = omega (arith, r .some); small = record { short = omega (arith, r .small .short); room = omega (arith, r .small .room) } }
 
--- ---- a block
+-- ---- which of the three a course is
 
--- there is room for what it shows
-pub taken-room : (b d : List ℕ) → SmallFile b d → length b * share + recordRoom ≤ length d
-taken-room b d s = omega (arith, s .short, s .room)
-
--- what it shows stands at the beginning of the output
-shown-stands : (j : Job) (p : ℕ) (b : List ℕ) (last : Bool) (o : List ℕ) (v : Taken) (d : List ℕ) (s : TakeSays j p b last o v d) → take (length (s .text)) d ≡ s .text
-shown-stands j p b last o v d s =
-    rw (s .placed .bytes ∙ sets-eq (s .text) o 0 (omega (arith, s .placed .next, s .fits)))
-    (take-at (s .text) (drop (0 + length (s .text)) o) (length (s .text)) refl)
-
-pub taken-turn : (j : Job) (w : Time) (p : ℕ) (b : List ℕ) (last : Bool) (o : List ℕ) (u : Taken) (d : List ℕ) (v : Turn) → TakeSays j p b last o u d →
-    v ≡ turnOf w (u .how) (u .used) → FileTurnSays j w p b last d v
-taken-turn j w p b last o u d v s e = gone u (s .text) (s .says) (shown-stands j p b last o u d s) e
-
--- ---- which of the three a turn is
-
-abbrev which : Turn → ℕ
+abbrev which : Course → ℕ
 which (On m) = 0
 which (Done m) = 1
 which (Stopped t) = 2
 
-abbrev sizeOf : Turn → ℕ
+abbrev sizeOf : Course → ℕ
 sizeOf (On m) = m
 sizeOf (Done m) = m
 sizeOf (Stopped t) = 0
 
-abbrev why : Turn → Ending
+abbrev why : Course → Ending
 why (On m) = E.Whole
 why (Done m) = E.Whole
 why (Stopped t) = t
 
-other : (a b : Turn) (x y : ℕ) → a ≡ b → which a ≡ x → which b ≡ y → (x ≡ y → ⊥) → ⊥
+other : (a b : Course) (x y : ℕ) → a ≡ b → which a ≡ x → which b ≡ y → (x ≡ y → ⊥) → ⊥
 other a b x y e f g n = n (sym f ∙ ap which e ∙ g)
 
 on-is : (w : Time) (h : How) (n m : ℕ) → turnOf w h n ≡ On m → (h ≡ H.On) × (n ≡ m)
@@ -129,7 +107,7 @@ failed-stops j Only = λ e. let z : _≡_ {A = ℕ} 0 1 = ap second e in omega a
 failed-stops j First = λ e. let z : _≡_ {A = ℕ} 0 1 = ap second e in omega arith
 failed-stops j Second = refl
 
-module _ (j : Job) (w : Time) (p : ℕ) (q : FileReached j p) (v : Turn) where
+module _ (j : Job) (w : Time) (p : ℕ) (q : FileReached j p) (v : Course) where
   -- a block that is not the last has a whole record
   turn-on : (b : List ℕ) (last : Bool) (d : List ℕ) (m : ℕ) → v ≡ On m → 68 ≤ length b → FileTurnSays j w p b last d v → (0 < m) × (m ≤ length b) × FileReached j (p + m)
   turn-on b last d m e l (unwritten f g) = absurd (other _ _ 0 2 (sym e ∙ g) refl refl (λ z. omega arith))
@@ -163,26 +141,33 @@ module _ (j : Job) (w : Time) (p : ℕ) (q : FileReached j p) (v : Turn) where
 
   pub at-on : (b d : List ℕ) (m : ℕ) → v ≡ On m → 68 ≤ length b → FileAtSays j w p b d v → (0 < m) × (m ≤ length b) × FileReached j (p + m)
   at-on b d m e l (unread f) = absurd (other _ _ 0 2 (sym e ∙ f) refl refl (λ z. omega arith))
-  at-on b d m e l (full h) = turn-on b false d m e l h
-  at-on b d m e l (ended n i h) = absurd (turn-last (take n b) d m e h)
+  at-on b d m e l (read true n i h) = absurd (turn-last (take n b) d m e h)
+  at-on b d m e l (read false n i h) =
+      let j : length (take n b) ≡ length b = omega (arith, i, length-take n b) in
+      let k = turn-on (take n b) false d m e (omega (arith, j, l)) h in
+      (k .0, omega (arith, j, k .1), k .2)
 
-  pub at-done : (b d : List ℕ) (m : ℕ) → v ≡ Done m → FileAtSays j w p b d v → (m ≤ length b) × FileTold j (p + m)
+  at-done : (b d : List ℕ) (m : ℕ) → v ≡ Done m → FileAtSays j w p b d v → (m ≤ length b) × FileTold j (p + m)
   at-done b d m e (unread f) = absurd (other _ _ 1 2 (sym e ∙ f) refl refl (λ z. omega arith))
-  at-done b d m e (full h) = turn-done b false d m e h
-  at-done b d m e (ended n i h) = let k = turn-done (take n b) true d m e h in (omega (arith, k .0, length-take n b), k .1)
+  at-done b d m e (read last n i h) = let k = turn-done (take n b) last d m e h in (omega (arith, k .0, length-take n b), k .1)
 
-  pub at-stopped : (b d : List ℕ) (t : Ending) → v ≡ Stopped t → FileAtSays j w p b d v → FileStopSays j w t
+  at-stopped : (b d : List ℕ) (t : Ending) → v ≡ Stopped t → FileAtSays j w p b d v → FileStopSays j w t
   at-stopped b d t e (unread f) = let k : t ≡ fileFailedOf w = ap why (sym e ∙ f) in rw k (failed-stops j w)
-  at-stopped b d t e (full h) = turn-stopped b false d t e h
-  at-stopped b d t e (ended n i h) = turn-stopped (take n b) true d t e h
+  at-stopped b d t e (read last n i h) = turn-stopped (take n b) last d t e h
+
+module _ (j : Job) (w : Time) (p : ℕ) (q : FileReached j p) (b d : List ℕ) where
+  -- how a time ends with a block
+  pub at-ends : (v : Course) → 68 ≤ length b → goesFurther p v ≡ false → FileAtSays j w p b d v → FilePassSays j w (finishAt p v)
+  at-ends (On m) l e h = (p + m, too-far p m e, at-on j w p q (On m) b d m refl l h .2)
+  at-ends (Done m) l e h = at-done j w p q (Done m) b d m refl h .1
+  at-ends (Stopped t) l e h = at-stopped j w p q (Stopped t) b d t refl h
+
+  pub at-within : (v : Course) → p < limit → length b ≤ most → FileAtSays j w p b d v → EndWithin p v
+  at-within (On m) i l h = tt
+  at-within (Done m) i l h = omega (arith, at-done j w p q (Done m) b d m refl h .0)
+  at-within (Stopped t) i l h = tt
 
 -- ---- how a time ended
-
-pub once-told : (j : Job) (w : Time) (v : Pass) (e : ℕ) → v ≡ P.Through e → FilePassSays j w v → FileTold j e
-once-told j w v e f h = rw f at h
-
-pub once-stopped : (j : Job) (w : Time) (v : Pass) (t : Ending) → v ≡ P.Stopped t → FilePassSays j w v → FileStopSays j w t
-once-stopped j w v t f h = rw f at h
 
 -- the two ends compared
 pub written-told : (j : Job) (e a : ℕ) (t : Ending) → FileTold j a → t ≡ sameEnd e a → FileWrittenSays j e t
@@ -192,21 +177,6 @@ written-told j e a t h f =
       | passes g ↦ let q : FileTold j e = rw (eqb-true e a g) h in inl (q, rw (g, sameEnd) at f)
       | fails g ↦ let q : t ≡ E.Changed = rw (g, sameEnd) at f in inr (rw q refl)
     ]
-
--- ---- what the code answers
-
-pub refused-first : (w : Time) (r : Refusal) (x p : ℕ) → w ≡ First → x ≡ numberOf r → p ≡ placeOf r → E.Refused x p ≡ refusedOf w r
-refused-first w r x p e f g = rw (e, f, g) refl
-
-module _ (w : Time) (h : How) (m : ℕ) where
-  pub turn-is-on : h ≡ H.On → On m ≡ turnOf w h m
-  turn-is-on e = rw e refl
-
-  pub turn-is-done : h ≡ H.Over → Done m ≡ turnOf w h m
-  turn-is-done e = rw e refl
-
-  pub turn-is-stopped : (r : Refusal) (t : Ending) → h ≡ H.Refused r → t ≡ refusedOf w r → Stopped t ≡ turnOf w h m
-  turn-is-stopped r t e f = rw (e, f) refl
 
 -- ---- the whole
 

@@ -1,137 +1,33 @@
 // The programs that go through a file whole. No public calls: no contract can say what is read and written.
-// They go through the file on standard input block after block. A block begins where the last whole piece of the one before it ended, and is read from there. A telling
-// goes through it once, and writes as it goes; a program that writes nothing where the file is bad goes through it twice, and writes the second time.
+// They go through the file on standard input block after block. A telling goes through it once, and writes as it goes; a program that writes nothing where the file is
+// bad goes through it twice, and writes the second time.
 
-use converter_program_inner::LIMIT;
-use files_spec::How;
+use files_pass_inner::Time;
 use files_spec::Job;
 use libc::SEEK_CUR;
 use libc::STDERR_FILENO;
 use libc::STDIN_FILENO;
-use libc::STDOUT_FILENO;
 use program_ending_inner::Ending;
-use program_reading_inner::Most;
-use refusal::Refusal;
-ghost use Prim.Native.Nat.{_<_};
+use program_passes_inner::Pass;
 ghost use mathlib.Core.Path.{_≡_};
 ghost use mathlib.Core.Bool.{true, false};
-ghost use Rattle.converter_program_inner.specs.Says.{limit};
-ghost use Rattle.files_program_inner.specs.Says.{RoomyFile, SmallFile, onceFor, writesOf, fileFailedOf, refusedOf, turnOf, FileTurnSays, FileAtSays, FilePassSays, FileWrittenSays, FileThroughSays};
-
-// Which time through the file it is: the only one, the first, or the second.
-pub enum Time {
-    Only,
-    First,
-    Second,
-}
-
-// What becomes of a block: so many bytes of it are done, or all of it and it was the last, or that is as far as it goes.
-pub enum Turn {
-    On(usize),
-    Done(usize),
-    Stopped(Ending),
-}
-
-// How a time through the file ended: at its end, which is at that place, or before it.
-pub enum Pass {
-    Through(usize),
-    Stopped(Ending),
-}
-
-// Whether what a block shows is written.
-fn writes(time: Time) -> bool
-    ensures { λ r. ⌜ r ≡ writesOf time ⌝ }
-{
-    match time {
-        Time::Only => true,
-        Time::First => false,
-        Time::Second => true,
-    }
-}
-
-// How a run ends where a read fails.
-fn failed(time: Time) -> Ending
-    ensures { λ r. ⌜ r ≡ fileFailedOf time ⌝ }
-{
-    match time {
-        Time::Only => Ending::Unread,
-        Time::First => Ending::Unread,
-        Time::Second => Ending::Lost,
-    }
-}
-
-// How a run ends where a piece is refused: the only time that is told in what was written; the second time it is not the file that was checked.
-fn refused(time: Time, r: Refusal) -> Ending
-    ensures { λ e. ⌜ e ≡ refusedOf time r ⌝ }
-{
-    match time {
-        Time::Only => Ending::Whole,
-        Time::First => Ending::Refused(refusal::number(r), refusal::place(r)),
-        Time::Second => Ending::Changed,
-    }
-}
-
-// What becomes of a block that was gone through.
-fn turn_of(time: Time, how: How, used: usize) -> Turn
-    ensures { λ r. ⌜ r ≡ turnOf time how used ⌝ }
-{
-    match how {
-        How::On => Turn::On(used),
-        How::Over => Turn::Done(used),
-        How::Refused(r) => Turn::Stopped(refused(time, r)),
-    }
-}
-
-// A block that begins at `at` of the file.
-fn take_block(job: Job, time: Time, at: usize, block: &[u8], last: bool, out: &mut [u8]) -> Turn
-    requires { ⌜ at < limit ⌝ }
-    requires { ⌜ SmallFile (now block) (now out) ⌝ }
-    ensures { λ r. ⌜ FileTurnSays job time at (now (block .entry)) last (now (out .exit)) r ⌝ }
-{
-    let v = files_records_inner::take_records(job, at, block, last, out);
-    let m = v.len;
-    if writes(time) {
-        if !io::write_all(STDOUT_FILENO, &out[..m]) {
-            return Turn::Stopped(Ending::Unwritten);
-        }
-    }
-    let how = v.how;
-    turn_of(time, how, v.used)
-}
-
-// Reads a block from `at` on, and goes through it. Only a read of 0 bytes tells that it is the last.
-fn take_at(job: Job, time: Time, at: usize, block: &mut [u8], out: &mut [u8]) -> Turn
-    requires { ⌜ at < limit ⌝ }
-    requires { ⌜ RoomyFile (now block) (now out) ⌝ }
-    ensures { λ r. ⌜ FileAtSays job time at (now (block .exit)) (now (out .exit)) r ⌝ }
-{
-    match converter_program_inner::read_from(at, block) {
-        Most::Full => take_block(job, time, at, block, false, out),
-        Most::Ended(got) => take_block(job, time, at, &block[..got], true, out),
-        Most::Failed => Turn::Stopped(failed(time)),
-    }
-}
+ghost use Rattle.program_passes_inner.specs.Passes.{finishOf};
+ghost use Rattle.files_pass_inner.specs.Says.{RoomyFile};
+ghost use Rattle.files_program_inner.specs.Says.{onceFor, FilePassSays, FileWrittenSays, FileThroughSays};
 
 // Once through the file.
 fn go_once(job: Job, time: Time, block: &mut [u8], out: &mut [u8]) -> Pass
     requires { ⌜ RoomyFile (now block) (now out) ⌝ }
-    ensures { λ r. ⌜ FilePassSays job time r ⌝ }
+    ensures { λ r. ⌜ FilePassSays job time (finishOf r) ⌝ }
 {
     let mut at = 0;
-    while at < LIMIT {
-        match take_at(job, time, at, block, out) {
-            Turn::On(m) => {
-                at += m;
-            }
-            Turn::Done(m) => {
-                return Pass::Through(at + m);
-            }
-            Turn::Stopped(t) => {
-                return Pass::Stopped(t);
-            }
+    loop {
+        let t = files_pass_inner::take_at(job, time, at, block, out);
+        if !program_passes_inner::goes_on(at, t) {
+            return program_passes_inner::finish(at, t);
         }
+        at += t.used;
     }
-    Pass::Stopped(Ending::TooLong)
 }
 
 // The only time.
@@ -140,10 +36,11 @@ fn go_only(job: Job, block: &mut [u8], out: &mut [u8]) -> Ending
     requires { ⌜ onceFor job ≡ true ⌝ }
     ensures { λ r. ⌜ FileThroughSays job r ⌝ }
 {
-    match go_once(job, Time::Only, block, out) {
-        Pass::Through(_) => Ending::Whole,
-        Pass::Stopped(t) => t,
+    let only = go_once(job, Time::Only, block, out);
+    if only.through {
+        return Ending::Whole;
     }
+    only.why
 }
 
 // The second time, behind a first that went through to the place `end`.
@@ -151,10 +48,11 @@ fn go_again(job: Job, end: usize, block: &mut [u8], out: &mut [u8]) -> Ending
     requires { ⌜ RoomyFile (now block) (now out) ⌝ }
     ensures { λ r. ⌜ FileWrittenSays job end r ⌝ }
 {
-    match go_once(job, Time::Second, block, out) {
-        Pass::Through(again) => converter_program_inner::same_end(end, again),
-        Pass::Stopped(t) => t,
+    let second = go_once(job, Time::Second, block, out);
+    if second.through {
+        return program_passes_inner::same_end(end, second.at);
     }
+    second.why
 }
 
 // Both times.
@@ -163,10 +61,11 @@ fn go_twice(job: Job, block: &mut [u8], out: &mut [u8]) -> Ending
     requires { ⌜ onceFor job ≡ false ⌝ }
     ensures { λ r. ⌜ FileThroughSays job r ⌝ }
 {
-    match go_once(job, Time::First, block, out) {
-        Pass::Through(end) => go_again(job, end, block, out),
-        Pass::Stopped(t) => t,
+    let first = go_once(job, Time::First, block, out);
+    if first.through {
+        return go_again(job, first.at, block, out);
     }
+    first.why
 }
 
 // As often as the job asks. What does not stand at the beginning of a file cannot be read from there.

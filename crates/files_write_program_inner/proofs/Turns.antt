@@ -21,7 +21,7 @@ use Rattle.record_spec.specs.declared.Kind.{Kind}
 use Rattle.stream_spec.specs.Lines.{ended}
 use Rattle.program_ending_inner.specs.declared.Ending.{Ending}
 use Rattle.program_ending_inner.specs.declared.Ending.the-variants as E
-use Rattle.converter_program_inner.specs.Says.{sameEnd}
+use Rattle.program_passes_inner.specs.Passes.{sameEnd}
 use Rattle.files_text_inner.specs.Room.{recordRoom}
 use Rattle.files_write_spec.specs.Inputs.{LinesWrite, FirstRefused}
 use Rattle.files_write_spec.specs.RingLines.{mostKept}
@@ -173,7 +173,7 @@ pub stopped-once : (x : Kind) (w : Time) (v : Pass) (t : Ended) → v ≡ P.Stop
 stopped-once x w v t f h = rw f at h
 
 -- too long, behind lines that all write
-pub too-long : (x : Kind) (w : Time) (at : ℕ) (u : List ℕ) (n : ℕ) → Rattle.converter_program_inner.specs.Says.limit ≤ at → Reached x at u n → LineStopSays x w (As E.TooLong)
+pub too-long : (x : Kind) (w : Time) (at : ℕ) (u : List ℕ) (n : ℕ) → Rattle.program_passes_inner.specs.Passes.limit ≤ at → Reached x at u n → LineStopSays x w (As E.TooLong)
 too-long x w at u n h (c, l, g) = (c, g .text, omega (arith, l, h), g .writes)
 
 -- the two ends compared

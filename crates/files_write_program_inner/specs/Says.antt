@@ -27,7 +27,7 @@ use Rattle.program_ending_inner.specs.declared.Ending.{Ending}
 use Rattle.program_ending_inner.specs.declared.Ending.the-variants as E
 use Rattle.program_ending_inner.specs.Text.{endingText}
 use Rattle.program_refusal_spec.specs.Text.{refusedLineText}
-use Rattle.converter_program_inner.specs.Says.{limit}
+use Rattle.program_passes_inner.specs.Passes.{limit}
 use Rattle.files_text_inner.specs.Room.{recordRoom}
 use Rattle.files_write_spec.specs.RingLines.{mostKept, LineWrites}
 use Rattle.files_write_spec.specs.Inputs.{LinesWrite, FirstRefused}

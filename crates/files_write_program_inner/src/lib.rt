@@ -1,13 +1,13 @@
 // The programs that write a catalogue from lines, a ring each. No public calls: no contract can say what is read and written.
 // They go through the lines on standard input twice: the first time each is checked, and nothing is written; the second time the records are written, block after block.
 
-use converter_program_inner::LIMIT;
 use files_write_inner::Lined;
 use libc::SEEK_CUR;
 use libc::STDERR_FILENO;
 use libc::STDIN_FILENO;
 use libc::STDOUT_FILENO;
 use program_ending_inner::Ending;
+use program_passes_inner::LIMIT;
 use program_reading_inner::Most;
 use record_spec::Kind;
 use refusal::Refusal;
@@ -16,7 +16,7 @@ ghost use mathlib.Core.Path.{_≡_};
 ghost use mathlib.Core.Bool.{true};
 ghost use lib.ListN.{length, take};
 ghost use Rattle.text_spec.specs.Put.{Placed};
-ghost use Rattle.converter_program_inner.specs.Says.{limit};
+ghost use Rattle.program_passes_inner.specs.Passes.{limit};
 ghost use Rattle.files_text_inner.specs.Room.{recordRoom};
 ghost use Rattle.files_write_spec.specs.RingLines.{mostKept};
 ghost use Rattle.files_write_inner.specs.Says.{mostEnded};
@@ -148,7 +148,7 @@ fn take_at(
     requires { ⌜ lines ≤ at ⌝ }
     ensures { λ r. ⌜ LineAtSays kind time (take len (now (line .entry))) (now (block .exit)) lines (now (out .entry)) r (now (line .exit)) (now (out .exit)) ⌝ }
 {
-    match converter_program_inner::read_from(at, block) {
+    match program_passes_inner::read_from(at, block) {
         Most::Failed => Turn::Stopped(failed(time)),
         Most::Full => take_block(kind, time, block, line, len, lines, out),
         Most::Ended(got) => {
@@ -192,7 +192,7 @@ fn go_again(kind: Kind, end: usize, block: &mut [u8], line: &mut [u8], out: &mut
     ensures { λ r. ⌜ LineWrittenSays kind end r ⌝ }
 {
     match go_once(kind, Time::Second, block, line, out) {
-        Pass::Through(again) => Ended::As(converter_program_inner::same_end(end, again)),
+        Pass::Through(again) => Ended::As(program_passes_inner::same_end(end, again)),
         Pass::Stopped(t) => t,
     }
 }

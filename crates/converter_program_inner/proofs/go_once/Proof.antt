@@ -1,117 +1,110 @@
 -- `converter_program_inner::go_once` meets its contract. What is done so far are good records, and each block that is not the last has a whole one, so
 -- that the next begins further on.
-use Prim.Native.Nat.{_-_}
-use mathlib.Core.Path.{_≡_, refl, _∙_}
+use Prim.Native.Nat.{_-_, _<_}
+use mathlib.Core.Path.{_≡_, refl, sym, _∙_}
 use native.Mathlib.Omega.{arith}
 use lib.ListN.{length}
-use Rattle.converter_program_inner.specs.Says.{limit, BuffersFit, Reached}
-use Rattle.converter_program_inner.proofs.Blocks.{roomy-still}
-use Rattle.converter_program_inner.proofs.Times.{reached-none, at-on, at-done, at-stopped}
+use borrow.Author.Tests.{not-true, not-false}
+use Rattle.program_passes_inner.specs.Passes.{limit, courseOf}
+use Rattle.program_passes_inner.proofs.Courses.{course-more}
+use Rattle.converter_pass_inner.specs.Says.{BuffersFit}
+use Rattle.converter_program_inner.specs.Says.{Reached}
+use Rattle.converter_program_inner.proofs.Times.{fit-still, reached-none, at-on, at-ends, at-within}
 use borrow.Author.Needs.{needs}
 use Rattle.converter_program_inner.proofs.go_once.Statement.{statement}
 use Rattle.converter_program_inner.proofs.go_once.Tie as tie
 
 abbrev Inv-loop : tie.InvT-loop
-Inv-loop writing block₀ new₀ at₀ block new at = BuffersFit block new × (length block ≡ length block₀) × (length new ≡ length new₀) × Reached writing at
+Inv-loop writing block₀ new₀ at₀ block new at =
+    BuffersFit block new × (length block ≡ length block₀) × (length new ≡ length new₀) × (at < limit) × Reached writing at
 
 abbrev μ-loop : tie.MeasureT-loop
 μ-loop writing block₀ new₀ at₀ block new at = limit - at
 
 loop-holds : tie.Need-loop-holds Inv-loop μ-loop
-loop-holds c = (c .before .before .pre, refl, refl, reached-none (c .before .before .args .writing))
+loop-holds c =
+    let pre = c .before .before .pre in
+    let args = c .before .before .args in
+    (pre, refl, refl, omega arith, reached-none (args .writing))
 
 take-at-requires : tie.Need-take-at-requires Inv-loop μ-loop
-take-at-requires c κs = (c .before .before .loop-test .taken, c .before .before .before .loop .inv .0)
+take-at-requires c κs =
+    let loop′ = c .before .before .loop in
+    (loop′ .inv .3, loop′ .inv .0)
 
-add-at : tie.Need-add-at Inv-loop μ-loop
-add-at c =
-    let l = c .before .before .before .before .before .before .before .before .before .before .before .loop in
-    let args = c .before .before .before .before .before .before .before .before .before .before .before .before .before .before .args in
-    let take-at = c .before .before .before .before .before .before .before .take-at in
-    let block′ = c .before .before .before .before .before .before .block in
-    let loop-test = c .before .before .before .before .before .before .before .before .before .before .loop-test in
-    let g = at-on (args .writing) (l .at) _ _ (take-at .result) (l .inv .3) _ (c .before .m .given .1) (omega (arith, l .inv .0 .some, block′ .given)) (take-at .ensures) in
-    omega (arith, g .1, l .inv .0 .short, loop-test .taken, block′ .given)
+goes-on-requires : tie.Need-goes-on-requires Inv-loop μ-loop
+goes-on-requires c κs =
+    let loop′ = c .before .before .before .before .before .before .before .loop in
+    loop′ .inv .3
 
-loop-less : tie.Need-loop-less Inv-loop μ-loop
-loop-less c =
-    let l = c .before .before .before .before .before .before .before .before .before .before .before .loop in
-    let args = c .before .before .before .before .before .before .before .before .before .before .before .before .before .before .args in
-    let take-at = c .before .before .before .before .before .before .before .take-at in
-    let block′ = c .before .before .before .before .before .before .block in
-    let loop-test = c .before .before .before .before .before .before .before .before .before .before .loop-test in
-    let g = at-on (args .writing) (l .at) _ _ (take-at .result) (l .inv .3) _ (c .before .m .given .1) (omega (arith, l .inv .0 .some, block′ .given)) (take-at .ensures) in
-    omega (arith, g .0, loop-test .taken)
-
-loop-again : tie.Need-loop-again Inv-loop μ-loop
-loop-again c =
-    let l = c .before .before .before .before .before .before .before .before .before .before .before .loop in
-    let args = c .before .before .before .before .before .before .before .before .before .before .before .before .before .before .args in
-    let take-at = c .before .before .before .before .before .before .before .take-at in
-    let block′ = c .before .before .before .before .before .before .block in
-    let new = c .before .before .before .before .new in
-    let g = at-on (args .writing) (l .at) _ _ (take-at .result) (l .inv .3) _ (c .before .m .given .1) (omega (arith, l .inv .0 .some, block′ .given)) (take-at .ensures) in
-    (roomy-still _ _ _ _ (l .inv .0) (block′ .given) (new .given), block′ .given ∙ l .inv .1, new .given ∙ l .inv .2, g .2)
-
-add-t14 : tie.Need-add-t14 Inv-loop μ-loop
-add-t14 c =
-    let l = c .before .before .before .before .before .before .before .before .before .before .before .loop in
-    let args = c .before .before .before .before .before .before .before .before .before .before .before .before .before .before .args in
-    let take-at = c .before .before .before .before .before .before .before .take-at in
-    let loop-test = c .before .before .before .before .before .before .before .before .before .before .loop-test in
-    let block′ = c .before .before .before .before .before .before .block in
-    omega (arith, at-done (args .writing) (l .at) _ _ (take-at .result) (l .inv .3) _ (c .before .m2 .given .1) (take-at .ensures) .0, l .inv .0 .short, loop-test .taken, block′ .given)
+finish-requires : tie.Need-finish-requires Inv-loop μ-loop
+finish-requires c κs =
+    let loop′ = c .before .before .before .before .before .before .before .before .before .loop in
+    let args = c .before .before .before .before .before .before .before .before .before .before .before .before .args in
+    let take-at = c .before .before .before .before .before .before .take-at in
+    let block′ = c .before .before .before .before .before .block in
+    let v = loop′ .inv in
+    at-within (args .writing) (loop′ .at) _ _ (v .4) (courseOf (take-at .result)) (v .3) (omega (arith, v .0 .short, block′ .given)) (take-at .ensures)
 
 same-length : tie.Need-same-length Inv-loop μ-loop
 same-length c =
     let block′ = c .before .before .before .before .before .before .block in
-    let l = c .before .before .before .before .before .before .before .before .before .before .before .loop in
-    block′ .given ∙ l .inv .1
+    let loop′ = c .before .before .before .before .before .before .before .before .before .before .loop in
+    block′ .given ∙ loop′ .inv .1
 
 same-length-2 : tie.Need-same-length-2 Inv-loop μ-loop
 same-length-2 c =
-    let new = c .before .before .before .before .new in
-    let l = c .before .before .before .before .before .before .before .before .before .before .before .loop in
-    new .given ∙ l .inv .2
+    let new′ = c .before .before .before .before .new in
+    let loop′ = c .before .before .before .before .before .before .before .before .before .before .loop in
+    new′ .given ∙ loop′ .inv .2
 
 returns : tie.Need-returns Inv-loop μ-loop
 returns c =
-    let l = c .before .before .before .before .before .before .before .before .before .before .before .loop in
-    let args = c .before .before .before .before .before .before .before .before .before .before .before .before .before .before .args in
+    let loop′ = c .before .before .before .before .before .before .before .before .before .before .loop in
+    let goes-on = c .before .before .goes-on in
+    let args = c .before .before .before .before .before .before .before .before .before .before .before .before .before .args in
     let take-at = c .before .before .before .before .before .before .before .take-at in
-    at-done (args .writing) (l .at) _ _ (take-at .result) (l .inv .3) _ (c .before .m2 .given .1) (take-at .ensures) .1
-
-same-length-3 : tie.Need-same-length-3 Inv-loop μ-loop
-same-length-3 c =
     let block′ = c .before .before .before .before .before .before .block in
-    let l = c .before .before .before .before .before .before .before .before .before .before .before .loop in
-    block′ .given ∙ l .inv .1
+    let v = loop′ .inv in
+    let e = sym (goes-on .ensures) ∙ not-true (goes-on .result) (c .before .if1 .taken) in
+    let h = at-ends (args .writing) (loop′ .at) _ _ (v .4) (courseOf (take-at .result)) (omega (arith, v .0 .some, block′ .given)) e (take-at .ensures) in
+    rw (c .finish .ensures) h
 
-same-length-4 : tie.Need-same-length-4 Inv-loop μ-loop
-same-length-4 c =
-    let new = c .before .before .before .before .new in
-    let l = c .before .before .before .before .before .before .before .before .before .before .before .loop in
-    new .given ∙ l .inv .2
-
-returns-2 : tie.Need-returns-2 Inv-loop μ-loop
-returns-2 c =
-    let l = c .before .before .before .before .before .before .before .before .before .before .before .loop in
-    let args = c .before .before .before .before .before .before .before .before .before .before .before .before .before .before .args in
+add-at : tie.Need-add-at Inv-loop μ-loop
+add-at c =
+    let goes-on = c .before .before .goes-on in
     let take-at = c .before .before .before .before .before .before .before .take-at in
-    at-stopped (args .writing) (l .at) _ _ (take-at .result) (l .inv .3) _ (c .before .t .given .1) (take-at .ensures)
+    let loop′ = c .before .before .before .before .before .before .before .before .before .before .loop in
+    let e = sym (goes-on .ensures) ∙ not-false (goes-on .result) (c .before .if1 .left) in
+    omega (arith, course-more (take-at .result) (loop′ .at) e .1)
 
-same-length-5 : tie.Need-same-length-5 Inv-loop μ-loop
-same-length-5 c = c .before .loop .inv .1
+loop-less : tie.Need-loop-less Inv-loop μ-loop
+loop-less c =
+    let loop′ = c .before .before .before .before .before .before .before .before .before .before .loop in
+    let take-at = c .before .before .before .before .before .before .before .take-at in
+    let goes-on = c .before .before .goes-on in
+    let args = c .before .before .before .before .before .before .before .before .before .before .before .before .before .args in
+    let block′ = c .before .before .before .before .before .before .block in
+    let v = loop′ .inv in
+    let e = course-more (take-at .result) (loop′ .at) (sym (goes-on .ensures) ∙ not-false (goes-on .result) (c .before .if1 .left)) in
+    let g = at-on (args .writing) (loop′ .at) _ _ (courseOf (take-at .result)) (v .4) _ (e .0) (omega (arith, v .0 .some, block′ .given)) (take-at .ensures) in
+    omega (arith, g .0, e .1)
 
-same-length-6 : tie.Need-same-length-6 Inv-loop μ-loop
-same-length-6 c = c .before .loop .inv .2
-
-returns-3 : tie.Need-returns-3 Inv-loop μ-loop
-returns-3 c = let l = c .before .loop in (l .at, omega (arith, c .loop-test .left), l .inv .3)
+loop-again : tie.Need-loop-again Inv-loop μ-loop
+loop-again c =
+    let loop′ = c .before .before .before .before .before .before .before .before .before .before .loop in
+    let take-at = c .before .before .before .before .before .before .before .take-at in
+    let goes-on = c .before .before .goes-on in
+    let args = c .before .before .before .before .before .before .before .before .before .before .before .before .before .args in
+    let block′ = c .before .before .before .before .before .before .block in
+    let new′ = c .before .before .before .before .new in
+    let v = loop′ .inv in
+    let e = course-more (take-at .result) (loop′ .at) (sym (goes-on .ensures) ∙ not-false (goes-on .result) (c .before .if1 .left)) in
+    let g = at-on (args .writing) (loop′ .at) _ _ (courseOf (take-at .result)) (v .4) _ (e .0) (omega (arith, v .0 .some, block′ .given)) (take-at .ensures) in
+    (fit-still _ _ _ _ (v .0) (block′ .given) (new′ .given), block′ .given ∙ v .1, new′ .given ∙ v .2, e .1, g .2)
 
 pub go-once-spec : {M : Type 1} → statement M
 go-once-spec =
     tie.close
-    (tie.spec Inv-loop μ-loop loop-holds take-at-requires (λ c. search needs) add-at loop-less loop-again
-    (λ c. search needs) add-t14 same-length same-length-2 returns (λ c. search needs) same-length-3 same-length-4
-    returns-2 same-length-5 same-length-6 returns-3)
+    (tie.spec Inv-loop μ-loop loop-holds take-at-requires goes-on-requires finish-requires same-length same-length-2
+    returns add-at loop-less loop-again)

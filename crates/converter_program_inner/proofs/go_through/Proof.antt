@@ -2,8 +2,7 @@
 use mathlib.Core.Path.{refl}
 use mathlib.Core.Bool.{false}
 use Rattle.converter_program_inner.specs.Says.ThroughSays.{nowhere, stopped}
-use Rattle.converter_program_inner.proofs.Blocks.{roomy-still}
-use Rattle.converter_program_inner.proofs.Times.{once-reached, once-stopped, through-whole}
+use Rattle.converter_program_inner.proofs.Times.{fit-still, through-whole}
 use borrow.Author.Needs.{needs}
 use Rattle.converter_program_inner.proofs.go_through.Statement.{statement}
 use Rattle.converter_program_inner.proofs.go_through.Tie as tie
@@ -13,26 +12,25 @@ returns c = nowhere refl
 
 write-to-requires : tie.Need-write-to-requires
 write-to-requires c κs =
-    let pre = c .before .before .before .before .before .before .before .before .before .before .before .before .before .before .before .before .pre in
-    let block = c .before .before .before .before .before .before .before .before .block in
-    let new = c .before .before .before .before .before .before .new in
-    roomy-still _ _ _ _ pre (block .given) (new .given)
+    let pre = c .before .before .before .before .before .before .before .before .before .before .before .before .before .before .pre in
+    let block′ = c .before .before .before .before .before .before .block in
+    let new′ = c .before .before .before .before .new in
+    fit-still _ _ _ _ pre (block′ .given) (new′ .given)
 
 returns-2 : tie.Need-returns-2
 returns-2 c =
-    let go-once = c .before .before .before .before .before .before .before .before .before .before .before .before .before .before .go-once in
-    let end = c .before .before .before .before .before .before .before .before .end in
+    let if2 = c .before .before .before .before .before .before .before .if2 in
+    let go-once = c .before .before .before .before .before .before .before .before .before .before .before .before .go-once in
     let write-to = c .before .before .before .before .write-to in
-    through-whole _ _ (once-reached false (go-once .result) _ (end .given .1) (go-once .ensures)) (write-to .ensures)
+    through-whole _ _ (rw (if2 .taken) at (go-once .ensures)) (write-to .ensures)
 
 returns-3 : tie.Need-returns-3
 returns-3 c =
-    let go-once = c .before .before .before .before .before .before .before .go-once in
-    stopped false (once-stopped false (go-once .result) _ (c .before .t .given .1) (go-once .ensures))
+    let go-once = c .before .before .before .before .before .go-once in
+    stopped false (rw (c .if2 .left) at (go-once .ensures))
 
 pub go-through-spec : {M : Type 1} → statement M
 go-through-spec =
     tie.close
-    (tie.spec (λ c κs. search needs) returns (λ c κs. search needs) (λ c. search needs) write-to-requires
-    (λ c. search needs) (λ c. search needs) (λ c. search needs) returns-2 (λ c. search needs) (λ c. search needs)
-    returns-3)
+    (tie.spec (λ c κs. search needs) returns (λ c κs. search needs) write-to-requires (λ c. search needs)
+    (λ c. search needs) returns-2 (λ c. search needs) (λ c. search needs) returns-3)

@@ -10,7 +10,9 @@ array-share-prefix-new : tie.Need-array-share-prefix-new
 array-share-prefix-new c = omega (arith, say-within _ _ _ _ (c .before .say .ensures), c .before .say .kept)
 
 slice-aggregate-write-all : tie.Need-slice-aggregate-write-all
-slice-aggregate-write-all c = simp length-take (omega (arith, say-within _ _ _ _ (c .before .before .say .ensures), c .before .before .say .kept))
+slice-aggregate-write-all c =
+    let say = c .before .before .say in
+    simp length-take (omega (arith, say-within _ _ _ _ (say .ensures), say .kept))
 
 pub run-spec : {M : Type 1} → statement M
 run-spec =

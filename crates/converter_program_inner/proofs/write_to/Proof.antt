@@ -1,25 +1,23 @@
 -- `converter_program_inner::write_to` meets its contract.
 use mathlib.Core.Logic.{inr}
-use mathlib.Core.Bool.{true}
-use Rattle.converter_program_inner.proofs.Times.{once-reached, once-stopped, written-through}
+use Rattle.converter_program_inner.proofs.Times.{written-through}
 use borrow.Author.Needs.{needs}
 use Rattle.converter_program_inner.proofs.write_to.Statement.{statement}
 use Rattle.converter_program_inner.proofs.write_to.Tie as tie
 
 returns : tie.Need-returns
 returns c =
-    let args = c .before .before .before .before .before .before .before .before .before .before .before .before .before .args in
-    let go-once = c .before .before .before .before .before .before .before .before .go-once in
-    let again = c .before .before .again in
-    written-through (args .end) _ _ (once-reached true (go-once .result) _ (again .given .1) (go-once .ensures)) (c .same-end .ensures)
+    let args = c .before .before .before .before .before .before .before .before .before .before .before .args in
+    let go-once = c .before .before .before .before .before .before .go-once in
+    written-through (args .end) (go-once .result .at) _ (rw (c .before .if1 .taken) at (go-once .ensures)) (c .same-end .ensures)
 
 returns-2 : tie.Need-returns-2
 returns-2 c =
-    let go-once = c .before .before .before .before .before .before .before .go-once in
-    inr (once-stopped true (go-once .result) _ (c .before .t .given .1) (go-once .ensures))
+    let go-once = c .before .before .before .before .before .go-once in
+    inr (rw (c .if1 .left) at (go-once .ensures))
 
 pub write-to-spec : {M : Type 1} → statement M
 write-to-spec =
     tie.close
-    (tie.spec (λ c κs. search needs) (λ c. search needs) (λ c κs. search needs) (λ c. search needs)
-    (λ c. search needs) (λ c. search needs) returns (λ c. search needs) (λ c. search needs) returns-2)
+    (tie.spec (λ c κs. search needs) (λ c κs. search needs) (λ c. search needs) (λ c. search needs) returns
+    (λ c. search needs) (λ c. search needs) returns-2)

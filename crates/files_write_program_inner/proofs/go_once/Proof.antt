@@ -3,7 +3,7 @@ use Prim.Native.Nat.{_-_, _≤_}
 use mathlib.Core.Path.{_≡_, refl, sym, ap, _∙_}
 use native.Mathlib.Omega.{arith}
 use lib.ListN.{length, take}
-use Rattle.converter_program_inner.specs.Says.{limit}
+use Rattle.program_passes_inner.specs.Passes.{limit}
 use Rattle.files_write_program_inner.specs.Says.{RoomyLines}
 use Rattle.files_write_program_inner.proofs.Turns.{lines-roomy, Reached, reached-none, reached-few, line-on, line-done, line-stopped, too-long}
 use borrow.Author.Needs.{needs}

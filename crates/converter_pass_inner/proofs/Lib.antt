@@ -1,0 +1,2 @@
+-- What becomes of a block (Blocks).
+pub mod Blocks
