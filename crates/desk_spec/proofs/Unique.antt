@@ -37,7 +37,8 @@ use Rattle.desk_spec.specs.declared.Both.the-variants.{Same, Apart}
 use Rattle.desk_spec.specs.declared.Verb.{Verb}
 use Rattle.desk_spec.specs.declared.Verb.the-variants as Asks
 use Rattle.desk_spec.specs.Questions.{Replies, good, bad}
-use Rattle.desk_spec.specs.Answers.{AnswerShows, KindPrints, StepPrints, AboutSays, BothSays, ManySays, StripPrints, SeenSays, FirstPrints, AfterPrints, VerbSays, DeskAnswers, blank, ShadesSays, oneValue, severalValues}
+use Rattle.desk_spec.specs.Answers.{AnswerShows, KindPrints, StepPrints, AboutSays, BothSays, ManySays, StripPrints, SeenSays, FirstPrints, AfterPrints, VerbSays}
+use Rattle.desk_spec.specs.Answers.{DeskAnswers, blank, ShadesSays, oneValue, severalValues}
 use Rattle.desk_spec.proofs.Questions.{one-reading, one-pair, one-numbers, one-byte, one-sight, one-counts, one-after, one-line, one-shade}
 use Rattle.desk_spec.proofs.Sights.{one-sighted}
 

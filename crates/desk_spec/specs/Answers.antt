@@ -55,7 +55,8 @@ use Rattle.desk_spec.specs.declared.Verb.the-variants as Asks
 use Rattle.desk_spec.specs.declared.Found.the-variants.{Known}
 use Rattle.desk_spec.specs.Verbs.{verbOf}
 use Rattle.desk_spec.specs.Questions.{ReadsReading, ReadsPair, ReadsNumbers, ReadsByte, ReadsSight, ReadsCounts, ReadsAfter, Replies, ReadsShade}
-use Rattle.desk_spec.specs.Texts.{classText, homeText, toldText, distanceText, placeText, manyText, stockText, stepText, arrivalText, stripText, sightText, firstRingText, nextRingText, sectorText, shadesText}
+use Rattle.desk_spec.specs.Texts.{classText, homeText, toldText, distanceText, placeText, manyText, stockText, stepText, arrivalText, stripText, sightText}
+use Rattle.desk_spec.specs.Texts.{firstRingText, nextRingText, sectorText, shadesText}
 use Rattle.desk_spec.specs.Floats.{floatOf, firstCard}
 use Rattle.desk_spec.specs.Sights.{SightedSays}
 

@@ -10,7 +10,8 @@ use sheet_words_spec::Word;
 ghost use Prim.Native.Nat.{_≤_};
 ghost use mathlib.Core.Path.{_≡_};
 ghost use lib.ListN.{length};
-ghost use Rattle.sheet_words_spec.specs.Words.{numberIn, numberOrOther, wordOf, nothingAsked, oneNumber, plainFor, wishFor, meantNumber, meantName, meant, asked, fitted, withSource, withTone, withColumns};
+ghost use Rattle.sheet_words_spec.specs.Words.{numberIn, numberOrOther, wordOf, nothingAsked, oneNumber, plainFor, wishFor, meantNumber, meantName, meant, asked, fitted};
+ghost use Rattle.sheet_words_spec.specs.Words.{withSource, withTone, withColumns};
 ghost use Rattle.sheet_words_inner.specs.Says.{wordsFrom, WordAt, EndsAs, ReadsAs};
 
 // A sheet that was read, where the line asks for one.
