@@ -2,6 +2,7 @@
 use Prim.Native.Nat.{ℕ}
 use mathlib.Core.Path.{_≡_, refl}
 use mathlib.Core.List.{List, [], _∷_}
+use Rattle.words.specs.Table.{Hold}
 use Rattle.text_spec.specs.Decimal.{decimalIn, decimal}
 use Rattle.text_spec.specs.Ascii.{ascii}
 use Rattle.text_spec.specs.Text.{firstLine, ringLine, lastLine, refusedLine}
@@ -21,11 +22,10 @@ table =
     reads (lastLine 6 7) (ascii "total 6 moves 7\n") ∷
     reads (refusedLine 11) (ascii "refused 11\n") ∷ []
 
--- every row holds
-unfoldable pub Hold : List Sample → Type 0
-Hold [] = Unit
-Hold (reads s t ∷ rows) = (s ≡ t) × Hold rows
+-- what a row claims
+abbrev pub Reads : Sample → Type 0
+Reads (reads s t) = s ≡ t
 
-pub samples-hold : Hold table
+pub samples-hold : Hold Reads table
 unfolding table Hold decimal decimalIn firstLine ringLine lastLine refusedLine
 samples-hold = (refl, (refl, (refl, (refl, (refl, (refl, (refl, (refl, tt))))))))
