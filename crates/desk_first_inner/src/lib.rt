@@ -1,18 +1,12 @@
 // The first ring of fixed counts: as long as their sum. No public calls.
 
-use desk_counts_inner::Listed;
-use desk_words_inner::Head;
 use shades_spec::FirstAnswer;
-ghost use Prim.Native.Nat.{_+_, _<_, _≤_};
-ghost use mathlib.Core.Path.{_≡_};
+ghost use Prim.Native.Nat.{_+_, _≤_};
 ghost use lib.ListN.{length};
 ghost use Rattle.stream_spec.specs.Blocks.{Puts};
-ghost use Rattle.desk_spec.specs.declared.Verb.the-variants as verbs;
 ghost use Rattle.desk_spec.specs.Texts.{firstRingText};
-ghost use Rattle.desk_spec.specs.Questions.{Replies};
-ghost use Rattle.desk_spec.specs.Answers.{FirstPrints, VerbSays, blank};
+ghost use Rattle.desk_spec.specs.Answers.{FirstPrints};
 ghost use Rattle.desk_texts_inner.specs.Says.{deskRoom, longestRing, LinePrinted};
-ghost use Rattle.desk_counts_inner.specs.Says.{WordCounts};
 ghost use Rattle.desk_first_inner.specs.Says.{SumWithin, FirstIn};
 
 fn place_first_ring(buf: &mut [u8], at: usize, a: FirstAnswer, ring: &[u8]) -> usize
@@ -54,39 +48,11 @@ fn answer_in(k: usize, counts: &[usize], out: &mut [u8], buf: &mut [u8], at: usi
 }
 
 // A ring of more than 64 sectors is refused whatever its length: an output of 65 stands for them all.
-fn answer_first(k: usize, counts: &[usize], buf: &mut [u8], at: usize) -> usize
+pub fn answer_first(k: usize, counts: &[usize], buf: &mut [u8], at: usize) -> usize
     requires { ⌜ at + deskRoom ≤ length (now buf) ⌝ }
     ensures { λ r. ⌜ Puts (FirstPrints k (now (counts .entry))) deskRoom (now (buf .entry)) at r (now (buf .exit)) ⌝ }
 {
     let n = sum_within(counts);
     let mut out = [0u8; 65];
     answer_in(k, counts, &mut out[..n], buf, at)
-}
-
-// The counts are read into the lent numbers.
-fn ask_first(k: usize, t: &[u8], counts: &mut [usize], buf: &mut [u8], at: usize) -> usize
-    requires { ⌜ length (now t) ≤ 4095 ⌝ }
-    requires { ⌜ length (now t) < length (now counts) ⌝ }
-    requires { ⌜ at + deskRoom ≤ length (now buf) ⌝ }
-    ensures { λ r. ⌜ Puts (Replies (WordCounts (now (t .entry))) (FirstPrints k)) deskRoom (now (buf .entry)) at r (now (buf .exit)) ⌝ }
-{
-    match desk_counts_inner::word_counts(t, counts) {
-        Listed::Malformed => desk_texts_inner::place_malformed(buf, at),
-        Listed::Counts(m) => answer_first(k, &counts[..m], buf, at),
-    }
-}
-
-// What the text behind `first` prints.
-pub fn place_first(t: &[u8], buf: &mut [u8], at: usize) -> usize
-    requires { ⌜ length (now t) ≤ 4095 ⌝ }
-    requires { ⌜ at + deskRoom ≤ length (now buf) ⌝ }
-    ensures { λ r. ⌜ Puts (VerbSays verbs.First (now (t .entry))) deskRoom (now (buf .entry)) at r (now (buf .exit)) ⌝ }
-{
-    match desk_words_inner::head_of(t) {
-        Head::Malformed => desk_texts_inner::place_malformed(buf, at),
-        Head::Number(k, e) => {
-            let mut counts = [0usize; 4096];
-            ask_first(k, &t[e..], &mut counts, buf, at)
-        }
-    }
 }

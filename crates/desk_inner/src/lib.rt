@@ -172,8 +172,8 @@ fn place_verb(v: Verb, t: &[u8], buf: &mut [u8], at: usize) -> usize
         Verb::Stock => desk_count_inner::place_stock(t, buf, at),
         Verb::Strip => desk_strip_inner::place_strip(t, buf, at),
         Verb::Sight => desk_sight_inner::place_sight(t, buf, at),
-        Verb::First => desk_first_inner::place_first(t, buf, at),
-        Verb::After => desk_after_inner::place_after(t, buf, at),
+        Verb::First => desk_counted_inner::place_counted(false, t, buf, at),
+        Verb::After => desk_counted_inner::place_counted(true, t, buf, at),
         Verb::Shade => desk_shade_inner::place_shade(t, buf, at),
     }
 }

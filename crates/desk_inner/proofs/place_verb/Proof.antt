@@ -22,10 +22,10 @@ returns-6 : tie.Need-returns-6
 returns-6 c = rw (c .before .before .before .before .enum-told4 .given .1) (c .before .before .place-sight .ensures)
 
 returns-7 : tie.Need-returns-7
-returns-7 c = rw (c .before .before .before .before .enum-told5 .given .1) (c .before .before .place-first .ensures)
+returns-7 c = rw (c .before .before .before .before .enum-told5 .given .1) (c .before .before .place-counted .ensures)
 
 returns-8 : tie.Need-returns-8
-returns-8 c = rw (c .before .before .before .before .enum-told6 .given .1) (c .before .before .place-after .ensures)
+returns-8 c = rw (c .before .before .before .before .enum-told6 .given .1) (c .before .before .place-counted2 .ensures)
 
 returns-9 : tie.Need-returns-9
 returns-9 c = rw (c .before .before .before .before .enum-told7 .given .1) (c .before .before .place-shade .ensures)

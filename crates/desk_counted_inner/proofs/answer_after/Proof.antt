@@ -1,8 +1,8 @@
--- `desk_after_inner::answer_after` meets its contract.
+-- `desk_counted_inner::answer_after` meets its contract.
 use Rattle.desk_texts_inner.proofs.Putting.{put-shown}
 use borrow.Author.Needs.{needs}
-use Rattle.desk_after_inner.proofs.answer_after.Statement.{statement}
-use Rattle.desk_after_inner.proofs.answer_after.Tie as tie
+use Rattle.desk_counted_inner.proofs.answer_after.Statement.{statement}
+use Rattle.desk_counted_inner.proofs.answer_after.Tie as tie
 
 returns : tie.Need-returns
 returns c =

@@ -1,7 +1,7 @@
--- `desk_after_inner::place_next_ring` meets its contract.
+-- `desk_counted_inner::place_next_ring` meets its contract.
 use borrow.Author.Needs.{needs}
-use Rattle.desk_after_inner.proofs.place_next_ring.Statement.{statement}
-use Rattle.desk_after_inner.proofs.place_next_ring.Tie as tie
+use Rattle.desk_counted_inner.proofs.place_next_ring.Statement.{statement}
+use Rattle.desk_counted_inner.proofs.place_next_ring.Tie as tie
 
 returns : tie.Need-returns
 returns c =

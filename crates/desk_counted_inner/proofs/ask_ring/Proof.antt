@@ -1,11 +1,11 @@
--- `desk_after_inner::ask_ring` meets its contract.
+-- `desk_counted_inner::ask_ring` meets its contract.
 use borrow.Author.Tests.{not-true, not-false}
 use Rattle.desk_spec.specs.Answers.{AfterPrints}
 use Rattle.desk_texts_inner.proofs.Putting.{put-bad}
 use Rattle.desk_counts_inner.proofs.Asking.{no-spelt, put-spelt}
 use borrow.Author.Needs.{needs}
-use Rattle.desk_after_inner.proofs.ask_ring.Statement.{statement}
-use Rattle.desk_after_inner.proofs.ask_ring.Tie as tie
+use Rattle.desk_counted_inner.proofs.ask_ring.Statement.{statement}
+use Rattle.desk_counted_inner.proofs.ask_ring.Tie as tie
 
 returns : tie.Need-returns
 returns c =

@@ -1,12 +1,12 @@
--- `desk_after_inner::ask_words` meets its contract.
+-- `desk_counted_inner::ask_words` meets its contract.
 use native.Mathlib.Omega.{arith}
 use lib.ListN.{length-take, length-drop}
 use Rattle.desk_spec.specs.Answers.{AfterPrints}
 use Rattle.desk_texts_inner.proofs.Putting.{put-bad}
 use Rattle.desk_counts_inner.proofs.Asking.{no-words, put-words}
 use borrow.Author.Needs.{needs}
-use Rattle.desk_after_inner.proofs.ask_words.Statement.{statement}
-use Rattle.desk_after_inner.proofs.ask_words.Tie as tie
+use Rattle.desk_counted_inner.proofs.ask_words.Statement.{statement}
+use Rattle.desk_counted_inner.proofs.ask_words.Tie as tie
 
 returns : tie.Need-returns
 returns c =
