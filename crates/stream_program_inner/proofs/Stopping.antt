@@ -2,6 +2,7 @@
 --     turn-bytes, turn-over, turn-failed, turn-inside       what stands in the buffer behind a read
 --     goes-unwritten, goes-over, goes-failed, goes-bytes    by what a read gave, and whether its texts were written
 --     goes-less                                             where it goes on, another read can be counted
+--     turns-more                                            and one turn more is made
 --     take-room, line-room                                  there is room for the texts of what was read
 --     first-room, first-long                                the first bytes of a buffer, as a block and as a line
 --     got-inside                                            what was read is inside the block
@@ -11,6 +12,7 @@ use mathlib.Core.Bool.{Bool, true, false, not, false≢true}
 use mathlib.Core.List.{List}
 use native.Mathlib.Omega.{arith}
 use native.Mathlib.Nat.{mul-le-mul-right}
+use native.Mathlib.Numerals.{add-one}
 use lib.Dec.{ltb}
 use lib.ListN.{length, take, length-take}
 use borrow.Author.Tests.{ltb-true, ltb-false}
@@ -21,7 +23,7 @@ use Rattle.program_reading_inner.specs.Says.{GotSays}
 use Rattle.stream_spec.specs.Blocks.{BlockSays, EndSays}
 use Rattle.stream_asking_inner.specs.declared.Kind.{Kind}
 use Rattle.stream_asking_inner.specs.Says.{Said, mostOf}
-use Rattle.stream_program_inner.specs.Says.{BehindRead, GoesOn}
+use Rattle.stream_program_inner.specs.Says.{BehindRead, ReadAnswered, TurnsMade, more, GoesOn}
 
 pub goes-unwritten : (wrote : Bool) (got : Got) (reads : ℕ) → wrote ≡ false → GoesOn wrote got reads false
 goes-unwritten wrote got reads e = rw e refl
@@ -45,6 +47,14 @@ goes-less true (Bytes n) reads h = h
 goes-less true Over reads h = absurd (false≢true (sym h))
 goes-less true Failed reads h = absurd (false≢true (sym h))
 goes-less false got reads h = absurd (false≢true (sym h))
+
+-- bytes were read, and another turn is made
+pub turns-more : (kind : Kind) (wrote : Bool) (got : Got) (n : ℕ) (u s b v b′ : List ℕ) → GoesOn wrote got n true → TurnsMade kind n u → ReadAnswered kind got u s b v b′ →
+    TurnsMade kind (n + 1) v
+turns-more kind true (Bytes k) n u s b v b′ g t h = rw (add-one n) (more k s b v b′ t h)
+turns-more kind true Over n u s b v b′ g t h = absurd (false≢true (sym g))
+turns-more kind true Failed n u s b v b′ g t h = absurd (false≢true (sym g))
+turns-more kind false got n u s b v b′ g t h = absurd (false≢true (sym g))
 
 -- there is room for the texts of what was read
 block-room : (m n room most : ℕ) → m ≤ n → n * room ≤ most → m * room ≤ most

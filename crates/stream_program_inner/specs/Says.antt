@@ -3,11 +3,13 @@
 --     BehindRead                  what stands in the buffer behind a read: the texts of the lines that end in what was read, that of a last line where the input
 --                                 is over, and nothing where the read failed, and the line under way is as it was; as in `stream_spec`, specs/Blocks
 --     ReadAnswered                the same, of however many bytes that is
+--     TurnsMade kind n u          n reads gave bytes, and each was answered with what the one before it had left of the line under way; u is what the last one left
+--     PumpSays kind got n s b′    behind n such reads the last one gave `got`, and was answered with what they had left; s and b′ are the block and the buffer then
 --     GoesOn wrote got reads r    r: does it go on? Where bytes were read and their texts written, unless 2 to the power 64 reads were made
-use Prim.Native.Nat.{ℕ, _*_, _<_, _≤_}
+use Prim.Native.Nat.{ℕ, suc, _*_, _<_, _≤_}
 use mathlib.Core.Path.{_≡_}
 use mathlib.Core.Bool.{Bool, true, false}
-use mathlib.Core.List.{List}
+use mathlib.Core.List.{List, []}
 use lib.ListN.{length, take}
 use Rattle.stream_spec.specs.Blocks.{BlockSays, EndSays}
 use Rattle.stream_asking_inner.specs.declared.Kind.{Kind}
@@ -28,6 +30,17 @@ BehindRead kind Failed u s b v r b′ = (r ≡ 0) × (b′ ≡ b) × (v ≡ u)
 
 abbrev pub ReadAnswered : Kind → Got → List ℕ → List ℕ → List ℕ → List ℕ → List ℕ → Type 0
 ReadAnswered kind got u s b v b′ = (r : ℕ) × BehindRead kind got u s b v r b′
+
+pub data TurnsMade (kind : Kind) : ℕ → List ℕ → Type 0 where
+  none : TurnsMade kind 0 []
+  more : {n : ℕ} {u : List ℕ} (k : ℕ) (s b v b′ : List ℕ) → TurnsMade kind n u → ReadAnswered kind (Bytes k) u s b v b′ → TurnsMade kind (suc n) v
+
+pub record PumpSays (kind : Kind) (got : Got) (n : ℕ) (s b′ : List ℕ) : Type 0 where
+  pub held : List ℕ
+  pub left : List ℕ
+  pub buffer : List ℕ
+  pub turns : TurnsMade kind n held
+  pub answered : ReadAnswered kind got held s buffer left b′
 
 abbrev pub GoesOn : Bool → Got → ℕ → Bool → Type 0
 GoesOn true (Bytes n) reads true = reads < 18446744073709551615

@@ -11,7 +11,7 @@ ghost use mathlib.Core.Path.{_≡_};
 ghost use mathlib.Core.Bool.{false};
 ghost use lib.ListN.{length, take};
 ghost use Rattle.stream_asking_inner.specs.Says.{mostOf, roomOf};
-ghost use Rattle.stream_program_inner.specs.Says.{RoomForRead, BehindRead, ReadAnswered, GoesOn};
+ghost use Rattle.stream_program_inner.specs.Says.{RoomForRead, BehindRead, ReadAnswered, PumpSays, GoesOn};
 
 // Behind a turn: what its read gave, whether the texts could be written, and how many bytes of the line under way are held.
 pub struct Turned {
@@ -87,11 +87,12 @@ fn goes_on(got: Got, wrote: bool, reads: u64) -> bool
     }
 }
 
-// Turn after turn.
+// Turn after turn, each with what the one before it left of the line under way.
 fn pump(kind: Kind, block: &mut [u8], line: &mut [u8], buf: &mut [u8]) -> Stopped
     requires { ⌜ length (now line) ≡ mostOf kind ⌝ }
     requires { ⌜ (0 < length (now block)) × (length (now block) * roomOf kind ≤ length (now buf)) ⌝ }
     ensures { λ r. ⌜ GoesOn (r .wrote) (r .got) (r .reads) false ⌝ }
+    ensures { λ r. ⌜ PumpSays kind (r .got) (r .reads) (now (block .exit)) (now (buf .exit)) ⌝ }
 {
     let mut len = 0;
     let mut reads = 0;
