@@ -1,3 +1,2 @@
--- What becomes of a block, and of a time through the input (Turns); what is said (Said).
+-- What becomes of a block, and of a time through the input (Turns).
 pub mod Turns
-pub mod Said

@@ -28,15 +28,16 @@ use Rattle.files_write_spec.specs.RingLines.{mostKept}
 use Rattle.files_write_spec.proofs.Cut.{Gone, gone-none, gone-on, gone-last, gone-refused, last-refused, gone-few}
 use Rattle.files_write_inner.specs.declared.Lined.the-variants as L
 use Rattle.files_write_inner.specs.Says.{LinedSays, LinedEnd}
-use Rattle.files_write_program_inner.specs.declared.Time.{Time}
-use Rattle.files_write_program_inner.specs.declared.Time.the-variants.{First, Second}
-use Rattle.files_write_program_inner.specs.declared.Ended.{Ended}
-use Rattle.files_write_program_inner.specs.declared.Ended.the-variants.{Line, As}
+use Rattle.files_write_ending_inner.specs.declared.Time.{Time}
+use Rattle.files_write_ending_inner.specs.declared.Time.the-variants.{First, Second}
+use Rattle.files_write_ending_inner.specs.declared.Ended.{Ended}
+use Rattle.files_write_ending_inner.specs.declared.Ended.the-variants.{Line, As}
+use Rattle.files_write_ending_inner.specs.Endings.{lineRefusedOf, lineFailedOf, HandedOn}
 use Rattle.files_write_program_inner.specs.declared.Turn.{Turn}
 use Rattle.files_write_program_inner.specs.declared.Turn.the-variants.{On, Done, Stopped}
 use Rattle.files_write_program_inner.specs.declared.Pass.{Pass}
 use Rattle.files_write_program_inner.specs.declared.Pass.the-variants as P
-use Rattle.files_write_program_inner.specs.Says.{RoomyLines, lineRefusedOf, lineFailedOf, HandedOn, LinesThrough, LineStopSays, LinePassSays, LineWrittenSays}
+use Rattle.files_write_program_inner.specs.Says.{RoomyLines, LinesThrough, LineStopSays, LinePassSays, LineWrittenSays}
 use Rattle.files_write_program_inner.specs.Says.{LineTurnSays, gone, bad, unwritten, LineLastSays, over, worse, unsaid}
 use Rattle.files_write_program_inner.specs.Says.{LineAtSays, unread, full, some, last, LineThroughSays, stopped, whole}
 

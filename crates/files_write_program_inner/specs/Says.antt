@@ -1,10 +1,6 @@
 -- What the parts of the programs promise. x is the form of the records, w which time it is; u is what was kept of the line under way, n how many lines had ended; o is the output
 -- before, d afterwards.
 --     RoomyLines b l d               a block b has a byte, the output d has room for what it writes, and the line l for what is kept of one
---     lineRefusedOf w r n            how a run ends where the line n is refused
---     lineFailedOf w                 how it ends where a read fails
---     writesRecords w                are records written?
---     HandedOn w r                   r: could the records be written? Where none are to be, they could
 --     LineTurnSays x w u s n o v l d   the bytes s were taken as `files_write_inner`, specs/Says says it, and v is what becomes of them
 --     LineLastSays x w u n o v d     the same of the end of the input
 --     LineAtSays                     the same of what was read to the block b
@@ -12,31 +8,27 @@
 --     LineStopSays x w t             why it stopped before the end: at the first refused line the first time, of which nothing is written; at a read or a write that failed;
 --                                    or the input is too long, or not the same
 --     LinePassSays, LineWrittenSays, LineThroughSays    how a time ended, a second time, and the whole: `Whole` only where all lines write, and both times came to one place
---     endedRoom, endedText t         what is said, and how long it may be: of a refused line, refused 3 at 2 in line 4; or what any program says
 use Prim.Native.Nat.{ℕ, _+_, _*_, _<_, _≤_}
 use mathlib.Core.Path.{_≡_}
 use mathlib.Core.Logic.{_⊎_}
-use mathlib.Core.Bool.{Bool, true, false}
 use mathlib.Core.List.{List, []}
 use lib.ListN.{length, take}
 use Rattle.refusal.specs.declared.Refusal.{Refusal}
 use Rattle.record_spec.specs.declared.Kind.{Kind}
 use Rattle.stream_spec.specs.Lines.{ended}
 use Rattle.stream_spec.specs.Texts.{Texts}
-use Rattle.program_ending_inner.specs.declared.Ending.{Ending}
 use Rattle.program_ending_inner.specs.declared.Ending.the-variants as E
-use Rattle.program_ending_inner.specs.Text.{endingText}
-use Rattle.program_refusal_spec.specs.Text.{refusedLineText}
 use Rattle.program_passes_inner.specs.Passes.{limit}
 use Rattle.files_text_inner.specs.Room.{recordRoom}
 use Rattle.files_write_spec.specs.RingLines.{mostKept, LineWrites}
 use Rattle.files_write_spec.specs.Inputs.{LinesWrite, FirstRefused}
 use Rattle.files_write_inner.specs.declared.Lined.the-variants as L
 use Rattle.files_write_inner.specs.Says.{LinedSays, LinedEnd}
-use Rattle.files_write_program_inner.specs.declared.Time.{Time}
-use Rattle.files_write_program_inner.specs.declared.Time.the-variants.{First, Second}
-use Rattle.files_write_program_inner.specs.declared.Ended.{Ended}
-use Rattle.files_write_program_inner.specs.declared.Ended.the-variants.{Line, As}
+use Rattle.files_write_ending_inner.specs.declared.Time.{Time}
+use Rattle.files_write_ending_inner.specs.declared.Time.the-variants.{First, Second}
+use Rattle.files_write_ending_inner.specs.declared.Ended.{Ended}
+use Rattle.files_write_ending_inner.specs.declared.Ended.the-variants.{Line, As}
+use Rattle.files_write_ending_inner.specs.Endings.{lineRefusedOf, lineFailedOf}
 use Rattle.files_write_program_inner.specs.declared.Turn.{Turn}
 use Rattle.files_write_program_inner.specs.declared.Turn.the-variants.{On, Done, Stopped}
 use Rattle.files_write_program_inner.specs.declared.Pass.{Pass}
@@ -47,21 +39,6 @@ pub record RoomyLines (b l d : List ℕ) : Type 0 where
   pub short : length b ≤ 65536
   pub kept : length l ≡ mostKept
   pub room : length b * recordRoom ≤ length d
-
-abbrev pub lineRefusedOf : Time → Refusal → ℕ → Ended
-lineRefusedOf First r n = Line r n
-lineRefusedOf Second r n = As E.Changed
-
-abbrev pub lineFailedOf : Time → Ended
-lineFailedOf First = As E.Unread
-lineFailedOf Second = As E.Lost
-
-abbrev pub writesRecords : Time → Bool
-writesRecords First = false
-writesRecords Second = true
-
-abbrev pub HandedOn : Time → Bool → Type 0
-HandedOn w r = (writesRecords w ≡ false) → r ≡ true
 
 -- ---- a block
 
@@ -111,12 +88,3 @@ pub data LineThroughSays (x : Kind) (t : Ended) : Type 0 where
   nowhere : t ≡ As E.NoFile → LineThroughSays x t
   stopped : (w : Time) → LineStopSays x w t → LineThroughSays x t
   whole : (e : ℕ) → LinesThrough x e → t ≡ As E.Whole → LineThroughSays x t
-
--- ---- what is said
-
-abbrev pub endedRoom : ℕ
-endedRoom = 100
-
-abbrev pub endedText : Ended → List ℕ
-endedText (Line r n) = refusedLineText r n
-endedText (As t) = endingText t

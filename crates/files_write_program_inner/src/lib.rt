@@ -1,38 +1,24 @@
 // The programs that write a catalogue from lines, a ring each. No public calls: no contract can say what is read and written.
 // They go through the lines on standard input twice: the first time each is checked, and nothing is written; the second time the records are written, block after block.
 
+use files_write_ending_inner::Ended;
+use files_write_ending_inner::Time;
 use files_write_inner::Lined;
 use libc::SEEK_CUR;
 use libc::STDERR_FILENO;
 use libc::STDIN_FILENO;
-use libc::STDOUT_FILENO;
 use program_ending_inner::Ending;
 use program_passes_inner::LIMIT;
 use program_reading_inner::Most;
 use record_spec::Kind;
-use refusal::Refusal;
 ghost use Prim.Native.Nat.{_+_, _*_, _<_, _≤_};
 ghost use mathlib.Core.Path.{_≡_};
-ghost use mathlib.Core.Bool.{true};
 ghost use lib.ListN.{length, take};
-ghost use Rattle.text_spec.specs.Put.{Placed};
 ghost use Rattle.program_passes_inner.specs.Passes.{limit};
 ghost use Rattle.files_text_inner.specs.Room.{recordRoom};
 ghost use Rattle.files_write_spec.specs.RingLines.{mostKept};
 ghost use Rattle.files_write_inner.specs.Says.{mostEnded};
-ghost use Rattle.files_write_program_inner.specs.Says.{RoomyLines, lineRefusedOf, lineFailedOf, writesRecords, HandedOn, LineTurnSays, LineLastSays, LineAtSays, LinePassSays, LineWrittenSays, LineThroughSays, endedRoom, endedText};
-
-// Which time through the input it is.
-pub enum Time {
-    First,
-    Second,
-}
-
-// How a run ended: a line is refused, and its number; or as the run of any program may end.
-pub enum Ended {
-    Line(Refusal, usize),
-    As(Ending),
-}
+ghost use Rattle.files_write_program_inner.specs.Says.{RoomyLines, LineTurnSays, LineLastSays, LineAtSays, LinePassSays, LineWrittenSays, LineThroughSays};
 
 // What becomes of a block: so many bytes of it are done, with so many bytes held of the line under way and so many lines ended; or the input is over; or that is as far as it goes.
 pub enum Turn {
@@ -45,46 +31,6 @@ pub enum Turn {
 pub enum Pass {
     Through(usize),
     Stopped(Ended),
-}
-
-// How a run ends where a line is refused: the second time it is not the input that was checked.
-fn refused(time: Time, r: Refusal, n: usize) -> Ended
-    ensures { λ e. ⌜ e ≡ lineRefusedOf time r n ⌝ }
-{
-    match time {
-        Time::First => Ended::Line(r, n),
-        Time::Second => Ended::As(Ending::Changed),
-    }
-}
-
-// How a run ends where a read fails.
-fn failed(time: Time) -> Ended
-    ensures { λ e. ⌜ e ≡ lineFailedOf time ⌝ }
-{
-    match time {
-        Time::First => Ended::As(Ending::Unread),
-        Time::Second => Ended::As(Ending::Lost),
-    }
-}
-
-// Whether records are written.
-fn writes(time: Time) -> bool
-    ensures { λ r. ⌜ r ≡ writesRecords time ⌝ }
-{
-    match time {
-        Time::First => false,
-        Time::Second => true,
-    }
-}
-
-// Records, written where it is the time; whether they could be.
-fn hand_on(time: Time, records: &[u8]) -> bool
-    ensures { λ r. ⌜ HandedOn time r ⌝ }
-{
-    if !writes(time) {
-        return true;
-    }
-    io::write_all(STDOUT_FILENO, records)
 }
 
 // What was read of the input.
@@ -104,9 +50,9 @@ fn take_block(
     ensures { λ r. ⌜ LineTurnSays kind time (take len (now (line .entry))) (now (block .entry)) lines (now (out .entry)) r (now (line .exit)) (now (out .exit)) ⌝ }
 {
     match files_write_inner::take_bytes(kind, line, len, block, out, lines) {
-        Lined::Refused(r, n) => Turn::Stopped(refused(time, r, n)),
+        Lined::Refused(r, n) => Turn::Stopped(files_write_ending_inner::refused(time, r, n)),
         Lined::On(m, at, n) => {
-            if !hand_on(time, &out[..at]) {
+            if !files_write_ending_inner::hand_on(time, &out[..at]) {
                 return Turn::Stopped(Ended::As(Ending::Unwritten));
             }
             Turn::On(block.len(), m, n)
@@ -121,9 +67,9 @@ fn take_end(kind: Kind, time: Time, line: &[u8], lines: usize, out: &mut [u8]) -
     ensures { λ r. ⌜ LineLastSays kind time (now (line .entry)) lines (now (out .entry)) r (now (out .exit)) ⌝ }
 {
     match files_write_inner::take_last(kind, line, out, lines) {
-        Lined::Refused(r, n) => Turn::Stopped(refused(time, r, n)),
+        Lined::Refused(r, n) => Turn::Stopped(files_write_ending_inner::refused(time, r, n)),
         Lined::On(_, at, _) => {
-            if !hand_on(time, &out[..at]) {
+            if !files_write_ending_inner::hand_on(time, &out[..at]) {
                 return Turn::Stopped(Ended::As(Ending::Unwritten));
             }
             Turn::Done
@@ -149,7 +95,7 @@ fn take_at(
     ensures { λ r. ⌜ LineAtSays kind time (take len (now (line .entry))) (now (block .exit)) lines (now (out .entry)) r (now (line .exit)) (now (out .exit)) ⌝ }
 {
     match program_passes_inner::read_from(at, block) {
-        Most::Failed => Turn::Stopped(failed(time)),
+        Most::Failed => Turn::Stopped(files_write_ending_inner::failed(time)),
         Most::Full => take_block(kind, time, block, line, len, lines, out),
         Most::Ended(got) => {
             if got == 0 {
@@ -211,24 +157,12 @@ fn go_through(kind: Kind, block: &mut [u8], line: &mut [u8], out: &mut [u8]) -> 
     }
 }
 
-// What is said of how a run ended, at the beginning of the buffer, and its length.
-fn say_ended(e: Ended, buf: &mut [u8]) -> usize
-    requires { ⌜ endedRoom ≤ length (now buf) ⌝ }
-    ensures { λ r. ⌜ Placed (now (buf .entry)) 0 (endedText e) r (now (buf .exit)) ⌝ }
-    ensures { λ r. ⌜ r ≤ endedRoom ⌝ }
-{
-    match e {
-        Ended::Line(r, n) => program_refusal_inner::place_refused_line(r, n, buf),
-        Ended::As(t) => program_ending_inner::say(t, buf),
-    }
-}
-
 // The program: the lines from standard input, their records on standard output; on standard error why not, or why not all of them.
 pub fn run(kind: Kind) {
     let mut block = [0u8; 468];
     let mut line = [0u8; 4096];
     let mut out = io::large_buffer();
     let ended = go_through(kind, &mut block, &mut line, &mut out);
-    let m = say_ended(ended, &mut out);
+    let m = files_write_ending_inner::say_ended(ended, &mut out);
     io::write_all(STDERR_FILENO, &out[..m]);
 }

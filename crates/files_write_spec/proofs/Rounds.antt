@@ -17,9 +17,9 @@ use Rattle.record_spec.proofs.Wrote.{recordBytes, length-record, bytes-placed}
 use Rattle.record_spec.proofs.Rounds.{written-reads}
 use Rattle.stream_spec.specs.Lines.{lines}
 use Rattle.stream_spec.specs.Texts.{Texts, done, more}
-use Rattle.files_spec.proofs.Unique.{filled-bytes}
 use Rattle.files_write_spec.specs.RingLines.{LineWrites}
 use Rattle.files_write_spec.specs.Inputs.{LinesWrite, HoldsHomes, ends, next}
+use Rattle.files_write_spec.proofs.Unique.{line-bytes}
 
 stands : (w : List ℕ) (k : ℕ) (x : Kind) (c : List ℕ) (p : ℕ) (u : List ℕ) → Passed (oneReading w k) → drop p c ≡ recordBytes x k w ++ u → Wrote w k x c p (p + 4 + bodyLength x (length w) k) c
 stands w k x c p u g e =
@@ -40,7 +40,7 @@ module _ (x : Kind) where
       let k = a .asked .0 in
       let w = a .asked .1 in
       let g = a .writes .written .passed in
-      let e : t ≡ recordBytes x k w = filled-bytes w k x t (a .writes) in
+      let e : t ≡ recordBytes x k w = line-bytes line x t a in
       let long : length (front ++ t) ≡ length front + 4 + bodyLength x (length w) k = omega (arith, length-append front t, ap length e, length-record w k x g) in
       let here : drop (length front) (front ++ (t ++ u)) ≡ recordBytes x k w ++ u = drop-at front (t ++ u) (length front) refl ∙ ap (λ (z : List ℕ). z ++ u) e in
       next (a .asked) (a .reads) (λ o l. written-reads w k x (front ++ (t ++ u)) (length front) _ (front ++ (t ++ u)) (stands w k x (front ++ (t ++ u)) (length front) u g here) o l)

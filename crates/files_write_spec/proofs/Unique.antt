@@ -1,5 +1,6 @@
 -- A line writes one record or is refused with one refusal, and never both; so an input writes one text or has one first refused line.
 --     one-ring               a line is one number and one reading
+--     line-bytes             a line writes the bytes of the record of its kind, shades and reading
 --     one-record, one-bad    a line writes one text, and has one refusal
 --     never-both-line        and never both
 --     one-writes             an input writes one text
@@ -12,15 +13,15 @@ use native.Mathlib.Omega.{arith}
 use lib.ListN.{length}
 use Rattle.text_words_spec.proofs.Pieces.{first-same, behind-same}
 use Rattle.refusal.specs.declared.Refusal.{Refusal}
-use Rattle.refusal.specs.Order.{Given}
+use Rattle.refusal.specs.Order.{Given, Passed}
 use Rattle.refusal.specs.Calls.{oneReading}
 use Rattle.refusal.proofs.Unique.{never-both, one-refusal}
 use Rattle.record_spec.specs.declared.Kind.{Kind}
+use Rattle.record_spec.proofs.Wrote.{recordBytes}
 use Rattle.stream_spec.specs.Lines.{lines}
 use Rattle.stream_spec.specs.Texts.{Texts, done, more}
 use Rattle.stream_spec.proofs.Unique.{one-prints}
 use Rattle.desk_spec.proofs.Questions.{one-reading}
-use Rattle.files_spec.specs.Shows.{Filled}
 use Rattle.files_spec.proofs.Unique.{filled-bytes}
 use Rattle.files_write_spec.specs.RingLines.{RingLine, LineWrites, LineRefused, unread, given}
 use Rattle.files_write_spec.specs.Inputs.{LinesWrite, FirstRefused}
@@ -31,10 +32,14 @@ module _ (s : List ℕ) where
   pub one-ring : (p q : ℕ × List ℕ) → RingLine s p → RingLine s q → p ≡ q
   one-ring p q a b = one-reading s p q (a .reads) (b .reads)
 
+  -- what it writes are the bytes of the record of the kind that was asked for
+  pub line-bytes : (x : Kind) (t : List ℕ) (a : LineWrites x s t) → t ≡ recordBytes x (a .asked .0) (a .asked .1)
+  line-bytes x t a = filled-bytes (a .asked .1) (a .asked .0) x t (a .writes)
+
   pub one-record : (x : Kind) (t u : List ℕ) → LineWrites x s t → LineWrites x s u → t ≡ u
   one-record x t u a b =
-      let f : Filled (b .asked .1) (b .asked .0) x t = rw (one-ring (a .asked) (b .asked) (a .reads) (b .reads)) at (a .writes) in
-      filled-bytes (b .asked .1) (b .asked .0) x t f ∙ sym (filled-bytes (b .asked .1) (b .asked .0) x u (b .writes))
+      let e = one-ring (a .asked) (b .asked) (a .reads) (b .reads) in
+      line-bytes x t a ∙ ap (λ (q : ℕ × List ℕ). recordBytes x (q .0) (q .1)) e ∙ sym (line-bytes x u b)
 
   pub one-bad : (r q : Refusal) → LineRefused s r → LineRefused s q → r ≡ q
   one-bad r q (unread n e) (unread m f) = e ∙ sym f
@@ -45,7 +50,7 @@ module _ (s : List ℕ) where
   pub never-both-line : (x : Kind) (t : List ℕ) (r : Refusal) → LineWrites x s t → LineRefused s r → ⊥
   never-both-line x t r a (unread n e) = n (a .asked) (a .reads)
   never-both-line x t r a (given q h g) =
-      never-both (oneReading (q .1) (q .0)) r g (subst (λ (p : ℕ × List ℕ). Filled (p .1) (p .0) x t) (one-ring (a .asked) q (a .reads) h) (a .writes) .written .passed)
+      never-both (oneReading (q .1) (q .0)) r g (subst (λ (p : ℕ × List ℕ). Passed (oneReading (p .1) (p .0))) (one-ring (a .asked) q (a .reads) h) (a .writes .written .passed))
 
 -- ---- an input
 

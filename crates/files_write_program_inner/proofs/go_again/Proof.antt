@@ -1,6 +1,6 @@
 -- `files_write_program_inner::go_again` meets its contract: the two ends are compared.
 use mathlib.Core.Logic.{inr}
-use Rattle.files_write_program_inner.specs.declared.Time.the-variants.{Second}
+use Rattle.files_write_ending_inner.specs.declared.Time.the-variants.{Second}
 use Rattle.files_write_program_inner.proofs.Turns.{through-once, stopped-once, written-through}
 use borrow.Author.Needs.{needs}
 use Rattle.files_write_program_inner.proofs.go_again.Statement.{statement}

@@ -1,6 +1,6 @@
 -- `files_write_program_inner::go_through` meets its contract: the second time follows only a first that went through.
 use mathlib.Core.Path.{refl}
-use Rattle.files_write_program_inner.specs.declared.Time.the-variants.{First}
+use Rattle.files_write_ending_inner.specs.declared.Time.the-variants.{First}
 use Rattle.files_write_program_inner.specs.Says.{nowhere, stopped}
 use Rattle.files_write_program_inner.proofs.Turns.{stopped-once, both-through}
 use borrow.Author.Needs.{needs}

@@ -1,10 +1,10 @@
--- `files_write_program_inner::say_ended` meets its contract.
+-- `files_write_ending_inner::say_ended` meets its contract.
 use mathlib.Core.Path.{_≡_, refl, sym, ap, _∙_}
 use native.Mathlib.Omega.{arith}
-use Rattle.files_write_program_inner.proofs.Said.{said-placed}
+use Rattle.files_write_ending_inner.proofs.Said.{said-placed}
 use borrow.Author.Needs.{needs}
-use Rattle.files_write_program_inner.proofs.say_ended.Statement.{statement}
-use Rattle.files_write_program_inner.proofs.say_ended.Tie as tie
+use Rattle.files_write_ending_inner.proofs.say_ended.Statement.{statement}
+use Rattle.files_write_ending_inner.proofs.say_ended.Tie as tie
 
 returns : tie.Need-returns
 returns c = rw (c .before .before .before .before .before .e .given .1) (c .before .before .place-refused-line .ensures)

@@ -1,8 +1,8 @@
--- `files_write_program_inner::failed` meets its contract.
+-- `files_write_ending_inner::refused` meets its contract.
 use mathlib.Core.Path.{_≡_, refl, sym, ap, _∙_}
 use borrow.Author.Needs.{needs}
-use Rattle.files_write_program_inner.proofs.failed.Statement.{statement}
-use Rattle.files_write_program_inner.proofs.failed.Tie as tie
+use Rattle.files_write_ending_inner.proofs.refused.Statement.{statement}
+use Rattle.files_write_ending_inner.proofs.refused.Tie as tie
 
 returns : tie.Need-returns
 returns c = rw (c .enum-told .given .1) refl
@@ -10,7 +10,7 @@ returns c = rw (c .enum-told .given .1) refl
 returns-2 : tie.Need-returns-2
 returns-2 c = rw (c .enum-told2 .given .1) refl
 
-pub failed-spec : {M : Type 1} → statement M
-failed-spec =
+pub refused-spec : {M : Type 1} → statement M
+refused-spec =
     tie.close
     (tie.spec (λ c. search needs) (λ c. search needs) returns returns-2)

@@ -1,10 +1,10 @@
--- `files_write_program_inner::hand_on` meets its contract.
+-- `files_write_ending_inner::hand_on` meets its contract.
 use mathlib.Core.Path.{_≡_, sym, _∙_}
 use mathlib.Core.Bool.{true≢false}
 use borrow.Author.Tests.{not-false}
 use borrow.Author.Needs.{needs}
-use Rattle.files_write_program_inner.proofs.hand_on.Statement.{statement}
-use Rattle.files_write_program_inner.proofs.hand_on.Tie as tie
+use Rattle.files_write_ending_inner.proofs.hand_on.Statement.{statement}
+use Rattle.files_write_ending_inner.proofs.hand_on.Tie as tie
 
 returns-2 : tie.Need-returns-2
 returns-2 c = let w = c .before .before .writes in λ e. absurd (true≢false (sym (not-false (w .result) (c .before .if1 .left)) ∙ w .ensures ∙ e))

@@ -1,0 +1,2 @@
+-- What is said (Said).
+pub mod Said
