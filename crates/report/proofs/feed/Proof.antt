@@ -2,6 +2,7 @@
 use mathlib.Core.Path.{_≡_, refl}
 use native.Mathlib.Omega.{arith}
 use lib.ListN.{length, length-take}
+use Rattle.stream_asking_inner.specs.Says.{Said}
 use Rattle.stream_blocks_inner.proofs.Smaller.{smaller-right}
 use Rattle.report.proofs.Making.{taken-within, taken-room, feed-says}
 use borrow.Author.Needs.{needs}
@@ -27,6 +28,7 @@ take-bytes-requires c κs =
     )
 
 returns : tie.Need-returns
+unfolding Said
 returns c =
     let args = c .before .before .before .before .before .before .before .before .before .before .before .before .before .before .args in
     let smaller-of = c .before .before .before .before .before .before .before .before .before .before .before .smaller-of in

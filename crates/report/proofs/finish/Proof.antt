@@ -3,6 +3,7 @@ use mathlib.Core.Path.{_≡_, refl}
 use native.Mathlib.Omega.{arith}
 use lib.ListN.{length, length-take}
 use Rattle.report_spec.specs.Blocks.{small}
+use Rattle.stream_asking_inner.specs.Says.{Said}
 use Rattle.stream_blocks_inner.proofs.Smaller.{smaller-right}
 use Rattle.report.proofs.Making.{end-says}
 use borrow.Author.Needs.{needs}
@@ -26,6 +27,7 @@ place-last-requires : tie.Need-place-last-requires
 place-last-requires c κs = c .before .before .before .before .if1 .left
 
 returns-2 : tie.Need-returns-2
+unfolding Said
 returns-2 c =
     let args = c .before .before .before .before .before .before .before .before .before .args in
     let if1 = c .before .before .before .before .before .before .before .if1 in
