@@ -1,2 +1,2 @@
--- From a spelt reading to its line, and from byte to byte (Lining).
+-- From byte to byte of a block (Lining).
 pub mod Lining

@@ -1,2 +1,2 @@
--- What taking lines promises (Says).
+-- What taking the bytes of a block promises (Says).
 pub mod Says

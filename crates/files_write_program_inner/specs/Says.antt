@@ -22,8 +22,9 @@ use Rattle.program_passes_inner.specs.Passes.{limit}
 use Rattle.files_text_inner.specs.Room.{recordRoom}
 use Rattle.files_write_spec.specs.RingLines.{mostKept, LineWrites}
 use Rattle.files_write_spec.specs.Inputs.{LinesWrite, FirstRefused}
-use Rattle.files_write_inner.specs.declared.Lined.the-variants as L
-use Rattle.files_write_inner.specs.Says.{LinedSays, LinedEnd}
+use Rattle.files_write_byte_inner.specs.declared.Lined.the-variants as L
+use Rattle.files_write_byte_inner.specs.Says.{LinedEnd}
+use Rattle.files_write_inner.specs.Says.{LinedSays}
 use Rattle.files_write_ending_inner.specs.declared.Time.{Time}
 use Rattle.files_write_ending_inner.specs.declared.Time.the-variants.{First, Second}
 use Rattle.files_write_ending_inner.specs.declared.Ended.{Ended}

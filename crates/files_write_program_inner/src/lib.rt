@@ -1,9 +1,9 @@
 // The programs that write a catalogue from lines, a ring each. No public calls: no contract can say what is read and written.
 // They go through the lines on standard input twice: the first time each is checked, and nothing is written; the second time the records are written, block after block.
 
+use files_write_byte_inner::Lined;
 use files_write_ending_inner::Ended;
 use files_write_ending_inner::Time;
-use files_write_inner::Lined;
 use libc::SEEK_CUR;
 use libc::STDERR_FILENO;
 use libc::STDIN_FILENO;
@@ -17,7 +17,7 @@ ghost use lib.ListN.{length, take};
 ghost use Rattle.program_passes_inner.specs.Passes.{limit};
 ghost use Rattle.files_text_inner.specs.Room.{recordRoom};
 ghost use Rattle.files_write_spec.specs.RingLines.{mostKept};
-ghost use Rattle.files_write_inner.specs.Says.{mostEnded};
+ghost use Rattle.files_write_byte_inner.specs.Says.{mostEnded};
 ghost use Rattle.files_write_program_inner.specs.Says.{RoomyLines, LineTurnSays, LineLastSays, LineAtSays, LinePassSays, LineWrittenSays, LineThroughSays};
 
 // What becomes of a block: so many bytes of it are done, with so many bytes held of the line under way and so many lines ended; or the input is over; or that is as far as it goes.
@@ -66,7 +66,7 @@ fn take_end(kind: Kind, time: Time, line: &[u8], lines: usize, out: &mut [u8]) -
     requires { ⌜ lines < mostEnded ⌝ }
     ensures { λ r. ⌜ LineLastSays kind time (now (line .entry)) lines (now (out .entry)) r (now (out .exit)) ⌝ }
 {
-    match files_write_inner::take_last(kind, line, out, lines) {
+    match files_write_byte_inner::take_last(kind, line, out, lines) {
         Lined::Refused(r, n) => Turn::Stopped(files_write_ending_inner::refused(time, r, n)),
         Lined::On(_, at, _) => {
             if !files_write_ending_inner::hand_on(time, &out[..at]) {

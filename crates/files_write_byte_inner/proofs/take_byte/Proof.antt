@@ -1,4 +1,4 @@
--- `files_write_inner::take_byte` meets its contract.
+-- `files_write_byte_inner::take_byte` meets its contract.
 use mathlib.Core.Path.{_≡_, refl, _∙_, sym}
 use native.Mathlib.Omega.{arith}
 use lib.ListN.{length, length-take, length-set}
@@ -6,10 +6,10 @@ use Rattle.stream_spec.proofs.Taking.{byte-kept, byte-passed}
 use Rattle.stream_spec.specs.Blocks.{ends}
 use Rattle.files_text_inner.specs.Room.{recordRoom}
 use Rattle.files_write_spec.specs.RingLines.{LineWrites}
-use Rattle.files_write_inner.proofs.Lining.{one-ended, none-ended}
+use Rattle.files_write_byte_inner.proofs.Ends.{one-ended, none-ended}
 use borrow.Author.Needs.{needs}
-use Rattle.files_write_inner.proofs.take_byte.Statement.{statement}
-use Rattle.files_write_inner.proofs.take_byte.Tie as tie
+use Rattle.files_write_byte_inner.proofs.take_byte.Statement.{statement}
+use Rattle.files_write_byte_inner.proofs.take_byte.Tie as tie
 
 slice-aggregate-place-line : tie.Need-slice-aggregate-place-line
 slice-aggregate-place-line c = simp length-take (omega (arith, c .before .before .before .before .pre .1 .0))

@@ -1,13 +1,13 @@
--- `files_write_inner::place_line` meets its contract.
+-- `files_write_line_inner::place_line` meets its contract.
 use Prim.Native.Nat.{_≤_}
 use mathlib.Core.Path.{_≡_, sym, _∙_}
 use native.Mathlib.Omega.{arith}
 use lib.ListN.{length, length-take}
 use Rattle.desk_words_inner.proofs.Shapes.{ask-room}
-use Rattle.files_write_inner.proofs.Lining.{line-long, line-headless, line-spelt}
+use Rattle.files_write_line_inner.proofs.Spelling.{line-long, line-headless, line-spelt}
 use borrow.Author.Needs.{needs}
-use Rattle.files_write_inner.proofs.place_line.Statement.{statement}
-use Rattle.files_write_inner.proofs.place_line.Tie as tie
+use Rattle.files_write_line_inner.proofs.place_line.Statement.{statement}
+use Rattle.files_write_line_inner.proofs.place_line.Tie as tie
 
 returns : tie.Need-returns
 returns c = let a = c .before .before .before .args in line-long (a .kind) (a .line .now) (a .buf .now) (a .at) (c .if1 .taken)

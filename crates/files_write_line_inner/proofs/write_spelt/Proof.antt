@@ -1,11 +1,11 @@
--- `files_write_inner::write_spelt` meets its contract.
+-- `files_write_line_inner::write_spelt` meets its contract.
 use mathlib.Core.Path.{_≡_, sym, _∙_}
 use native.Mathlib.Omega.{arith}
-use Rattle.files_write_inner.proofs.Lining.{no-spelt, spelt-answer}
+use Rattle.files_write_line_inner.proofs.Spelling.{no-spelt, spelt-answer}
 use borrow.Author.Tests.{not-true, not-false}
 use borrow.Author.Needs.{needs}
-use Rattle.files_write_inner.proofs.write_spelt.Statement.{statement}
-use Rattle.files_write_inner.proofs.write_spelt.Tie as tie
+use Rattle.files_write_line_inner.proofs.write_spelt.Statement.{statement}
+use Rattle.files_write_line_inner.proofs.write_spelt.Tie as tie
 
 returns : tie.Need-returns
 returns c =

@@ -1,10 +1,10 @@
--- `files_write_inner::take_last` meets its contract.
+-- `files_write_byte_inner::take_last` meets its contract.
 use mathlib.Core.Path.{_≡_, refl, _∙_, sym}
 use native.Mathlib.Omega.{arith}
 use Rattle.stream_spec.proofs.Taking.{end-none, end-some}
 use borrow.Author.Needs.{needs}
-use Rattle.files_write_inner.proofs.take_last.Statement.{statement}
-use Rattle.files_write_inner.proofs.take_last.Tie as tie
+use Rattle.files_write_byte_inner.proofs.take_last.Statement.{statement}
+use Rattle.files_write_byte_inner.proofs.take_last.Tie as tie
 
 returns : tie.Need-returns
 returns c = (end-none _ _ _ (c .if1 .taken), refl, refl)

@@ -1,0 +1,2 @@
+-- How many lines a byte ends (Ends).
+pub mod Ends

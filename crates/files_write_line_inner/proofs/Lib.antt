@@ -1,0 +1,2 @@
+-- From a spelt reading to its line (Spelling).
+pub mod Spelling

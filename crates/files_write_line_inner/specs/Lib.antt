@@ -1,0 +1,2 @@
+-- What placing the record of a line promises (Says).
+pub mod Says
