@@ -1,6 +1,6 @@
 -- What becomes of a block.
 --     taken-room, taken-turn           a block that was gone through
---     refused-first, turn-is-on, turn-is-done, turn-is-stopped    what the code answers
+--     turn-is-on, turn-is-done, turn-is-stopped    what the code answers
 use Prim.Native.Nat.{ℕ, _+_, _*_, _≤_}
 use mathlib.Core.Path.{_≡_, refl, sym, ap, _∙_}
 use mathlib.Core.Bool.{Bool}
@@ -9,9 +9,7 @@ use native.Mathlib.Omega.{arith}
 use lib.ListN.{length, take, drop}
 use lib.Seq.{sets-eq, take-at}
 use Rattle.refusal.specs.declared.Refusal.{Refusal}
-use Rattle.refusal.specs.Numbers.{numberOf, placeOf}
 use Rattle.program_ending_inner.specs.declared.Ending.{Ending}
-use Rattle.program_ending_inner.specs.declared.Ending.the-variants as E
 use Rattle.program_passes_inner.specs.Passes.{Course}
 use Rattle.program_passes_inner.specs.Passes.Course.{On, Done, Stopped}
 use Rattle.files_spec.specs.declared.Job.{Job}
@@ -21,9 +19,9 @@ use Rattle.files_spec.specs.declared.Taken.{Taken}
 use Rattle.files_spec.specs.Blocks.{TakeSays}
 use Rattle.files_text_inner.specs.Room.{recordRoom}
 use Rattle.files_records_inner.specs.Says.{share}
-use Rattle.files_pass_inner.specs.declared.Time.{Time}
-use Rattle.files_pass_inner.specs.declared.Time.the-variants.{First}
-use Rattle.files_pass_inner.specs.Says.{SmallFile, refusedOf, turnOf, FileTurnSays}
+use Rattle.files_time_inner.specs.declared.Time.{Time}
+use Rattle.files_time_inner.specs.Says.{refusedOf}
+use Rattle.files_pass_inner.specs.Says.{SmallFile, turnOf, FileTurnSays}
 use Rattle.files_pass_inner.specs.Says.FileTurnSays.{gone}
 
 -- ---- a block that was gone through
@@ -43,9 +41,6 @@ pub taken-turn : (j : Job) (w : Time) (p : ℕ) (b : List ℕ) (last : Bool) (o 
 taken-turn j w p b last o u d v s e = gone u (s .text) (s .says) (shown-stands j p b last o u d s) e
 
 -- ---- what the code answers
-
-pub refused-first : (w : Time) (r : Refusal) (x p : ℕ) → w ≡ First → x ≡ numberOf r → p ≡ placeOf r → E.Refused x p ≡ refusedOf w r
-refused-first w r x p e f g = rw (e, f, g) refl
 
 module _ (w : Time) (h : How) (m : ℕ) where
   pub turn-is-on : h ≡ H.On → On m ≡ turnOf w h m

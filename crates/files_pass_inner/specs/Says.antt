@@ -2,19 +2,14 @@
 --     most                       no block has more bytes
 --     SmallFile b d                  the output d has room for what the block b shows
 --     RoomyFile b d                  and a block b has room for the longest record
---     writesOf w                 is what a block shows written?
---     fileFailedOf w, refusedOf w r  how a run ends where a read fails, and where a piece is refused
 --     turnOf w h m               what becomes of a block of which m bytes were gone through
 --     FileTurnSays j w p b last d v  the block b, which begins at the place p of the file, was gone through, and what it shows stands at the beginning of d: v is what becomes of it
 --     FileAtSays j w p b d v         the same of what was read to the block b
 use Prim.Native.Nat.{ℕ, _+_, _*_, _≤_}
 use mathlib.Core.Path.{_≡_}
-use mathlib.Core.Bool.{Bool, true, false}
+use mathlib.Core.Bool.{Bool, true}
 use mathlib.Core.List.{List}
 use lib.ListN.{length, take}
-use Rattle.refusal.specs.declared.Refusal.{Refusal}
-use Rattle.refusal.specs.Numbers.{numberOf, placeOf}
-use Rattle.program_ending_inner.specs.declared.Ending.{Ending}
 use Rattle.program_ending_inner.specs.declared.Ending.the-variants as E
 use Rattle.program_passes_inner.specs.Passes.{ReadTo, Course}
 use Rattle.program_passes_inner.specs.Passes.Course.{On, Done, Stopped}
@@ -25,8 +20,8 @@ use Rattle.files_spec.specs.declared.Taken.{Taken}
 use Rattle.files_spec.specs.Blocks.{TakenSays}
 use Rattle.files_text_inner.specs.Room.{recordRoom}
 use Rattle.files_records_inner.specs.Says.{share}
-use Rattle.files_pass_inner.specs.declared.Time.{Time}
-use Rattle.files_pass_inner.specs.declared.Time.the-variants.{Only, First, Second}
+use Rattle.files_time_inner.specs.declared.Time.{Time}
+use Rattle.files_time_inner.specs.Says.{writesOf, fileFailedOf, refusedOf}
 
 abbrev pub most : ℕ
 most = 2048
@@ -38,21 +33,6 @@ pub record SmallFile (b d : List ℕ) : Type 0 where
 pub record RoomyFile (b d : List ℕ) : Type 0 where
   pub some : 68 ≤ length b
   pub small : SmallFile b d
-
-abbrev pub writesOf : Time → Bool
-writesOf Only = true
-writesOf First = false
-writesOf Second = true
-
-abbrev pub fileFailedOf : Time → Ending
-fileFailedOf Only = E.Unread
-fileFailedOf First = E.Unread
-fileFailedOf Second = E.Lost
-
-abbrev pub refusedOf : Time → Refusal → Ending
-refusedOf Only r = E.Whole
-refusedOf First r = E.Refused (numberOf r) (placeOf r)
-refusedOf Second r = E.Changed
 
 abbrev pub turnOf : Time → How → ℕ → Course
 turnOf w H.On m = On m

@@ -2,54 +2,14 @@
 
 use files_spec::How;
 use files_spec::Job;
+use files_time_inner::Time;
 use libc::STDOUT_FILENO;
 use program_ending_inner::Ending;
 use program_passes_inner::Turn;
-use refusal::Refusal;
 ghost use Prim.Native.Nat.{_<_};
 ghost use mathlib.Core.Path.{_≡_};
 ghost use Rattle.program_passes_inner.specs.Passes.{limit, courseOf};
-ghost use Rattle.files_pass_inner.specs.Says.{RoomyFile, SmallFile, writesOf, fileFailedOf, refusedOf, turnOf, FileTurnSays, FileAtSays};
-
-// Which time through the file it is: the only one, the first, or the second.
-pub enum Time {
-    Only,
-    First,
-    Second,
-}
-
-// Whether what a block shows is written.
-fn writes(time: Time) -> bool
-    ensures { λ r. ⌜ r ≡ writesOf time ⌝ }
-{
-    match time {
-        Time::Only => true,
-        Time::First => false,
-        Time::Second => true,
-    }
-}
-
-// How a run ends where a read fails.
-fn failed(time: Time) -> Ending
-    ensures { λ r. ⌜ r ≡ fileFailedOf time ⌝ }
-{
-    match time {
-        Time::Only => Ending::Unread,
-        Time::First => Ending::Unread,
-        Time::Second => Ending::Lost,
-    }
-}
-
-// How a run ends where a piece is refused: the only time that is told in what was written; the second time it is not the file that was checked.
-fn refused(time: Time, r: Refusal) -> Ending
-    ensures { λ e. ⌜ e ≡ refusedOf time r ⌝ }
-{
-    match time {
-        Time::Only => Ending::Whole,
-        Time::First => Ending::Refused(refusal::number(r), refusal::place(r)),
-        Time::Second => Ending::Changed,
-    }
-}
+ghost use Rattle.files_pass_inner.specs.Says.{RoomyFile, SmallFile, turnOf, FileTurnSays, FileAtSays};
 
 // What becomes of a block that was gone through.
 fn turn_of(time: Time, how: How, used: usize) -> Turn
@@ -58,7 +18,7 @@ fn turn_of(time: Time, how: How, used: usize) -> Turn
     match how {
         How::On => program_passes_inner::turn_by(false, used),
         How::Over => program_passes_inner::turn_by(true, used),
-        How::Refused(r) => program_passes_inner::stop(refused(time, r)),
+        How::Refused(r) => program_passes_inner::stop(files_time_inner::refused(time, r)),
     }
 }
 
@@ -70,7 +30,7 @@ fn take_block(job: Job, time: Time, at: usize, block: &[u8], last: bool, out: &m
 {
     let v = files_records_inner::take_records(job, at, block, last, out);
     let m = v.len;
-    if writes(time) {
+    if files_time_inner::writes(time) {
         if !io::write_all(STDOUT_FILENO, &out[..m]) {
             return program_passes_inner::stop(Ending::Unwritten);
         }
@@ -87,7 +47,7 @@ pub fn take_at(job: Job, time: Time, at: usize, block: &mut [u8], out: &mut [u8]
 {
     let part = program_passes_inner::read_block(at, block);
     if part.failed {
-        return program_passes_inner::stop(failed(time));
+        return program_passes_inner::stop(files_time_inner::failed(time));
     }
     let n = part.len;
     take_block(job, time, at, &block[..n], part.last, out)

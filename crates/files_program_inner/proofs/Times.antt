@@ -28,9 +28,10 @@ use Rattle.files_spec.specs.declared.Taken.{Taken}
 use Rattle.files_spec.specs.Shows.{lastText}
 use Rattle.files_spec.specs.Blocks.{Records, none, BadRecord, Left, TakenSays}
 use Rattle.files_spec.proofs.Cut.{records-joined, told-over, told-bad}
-use Rattle.files_pass_inner.specs.declared.Time.{Time}
-use Rattle.files_pass_inner.specs.declared.Time.the-variants.{Only, First, Second}
-use Rattle.files_pass_inner.specs.Says.{most, RoomyFile, fileFailedOf, refusedOf, turnOf, FileTurnSays, FileAtSays}
+use Rattle.files_time_inner.specs.declared.Time.{Time}
+use Rattle.files_time_inner.specs.declared.Time.the-variants.{Only, First, Second}
+use Rattle.files_time_inner.specs.Says.{fileFailedOf, refusedOf}
+use Rattle.files_pass_inner.specs.Says.{most, RoomyFile, turnOf, FileTurnSays, FileAtSays}
 use Rattle.files_pass_inner.specs.Says.FileTurnSays.{gone, unwritten}
 use Rattle.files_pass_inner.specs.Says.FileAtSays.{unread, read}
 use Rattle.files_program_inner.specs.Says.{onceFor, FileReached, FileTold, Broken, FileStopSays, FilePassSays, FileWrittenSays, FileThroughSays}

@@ -22,9 +22,9 @@ use Rattle.files_spec.specs.declared.Job.{Job}
 use Rattle.files_spec.specs.declared.Job.the-variants as J
 use Rattle.files_spec.specs.Catalogues.{ShowsAll}
 use Rattle.files_spec.specs.Blocks.{Records}
-use Rattle.files_pass_inner.specs.declared.Time.{Time}
-use Rattle.files_pass_inner.specs.declared.Time.the-variants.{Only, First, Second}
-use Rattle.files_pass_inner.specs.Says.{writesOf}
+use Rattle.files_time_inner.specs.declared.Time.{Time}
+use Rattle.files_time_inner.specs.declared.Time.the-variants.{Only, First, Second}
+use Rattle.files_time_inner.specs.Says.{writesOf}
 
 abbrev pub onceFor : Job → Bool
 onceFor J.Read = true

@@ -2,8 +2,8 @@
 // They go through the file on standard input block after block. A telling goes through it once, and writes as it goes; a program that writes nothing where the file is
 // bad goes through it twice, and writes the second time.
 
-use files_pass_inner::Time;
 use files_spec::Job;
+use files_time_inner::Time;
 use libc::SEEK_CUR;
 use libc::STDERR_FILENO;
 use libc::STDIN_FILENO;

@@ -4,9 +4,9 @@
 --     Going                      behind the first i bytes of a block: they are records, whose texts stand at the beginning of the output
 --     going-none, going-on       before the first record, and behind one more
 --     going-room, going-stop     there is room; and where no other is read
---     left-over, left-bad, enough-none, enough-last, enough-short, enough-long, finish-over, finish-on    why no other is read
+--     left-over, left-bad        why no other is read
 --     turn-size, turn-on, turn-same, turn-stop, turn-over    a turn, by what it gave
-use Prim.Native.Nat.{ℕ, zero, suc, _+_, _-_, _*_, _<_, _≤_}
+use Prim.Native.Nat.{ℕ, _+_, _-_, _*_, _<_, _≤_}
 use mathlib.Core.Path.{_≡_, refl, sym, ap, subst, _∙_}
 use mathlib.Core.Bool.{Bool, true, false}
 use mathlib.Core.List.{List, [], _∷_, _++_}
@@ -17,7 +17,6 @@ use Rattle.words.proofs.Split.{lt, eq, gt, tri}
 use Rattle.text_spec.specs.Put.{Placed}
 use Rattle.text_spec.proofs.Put.{placed-none, placed-append, placed-length}
 use Rattle.refusal.specs.declared.Refusal.{Refusal}
-use Rattle.refusal.specs.declared.Checked.the-variants as C
 use Rattle.refusal.specs.Order.{Given}
 use Rattle.record_spec.specs.declared.Kind.{Kind}
 use Rattle.record_spec.specs.declared.Entry.{Entry}
@@ -33,13 +32,14 @@ use Rattle.files_spec.specs.declared.Job.{Job}
 use Rattle.files_spec.specs.declared.How.{How}
 use Rattle.files_spec.specs.declared.How.the-variants as H
 use Rattle.files_spec.specs.declared.Taken.{Taken}
-use Rattle.files_spec.specs.Shows.{Shows, lastText}
+use Rattle.files_spec.specs.Shows.{Shows}
 use Rattle.files_spec.specs.Blocks.{One, Records, none, more, Enough, BadRecord, Left, TakenSays, TakeSays}
 use Rattle.files_spec.proofs.Joined.{read-own}
-use Rattle.files_text_inner.specs.Room.{recordRoom, endRoom, Answered}
+use Rattle.files_text_inner.specs.Room.{recordRoom, Answered}
+use Rattle.files_records_end_inner.specs.Says.{EnoughSays, leftOf, BehindText, RecordsStopSays}
 use Rattle.files_records_inner.specs.declared.Step.{Step}
 use Rattle.files_records_inner.specs.declared.Step.the-variants as S
-use Rattle.files_records_inner.specs.Says.{share, EnoughSays, RecordStepSays, leftOf, BehindText, RecordsStopSays}
+use Rattle.files_records_inner.specs.Says.{share, RecordStepSays}
 
 -- ---- a record
 
@@ -155,34 +155,6 @@ left-over j p b false k t e = (refl, short, e)
 pub left-bad : (j : Job) (p : ℕ) (b : List ℕ) (last : Bool) (r : Refusal) → EnoughSays last (length b) true → Given (recordOrder b p) r →
     (t : List ℕ) → BehindText j (H.Refused r) t → Left j p b last (H.Refused r) t
 left-bad j p b last r k g t e = (record { enough = k; given = g }, e)
-
--- ---- is another read?
-
-pub enough-none : (last : Bool) (m : ℕ) → m ≡ 0 → EnoughSays last m false
-enough-none true m e h = omega (arith, e, h)
-enough-none false m e h = omega (arith, e, h)
-
-pub enough-last : (last : Bool) (m : ℕ) → last ≡ true → (m ≡ 0 → ⊥) → EnoughSays last m true
-enough-last last m e h = rw e (some m h)
-  where
-    some : (m : ℕ) → (m ≡ 0 → ⊥) → 0 < m
-    some zero h = absurd (h refl)
-    some (suc m) h = omega arith
-
-pub enough-short : (last : Bool) (m : ℕ) → last ≡ false → m < 68 → EnoughSays last m false
-enough-short last m e h = rw e (λ k. omega (arith, k, h))
-
-pub enough-long : (last : Bool) (m : ℕ) → last ≡ false → 68 ≤ m → EnoughSays last m true
-enough-long last m e h = rw e h
-
--- ---- behind the last record
-
-module _ (j : Job) (p used : ℕ) (last : Bool) (o : List ℕ) (len : ℕ) (v : Taken) (d : List ℕ) where
-  pub finish-over : last ≡ true → v .how ≡ H.Over → v .used ≡ used → v .place ≡ p + used → Puts (λ t. t ≡ lastText j C.Good) endRoom o len (v .len) d → RecordsStopSays j p used (leftOf last) o len v d
-  finish-over e f g h q = rw e (record { why = f; bytes = g; place = h; puts = record { text = q .text; says = q .says; short = q .short; placed = q .placed } })
-
-  pub finish-on : last ≡ false → v .how ≡ H.On → v .used ≡ used → v .place ≡ p + used → v .len ≡ len → d ≡ o → RecordsStopSays j p used (leftOf last) o len v d
-  finish-on e f g h i q = rw e (record { why = f; bytes = g; place = h; puts = record { text = []; says = refl; short = omega arith; placed = record { next = omega (arith, i); bytes = q } } })
 
 -- ---- a turn
 

@@ -11,32 +11,15 @@ ghost use lib.ListN.{length};
 ghost use Rattle.record_body_inner.specs.Steps.{Held};
 ghost use Rattle.files_spec.specs.declared.How.the-variants.{Refused};
 ghost use Rattle.files_spec.specs.Blocks.{TakeSays};
-ghost use Rattle.files_text_inner.specs.Room.{recordRoom, endRoom};
-ghost use Rattle.files_records_inner.specs.Says.{share, EnoughSays, RecordStepSays, leftOf, RecordsStopSays};
+ghost use Rattle.files_text_inner.specs.Room.{recordRoom};
+ghost use Rattle.files_end_inner.specs.Room.{endRoom};
+ghost use Rattle.files_records_end_inner.specs.Says.{RecordsStopSays};
+ghost use Rattle.files_records_inner.specs.Says.{share, RecordStepSays};
 
 // What a record was: so many bytes, with the place behind what it shows; or refused.
 pub enum Step {
     After(usize, usize),
     Refused(Refusal),
-}
-
-// The longest record.
-const LONGEST: usize = 68;
-
-// Whether a record is read of so many bytes that are left of the block.
-fn enough(left: usize, last: bool) -> bool
-    ensures { λ r. ⌜ EnoughSays last left r ⌝ }
-{
-    if left == 0 {
-        return false;
-    }
-    if last {
-        return true;
-    }
-    if left < LONGEST {
-        return false;
-    }
-    true
 }
 
 // The record that `rest` begins with, at a place of the catalogue, and what it shows.
@@ -60,35 +43,12 @@ fn stop(job: Job, r: Refusal, place: usize, used: usize, out: &mut [u8], len: us
     requires { ⌜ Held (place + used) × (len + endRoom ≤ length (now out)) ⌝ }
     ensures { λ v. ⌜ RecordsStopSays job place used (Refused r) (now (out .entry)) len v (now (out .exit)) ⌝ }
 {
-    let e = files_text_inner::place_damage(job, r, out, len);
+    let e = files_end_inner::place_damage(job, r, out, len);
     Taken {
         how: How::Refused(r),
         used,
         place: place + used,
         len: e,
-    }
-}
-
-// Behind `used` bytes of good records no other is read of the block.
-fn finish(job: Job, last: bool, place: usize, used: usize, out: &mut [u8], len: usize) -> Taken
-    requires { ⌜ Held (place + used) × (len + endRoom ≤ length (now out)) ⌝ }
-    ensures { λ v. ⌜ RecordsStopSays job place used (leftOf last) (now (out .entry)) len v (now (out .exit)) ⌝ }
-{
-    let after = place + used;
-    if last {
-        let e = files_text_inner::place_end(job, out, len);
-        return Taken {
-            how: How::Over,
-            used,
-            place: after,
-            len: e,
-        };
-    }
-    Taken {
-        how: How::On,
-        used,
-        place: after,
-        len,
     }
 }
 
@@ -101,7 +61,7 @@ pub fn take_records(job: Job, place: usize, block: &[u8], last: bool, out: &mut 
     let mut ring = [0u8; 64];
     let mut i = 0;
     let mut len = 0;
-    while enough(block.len() - i, last) {
+    while files_records_end_inner::enough(block.len() - i, last) {
         match take_one(job, place + i, &block[i..], &mut ring, out, len) {
             Step::After(m, e) => {
                 i += m;
@@ -112,5 +72,5 @@ pub fn take_records(job: Job, place: usize, block: &[u8], last: bool, out: &mut 
             }
         }
     }
-    finish(job, last, place, i, out, len)
+    files_records_end_inner::finish(job, last, place, i, out, len)
 }

@@ -2,7 +2,6 @@
 --     line-short, line-puts       a record's line has room, and is what a telling shows
 --     record-short, wrote-puts, bytes-puts    a record has room, what the writer wrote is its bytes, at their place, and that is what a move shows
 --     never-refused               a ring that passes the checks is not refused where there is room
---     end-read, end-move, damage-short, damage-read, damage-move    what stands behind the last record
 use Prim.Native.Nat.{ℕ, zero, suc, _+_, _^_, _<_, _≤_}
 use mathlib.Core.Path.{_≡_, refl, sym, ap, _∙_}
 use mathlib.Core.List.{List, [], _∷_, _++_, append-assoc}
@@ -10,16 +9,9 @@ use native.Mathlib.Omega.{arith}
 use lib.ListN.{length, getD, take, drop, length-drop}
 use lib.Seq.{sets, sets-eq, drop-drop}
 use Rattle.text_spec.specs.Put.{Placed}
-use Rattle.text_spec.proofs.Put.{length-two}
-use Rattle.text_spec.proofs.Digits.{length-decimal}
-use Rattle.text_spec.specs.Ascii.{ascii}
-use Rattle.text_spec.specs.Text.{twoNumbers}
 use Rattle.text_fill_spec.specs.Filled.{filledText, slots, longest}
 use Rattle.text_fill_spec.proofs.Laws.{filled-short}
 use Rattle.refusal.specs.declared.Refusal.{Refusal}
-use Rattle.refusal.specs.declared.Checked.{Checked}
-use Rattle.refusal.specs.declared.Checked.the-variants as C
-use Rattle.refusal.specs.Numbers.{numberOf, placeOf}
 use Rattle.refusal.specs.Order.{Passed, Given}
 use Rattle.refusal.specs.Calls.{oneReading}
 use Rattle.refusal.proofs.Unique.{never-both}
@@ -33,9 +25,9 @@ use Rattle.record_spec.proofs.Wrote.{recordBytes, length-record, wrote-bytes}
 use Rattle.stream_spec.specs.Blocks.{Puts}
 use Rattle.files_spec.specs.declared.Job.{Job}
 use Rattle.files_spec.specs.declared.Job.the-variants as J
-use Rattle.files_spec.specs.Shows.{otherKind, lineForm, recordLine, Filled, Shows, lastText}
+use Rattle.files_spec.specs.Shows.{otherKind, lineForm, recordLine, Filled, Shows}
 use Rattle.files_spec.proofs.Unique.{bytes-filled}
-use Rattle.files_text_inner.specs.Room.{recordRoom, endRoom, Answered}
+use Rattle.files_text_inner.specs.Room.{recordRoom, Answered}
 
 -- a number that the code holds has at most 20 digits
 abbrev pub Few : ℕ → Type 0
@@ -96,30 +88,3 @@ module _ (j : Job) (s n k : ℕ) (x : Kind) (w b : List ℕ) (at r : ℕ) (d : L
 -- a ring of at most 64 sectors
 pub answered-few : (n k : ℕ) (w : List ℕ) → Answered n k w → n ≤ 64
 answered-few n k w a = omega (arith, a .long, a .passed .0 .0 .0 .0 .0 .0 .1)
-
--- ---- behind the last record
-
-pub damage-short : (x p : ℕ) → Few x → Few p → length (twoNumbers (ascii "refused ") x (ascii " at ") p) ≤ endRoom
-damage-short x p f g = omega (arith, length-two (ascii "refused ") x (ascii " at ") p, length-decimal 19 x f, length-decimal 19 p g)
-
-module _ (j : Job) (b : List ℕ) (at : ℕ) where
-  -- nothing
-  nothing : (v : Checked) → j ≡ J.Move → Puts (λ t. t ≡ lastText j v) endRoom b at at b
-  unfolding lastText
-  nothing v e = rw e (record { text = []; says = refl; short = omega arith; placed = record { next = omega arith; bytes = refl } })
-
-  pub end-read : (r : ℕ) (d : List ℕ) → j ≡ J.Read → Placed b at (ascii "end\n") r d → Puts (λ t. t ≡ lastText j C.Good) endRoom b at r d
-  unfolding lastText
-  end-read r d e p = rw e (record { text = ascii "end\n"; says = refl; short = omega arith; placed = p })
-
-  pub end-move : j ≡ J.Move → Puts (λ t. t ≡ lastText j C.Good) endRoom b at at b
-  end-move e = nothing C.Good e
-
-  pub damage-move : (q : Refusal) → j ≡ J.Move → Puts (λ t. t ≡ lastText j (C.Refused q)) endRoom b at at b
-  damage-move q e = nothing (C.Refused q) e
-
-  pub damage-read : (q : Refusal) (x p r : ℕ) (d : List ℕ) → j ≡ J.Read → x ≡ numberOf q → p ≡ placeOf q → Few x → Few p →
-      Placed b at (twoNumbers (ascii "refused ") x (ascii " at ") p) r d → Puts (λ t. t ≡ lastText j (C.Refused q)) endRoom b at r d
-  unfolding lastText
-  damage-read q x p r d e f g h i l =
-      rw e (record { text = twoNumbers (ascii "refused ") x (ascii " at ") p; says = rw (f, g); short = damage-short x p h i; placed = l })

@@ -1,2 +1,2 @@
--- The room that texts take (Room).
+-- The room that a record takes (Room).
 pub mod Room

@@ -1,6 +1,5 @@
--- The room that texts take, and what is known of a ring that the reader answered.
+-- The room that a record takes, and what is known of a ring that the reader answered.
 --     recordRoom       no record shows more bytes
---     endRoom          nor does what stands behind the last
 --     Answered n k w   w is a ring of n sectors and k shades that the writer's checks pass
 use Prim.Native.Nat.{ℕ}
 use mathlib.Core.Path.{_≡_}
@@ -11,9 +10,6 @@ use Rattle.refusal.specs.Calls.{oneReading}
 
 abbrev pub recordRoom : ℕ
 recordRoom = 140
-
-abbrev pub endRoom : ℕ
-endRoom = 80
 
 pub record Answered (n k : ℕ) (w : List ℕ) : Type 0 where
   pub long : length w ≡ n

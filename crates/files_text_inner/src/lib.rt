@@ -1,17 +1,15 @@
-// What a record of a catalogue shows, and what stands behind the last one, placed into a lent buffer. No public calls.
+// What a record of a catalogue shows, placed into a lent buffer. No public calls.
 
 use files_spec::Job;
 use record_spec::Kind;
 use record_spec::Written;
-use refusal::Refusal;
 ghost use Prim.Native.Nat.{_+_, _≤_};
 ghost use mathlib.Core.Path.{_≡_};
 ghost use lib.ListN.{length};
 ghost use Rattle.text_spec.specs.Put.{Placed};
-ghost use Rattle.refusal.specs.declared.Checked.the-variants.{Good, Refused};
 ghost use Rattle.stream_spec.specs.Blocks.{Puts};
-ghost use Rattle.files_spec.specs.Shows.{otherKind, recordLine, Filled, Shows, lastText};
-ghost use Rattle.files_text_inner.specs.Room.{recordRoom, endRoom, Answered};
+ghost use Rattle.files_spec.specs.Shows.{otherKind, recordLine, Filled, Shows};
+ghost use Rattle.files_text_inner.specs.Room.{recordRoom, Answered};
 
 // The other form.
 fn other(kind: Kind) -> Kind
@@ -83,31 +81,5 @@ pub fn place_record(
     match job {
         Job::Read => place_line(at_record, n, k, kind, ring, buf, at),
         Job::Move => place_bytes(k, other(kind), ring, buf, at),
-    }
-}
-
-// What stands behind the last record of a good catalogue.
-pub fn place_end(job: Job, buf: &mut [u8], at: usize) -> usize
-    requires { ⌜ at + endRoom ≤ length (now buf) ⌝ }
-    ensures { λ r. ⌜ Puts (λ t. t ≡ lastText job Good) endRoom (now (buf .entry)) at r (now (buf .exit)) ⌝ }
-{
-    match job {
-        Job::Read => text_digits_inner::place_text(buf, at, b"end\n"),
-        Job::Move => at,
-    }
-}
-
-// What stands behind the last good record of a damaged one.
-pub fn place_damage(job: Job, r: Refusal, buf: &mut [u8], at: usize) -> usize
-    requires { ⌜ at + endRoom ≤ length (now buf) ⌝ }
-    ensures { λ e. ⌜ Puts (λ t. t ≡ lastText job (Refused r)) endRoom (now (buf .entry)) at e (now (buf .exit)) ⌝ }
-{
-    match job {
-        Job::Read => {
-            let number = refusal::number(r);
-            let place = refusal::place(r);
-            text_lines_inner::place_two(buf, at, b"refused ", number, b" at ", place)
-        }
-        Job::Move => at,
     }
 }

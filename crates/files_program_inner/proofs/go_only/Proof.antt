@@ -1,6 +1,6 @@
 -- `files_program_inner::go_only` meets its contract: the end was reached, or why not.
 use mathlib.Core.Path.{refl}
-use Rattle.files_pass_inner.specs.declared.Time.the-variants.{Only}
+use Rattle.files_time_inner.specs.declared.Time.the-variants.{Only}
 use Rattle.files_program_inner.specs.Says.FileThroughSays.{stopped, whole}
 use borrow.Author.Needs.{needs}
 use Rattle.files_program_inner.proofs.go_only.Statement.{statement}

@@ -1,5 +1,5 @@
 -- `files_program_inner::go_twice` meets its contract: the second time follows only a first that went through.
-use Rattle.files_pass_inner.specs.declared.Time.the-variants.{First}
+use Rattle.files_time_inner.specs.declared.Time.the-variants.{First}
 use Rattle.files_program_inner.specs.Says.FileThroughSays.{stopped}
 use Rattle.files_program_inner.proofs.Times.{roomy-still, through-written}
 use borrow.Author.Needs.{needs}

@@ -1,8 +1,8 @@
--- `files_records_inner::enough` meets its contract: none left, the last block, or the bytes of the longest record.
+-- `files_records_end_inner::enough` meets its contract: none left, the last block, or the bytes of the longest record.
 use native.Mathlib.Omega.{arith}
-use Rattle.files_records_inner.proofs.Going.{enough-none, enough-last, enough-short, enough-long}
-use Rattle.files_records_inner.proofs.enough.Statement.{statement}
-use Rattle.files_records_inner.proofs.enough.Tie as tie
+use Rattle.files_records_end_inner.proofs.Ends.{enough-none, enough-last, enough-short, enough-long}
+use Rattle.files_records_end_inner.proofs.enough.Statement.{statement}
+use Rattle.files_records_end_inner.proofs.enough.Tie as tie
 
 returns : tie.Need-returns
 returns c = enough-none (c .before .args .last) (c .before .args .left) (c .if1 .taken)

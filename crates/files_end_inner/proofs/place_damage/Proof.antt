@@ -1,9 +1,9 @@
--- `files_text_inner::place_damage` meets its contract: the number and the place have room, and are those of the refusal.
+-- `files_end_inner::place_damage` meets its contract: the number and the place have room, and are those of the refusal.
 use native.Mathlib.Omega.{arith}
-use Rattle.files_text_inner.proofs.Placing.{damage-short, damage-read, damage-move}
+use Rattle.files_end_inner.proofs.Placing.{damage-short, damage-read, damage-move}
 use borrow.Author.Needs.{needs}
-use Rattle.files_text_inner.proofs.place_damage.Statement.{statement}
-use Rattle.files_text_inner.proofs.place_damage.Tie as tie
+use Rattle.files_end_inner.proofs.place_damage.Statement.{statement}
+use Rattle.files_end_inner.proofs.place_damage.Tie as tie
 
 enum-told : tie.Need-enum-told
 enum-told c = search needs

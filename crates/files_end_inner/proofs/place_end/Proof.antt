@@ -1,8 +1,8 @@
--- `files_text_inner::place_end` meets its contract: the text of its case, or none, stands there.
-use Rattle.files_text_inner.proofs.Placing.{end-read, end-move}
+-- `files_end_inner::place_end` meets its contract: the text of its case, or none, stands there.
+use Rattle.files_end_inner.proofs.Placing.{end-read, end-move}
 use borrow.Author.Needs.{needs}
-use Rattle.files_text_inner.proofs.place_end.Statement.{statement}
-use Rattle.files_text_inner.proofs.place_end.Tie as tie
+use Rattle.files_end_inner.proofs.place_end.Statement.{statement}
+use Rattle.files_end_inner.proofs.place_end.Tie as tie
 
 enum-told : tie.Need-enum-told
 enum-told c = search needs

@@ -1,8 +1,8 @@
--- `files_pass_inner::refused` meets its contract: the first time the refusal is told by number and place.
-use Rattle.files_pass_inner.proofs.Turns.{refused-first}
+-- `files_time_inner::refused` meets its contract: the first time the refusal is told by number and place.
+use Rattle.files_time_inner.proofs.Times.{refused-first}
 use borrow.Author.Needs.{needs}
-use Rattle.files_pass_inner.proofs.refused.Statement.{statement}
-use Rattle.files_pass_inner.proofs.refused.Tie as tie
+use Rattle.files_time_inner.proofs.refused.Statement.{statement}
+use Rattle.files_time_inner.proofs.refused.Tie as tie
 
 returns-2 : tie.Need-returns-2
 returns-2 c =

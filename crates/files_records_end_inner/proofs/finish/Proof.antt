@@ -1,9 +1,9 @@
--- `files_records_inner::finish` meets its contract: the end is told where the block is the last.
+-- `files_records_end_inner::finish` meets its contract: the end is told where the block is the last.
 use mathlib.Core.Path.{refl}
-use Rattle.files_records_inner.proofs.Going.{finish-over, finish-on}
+use Rattle.files_records_end_inner.proofs.Ends.{finish-over, finish-on}
 use borrow.Author.Needs.{needs}
-use Rattle.files_records_inner.proofs.finish.Statement.{statement}
-use Rattle.files_records_inner.proofs.finish.Tie as tie
+use Rattle.files_records_end_inner.proofs.finish.Statement.{statement}
+use Rattle.files_records_end_inner.proofs.finish.Tie as tie
 
 returns : tie.Need-returns
 returns c =

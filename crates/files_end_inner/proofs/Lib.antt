@@ -1,0 +1,2 @@
+-- Texts that stand where they were placed (Placing).
+pub mod Placing

@@ -1,0 +1,2 @@
+-- The room that the end takes (Room).
+pub mod Room

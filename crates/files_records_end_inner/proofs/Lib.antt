@@ -1,0 +1,2 @@
+-- Where a block is as far as it goes (Ends).
+pub mod Ends

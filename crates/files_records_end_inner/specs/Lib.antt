@@ -1,0 +1,2 @@
+-- What the parts promise (Says).
+pub mod Says

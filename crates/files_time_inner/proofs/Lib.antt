@@ -1,0 +1,2 @@
+-- How a run ends (Times).
+pub mod Times

@@ -1,0 +1,2 @@
+-- What each time through a catalogue does (Says).
+pub mod Says
