@@ -1,13 +1,9 @@
 -- From what is placed to what an input prints.
---     slice-at, pass-at               a ring in its place, and its checks
 --     pass-more, wrong-at             one target more, or the first that is refused
 --     picked-places                   the places of a set that was picked
 --     judge-refused, judge-none, judge-checked, set-prepared    what is ready, or printed instead
 --     own-good, own-wrong, own-as, own-none, own-some    the same of lines
---     behind-line, behind-none        where lines begin
 --     not-read, too-long, prepared-set, prepared-lines, prepared-none     what an input asks for
---     step-placed                     a target that is placed
---     step-never                      no target of a sheet that is ready is refused
 --     steps-sheet                     the steps one after another are the sheet, whatever gives its rings
 --     steps-printed, own-printed      and they are what the input prints
 use Prim.Native.Nat.{ℕ, zero, suc, _+_, _-_, _*_, _<_, _≤_}
@@ -29,7 +25,6 @@ use Rattle.refusal.specs.declared.Refusal.the-variants.{Line, Set}
 use Rattle.refusal.specs.declared.Checked.{Checked}
 use Rattle.refusal.specs.declared.Checked.the-variants.{Good, Refused}
 use Rattle.refusal.specs.Order.{Passed, Given, CheckSays}
-use Rattle.refusal.proofs.Unique.{never-both}
 use Rattle.set_spec.specs.Places.{placeAt, setIn}
 use Rattle.set_laws.proofs.Places.{laid-length, length-set-in, set-in-at}
 use Rattle.guard_spec.specs.declared.Rule.{Rule}
@@ -37,13 +32,12 @@ use Rattle.guard_spec.specs.Choice.{chosenBy}
 use Rattle.set_pick_spec.specs.Order.{setOrder}
 use Rattle.set_pick_spec.specs.Says.{SetChosen, SetAnswers}
 use Rattle.set_pick_spec.proofs.Worth.{rule-most, rule-set}
-use Rattle.picture_spec.specs.declared.Drawn.{Drawn}
 use Rattle.sheet_spec.specs.declared.Source.{Source}
 use Rattle.sheet_spec.specs.declared.Source.the-variants as S
 use Rattle.sheet_spec.specs.declared.Sheet.{Sheet}
 use Rattle.sheet_spec.specs.Text.{sheetText, sheetFrom}
 use Rattle.sheet_spec.specs.Text as text
-use Rattle.sheet_spec.specs.Says.{targetRoom, sheetOrder, TargetSays}
+use Rattle.sheet_spec.specs.Says.{targetRoom, sheetOrder}
 use Rattle.sheet_laws.specs.Placing.{Placing, all, then}
 use Rattle.sheet_laws.proofs.Placing.{placing-sheet}
 use Rattle.sheet_words_spec.proofs.Unique.{one-sheet}
@@ -57,41 +51,31 @@ use Rattle.sheet_print_spec.specs.Prints.{ringIn, ownSheet, OwnPrints, ReadsShe
 use Rattle.sheet_print_spec.proofs.Rings.{rings-at}
 use Rattle.sheet_own_inner.specs.Says.{LinesPass, WrongLine}
 use Rattle.sheet_own_inner.proofs.Lines.{rest-is}
+use Rattle.sheet_places_inner.specs.Says.{SetPlaces}
+use Rattle.sheet_places_inner.proofs.Places.{passed-at, given-at}
+use Rattle.sheet_source_inner.specs.Says.{isOwn, BehindLine}
 use Rattle.sheet_print_inner.specs.declared.Answer.{Answer}
 use Rattle.sheet_print_inner.specs.declared.Answer.the-variants as A
-use Rattle.sheet_print_inner.specs.Says.{isGood, isOwn, SetPlaces, AllPass, FirstWrong, CheckedTargets, ReadySet, JobAnswers, setAnswer, SetPrepared}
-use Rattle.sheet_print_inner.specs.Says.{ownAnswer, ReadyOwn, OwnPrepared, BehindLine, linesAt, Prepared}
+use Rattle.sheet_print_inner.specs.Says.{isGood, AllPass, FirstWrong, CheckedTargets, ReadySet, JobAnswers, setAnswer, SetPrepared}
+use Rattle.sheet_print_inner.specs.Says.{ownAnswer, ReadyOwn, OwnPrepared, linesAt, Prepared}
 use Rattle.sheet_print_inner.specs.Steps.{ownRings, SheetSteps, over, step}
 
--- ---- a ring in its place
-
-pub slice-at : (n j : ℕ) (p : List ℕ) → take (24 * j + n - 24 * j) (drop (24 * j) p) ≡ placeAt n p j
-slice-at n j p = let e : 24 * j + n - 24 * j ≡ n = omega arith in rw e refl
+-- ---- the checks of all targets
 
 module _ (o : Sheet) (p : List ℕ) (t : ℕ) where
-  -- its checks, in the list of all
-  passed-at : (j : ℕ) → j < t → Passed (sheetOrder o (placeAt (o .n) p j) j targetRoom) → Passed (targetOrder o (setIn (o .n) p t) j)
-  passed-at j h s = subst (λ (w : List ℕ). Passed (sheetOrder o w j targetRoom)) (sym (set-in-at (o .n) p t j h)) s
-
-  at-passed : (j : ℕ) → j < t → Passed (targetOrder o (setIn (o .n) p t) j) → Passed (sheetOrder o (placeAt (o .n) p j) j targetRoom)
-  at-passed j h s = subst (λ (w : List ℕ). Passed (sheetOrder o w j targetRoom)) (set-in-at (o .n) p t j h) s
-
-  given-at : (j : ℕ) → j < t → (r : Refusal) → Given (sheetOrder o (placeAt (o .n) p j) j targetRoom) r → Given (targetOrder o (setIn (o .n) p t) j) r
-  given-at j h r s = subst (λ (w : List ℕ). Given (sheetOrder o w j targetRoom) r) (sym (set-in-at (o .n) p t j h)) s
-
   -- one target more
   pub pass-more : (j : ℕ) (v : Checked) → j < t → isGood v ≡ true → CheckSays (sheetOrder o (placeAt (o .n) p j) j targetRoom) v → AllPass o p t j → AllPass o p t (j + 1)
   pass-more j Good h e s a i l =
       elim (decLt i j) [
         | yes k ↦ a i k
-        | no k ↦ let q : i ≡ j = omega arith in subst (λ (x : ℕ). Passed (targetOrder o (setIn (o .n) p t) x)) (sym q) (passed-at j h s)
+        | no k ↦ let q : i ≡ j = omega arith in subst (λ (x : ℕ). Passed (targetOrder o (setIn (o .n) p t) x)) (sym q) (passed-at o p t j h s)
       ]
   pass-more j (Refused r) h e s a i l = absurd (false≢true e)
 
   -- the first that is refused
   pub wrong-at : (j : ℕ) (v : Checked) → j < t → isGood v ≡ false → CheckSays (sheetOrder o (placeAt (o .n) p j) j targetRoom) v → AllPass o p t j → CheckedTargets o p t v
   wrong-at j Good h e s a = absurd (false≢true (sym e))
-  wrong-at j (Refused r) h e s a = record { place = j; within = h; before = a; given = given-at j h r s }
+  wrong-at j (Refused r) h e s a = record { place = j; within = h; before = a; given = given-at o p t j h r s }
 
 -- ---- a set that was picked
 
@@ -165,19 +149,6 @@ own-none t e = rw e refl
 pub own-some : (t : ℕ) → (t ≡ 0 → ⊥) → A.Own ≡ ownAnswer t
 own-some zero n = absurd (n refl)
 own-some (suc t) n = refl
-
--- where the lines begin
-pub behind-line : (s : List ℕ) (e : ℕ) → e < length s → BehindLine s e (e + 1)
-behind-line s e h = record { within = omega arith; same = refl }
-
-pub behind-none : (s : List ℕ) (e : ℕ) → length s ≤ e → e ≤ length s → BehindLine s e e
-behind-none s e h l = record { within = l; same = bytes-none s e h ∙ sym (bytes-none s (e + 1) (omega arith)) }
-  where
-    bytes-none : (s : List ℕ) (i : ℕ) → length s ≤ i → drop i s ≡ []
-    bytes-none [] zero h = refl
-    bytes-none [] (suc i) h = refl
-    bytes-none (a ∷ s) zero h = absurd (omega arith)
-    bytes-none (a ∷ s) (suc i) h = bytes-none s i (omega arith)
 
 -- ---- an input
 
@@ -254,20 +225,6 @@ module _ (s : List ℕ) (e : ℕ) (at : PieceAt 10 s e) where
 -- the answer where nothing is asked for
 pub prepared-none : (s : List ℕ) (o : Sheet) (p : List ℕ) (f t : ℕ) (a : Answer) → a ≡ A.Refused Line → SheetPrints s (refusalText Line) → Prepared s o p f t a
 prepared-none s o p f t a e x = rw e x
-
--- ---- a step
-
--- what the call says of its slice, said of the place
-pub step-placed : (o : Sheet) (p : List ℕ) (i : ℕ) (last : Bool) (b : List ℕ) (d e : Drawn) (b′ : List ℕ) →
-    TargetSays o (take (24 * i + o .n - 24 * i) (drop (24 * i) p)) i last b d b′ → d ≡ e → TargetSays o (placeAt (o .n) p i) i last b e b′
-step-placed o p i last b d e b′ s q = rw (slice-at (o .n) i p, q) at s
-
-module _ (o : Sheet) (p : List ℕ) (t i : ℕ) (h : i < t) (b : List ℕ) (room : targetRoom ≤ length b) (pass : Passed (targetOrder o (setIn (o .n) p t) i)) where
-  in-room : Passed (sheetOrder o (placeAt (o .n) p i) i (length b))
-  in-room = (at-passed o p t i h pass .0, room)
-
-  pub step-never : (r : Refusal) → Given (sheetOrder o (placeAt (o .n) p i) i (length b)) r → ⊥
-  step-never r g = never-both (sheetOrder o (placeAt (o .n) p i) i (length b)) r g in-room
 
 -- ---- step after step
 

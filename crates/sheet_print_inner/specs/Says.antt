@@ -1,6 +1,5 @@
 -- What the functions promise.
 --     isGood v               nothing was refused
---     SetPlaces p n t        t rings of n sectors in the places p
 --     CheckedTargets o p t   what checking t targets promises: all pass, or the first refusal
 --     ReadySet o p t         the set that o asks for, in the places p, may be printed
 --     JobAnswers o p t v     what is ready, or what is printed instead
@@ -9,9 +8,8 @@
 --     ownAnswer t            what is printed of t lines that pass
 --     ReadyOwn o ls t        the rings of the lines ls, which are t, may be printed
 --     OwnPrepared o ls q t a what is printed of the lines ls on the sheet q, where o was asked for
---     BehindLine s e r       what stands behind the line that ends at e begins at r
 --     Prepared s o p f t a   what is printed of an input s that asks for o, or for nothing, where lines begin at f
-use Prim.Native.Nat.{ℕ, zero, suc, _+_, _<_, _≤_}
+use Prim.Native.Nat.{ℕ, zero, suc, _<_, _≤_}
 use mathlib.Core.Path.{_≡_}
 use mathlib.Core.Bool.{Bool, true, false}
 use mathlib.Core.List.{List, map}
@@ -24,30 +22,19 @@ use Rattle.refusal.specs.declared.Checked.the-variants.{Good, Refused}
 use Rattle.refusal.specs.Order.{Passed, Given}
 use Rattle.set_spec.specs.Places.{setIn}
 use Rattle.set_pick_spec.specs.Order.{Askable}
-use Rattle.sheet_spec.specs.declared.Source.{Source}
-use Rattle.sheet_spec.specs.declared.Source.the-variants as S
 use Rattle.sheet_spec.specs.declared.Sheet.{Sheet}
 use Rattle.sheet_spec.specs.Text.{sheetText}
 use Rattle.program_refusal_spec.specs.Text.{refusedLineText}
 use Rattle.desk_spec.specs.Texts.{refusalText}
 use Rattle.sheet_print_spec.specs.Prints.{targetOrder, chosenFor, ChosenPrints, ringIn, ownSheet, OwnPrints, SheetPrints}
 use Rattle.sheet_own_inner.specs.Says.{LinesPass}
+use Rattle.sheet_places_inner.specs.Says.{SetPlaces}
 use Rattle.sheet_print_inner.specs.declared.Answer.{Answer}
 use Rattle.sheet_print_inner.specs.declared.Answer.the-variants as A
 
 abbrev pub isGood : Checked → Bool
 isGood Good = true
 isGood (Refused r) = false
-
-abbrev pub isOwn : Source → Bool
-isOwn S.Guarded = false
-isOwn S.Plain = false
-isOwn S.Own = true
-
-pub record SetPlaces (p : List ℕ) (n t : ℕ) : Type 0 where
-  pub size : length p ≡ 768
-  pub short : n ≤ 24
-  pub most : t ≤ 32
 
 abbrev pub AllPass : Sheet → List ℕ → ℕ → ℕ → Type 0
 AllPass o p t m = (i : ℕ) → i < m → Passed (targetOrder o (setIn (o .n) p t) i)
@@ -102,10 +89,6 @@ OwnPrepared o ls q t (A.Refused r) = OwnPrints o ls (refusalText r)
 OwnPrepared o ls q t (A.Wrong r j) = OwnPrints o ls (refusedLineText r j)
 
 -- ---- an input
-
-pub record BehindLine (s : List ℕ) (e r : ℕ) : Type 0 where
-  pub within : r ≤ length s
-  pub same : drop r s ≡ drop (e + 1) s
 
 -- the lines from the place f of the input s on
 abbrev pub linesAt : List ℕ → ℕ → List (List ℕ)

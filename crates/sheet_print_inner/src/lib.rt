@@ -1,25 +1,18 @@
-// What the command for a sheet prints: the line of words read, its set chosen or its lines read, and every target checked before the first is placed; then target after
-// target. No public calls.
+// What the command for a sheet prints: the line of words read, its set chosen or its lines read, and every target checked before the first is placed. No public calls.
 
-use guard_spec::Rule;
-use picture_spec::Drawn;
 use refusal::Checked;
 use refusal::Refusal;
 use sheet_own_inner::LinesTold;
 use sheet_spec::Sheet;
-use sheet_spec::Source;
-ghost use Prim.Native.Nat.{_<_, _≤_};
+ghost use Prim.Native.Nat.{_≤_};
 ghost use mathlib.Core.Path.{_≡_};
 ghost use mathlib.Core.Bool.{Bool};
 ghost use lib.ListN.{length};
-ghost use Rattle.set_spec.specs.Places.{setIn};
 ghost use Rattle.stream_spec.specs.Lines.{lines};
-ghost use Rattle.refusal.specs.Order.{Passed};
 ghost use Rattle.set_pick_spec.specs.Says.{SetAnswers};
-ghost use Rattle.sheet_spec.specs.Says.{targetRoom};
-ghost use Rattle.sheet_print_spec.specs.Prints.{targetOrder, ruleOf, chosenFor};
-ghost use Rattle.sheet_print_inner.specs.Says.{isGood, isOwn, setAnswer, ownAnswer, SetPlaces, CheckedTargets, JobAnswers, SetPrepared, OwnPrepared, BehindLine, Prepared};
-ghost use Rattle.sheet_print_inner.specs.Steps.{PlacedAt};
+ghost use Rattle.sheet_print_spec.specs.Prints.{chosenFor};
+ghost use Rattle.sheet_print_inner.specs.Says.{isGood, setAnswer, ownAnswer, CheckedTargets, JobAnswers, SetPrepared, OwnPrepared, Prepared};
+ghost use Rattle.sheet_places_inner.specs.Says.{SetPlaces};
 
 // No text of a target is longer.
 const ROOM: usize = 18432;
@@ -47,26 +40,6 @@ fn is_good(v: Checked) -> bool
     match v {
         Checked::Good => true,
         Checked::Refused(_) => false,
-    }
-}
-
-fn is_own(s: Source) -> bool
-    ensures { λ r. ⌜ r ≡ isOwn s ⌝ }
-{
-    match s {
-        Source::Guarded => false,
-        Source::Plain => false,
-        Source::Own => true,
-    }
-}
-
-fn rule_of(s: Source) -> Rule
-    ensures { λ r. ⌜ r ≡ ruleOf s ⌝ }
-{
-    match s {
-        Source::Guarded => Rule::Guarded,
-        Source::Plain => Rule::Plain,
-        Source::Own => Rule::Plain,
     }
 }
 
@@ -120,7 +93,13 @@ fn prepare_set(sheet: Sheet) -> Job
     ensures { λ r. ⌜ (r .sheet ≡ sheet) × SetPrepared sheet (r .places) (r .count) (r .answer) ⌝ }
 {
     let source = sheet.source;
-    let picked = sets::pick_by(rule_of(source), sheet.n, sheet.k, sheet.d, sheet.wanted);
+    let picked = sets::pick_by(
+        sheet_source_inner::rule_of(source),
+        sheet.n,
+        sheet.k,
+        sheet.d,
+        sheet.wanted,
+    );
     let places = picked.places;
     let found = picked.answer;
     let answer = set_answer(judge(sheet, &places, picked.taken, picked.full, found));
@@ -168,17 +147,6 @@ fn prepare_own(sheet: Sheet, text: &[u8], from: usize, ring: &mut [u8]) -> Job
     }
 }
 
-// Where what stands behind the line begins that ends at e.
-fn behind(s: &[u8], e: usize) -> usize
-    requires { ⌜ e ≤ length (now s) ⌝ }
-    ensures { λ r. ⌜ BehindLine (now (s .entry)) e r ⌝ }
-{
-    if e < s.len() {
-        return e + 1;
-    }
-    e
-}
-
 // What an input asks for; the lent bytes are as many as its own.
 pub fn prepare(s: &[u8], ring: &mut [u8]) -> Job
     requires { ⌜ length (now s) ≤ length (now ring) ⌝ }
@@ -191,28 +159,12 @@ pub fn prepare(s: &[u8], ring: &mut [u8]) -> Job
         return bare_job(sheet, 0, 0, Answer::Refused(Refusal::Line));
     }
     let source = sheet.source;
-    if is_own(source) {
-        let from = behind(s, e);
+    if sheet_source_inner::is_own(source) {
+        let from = sheet_source_inner::behind(s, e);
         return prepare_own(sheet, &s[from..], from, ring);
     }
     if 1 < s.len() - e {
         return bare_job(sheet, 0, 0, Answer::Refused(Refusal::Line));
     }
     prepare_set(sheet)
-}
-
-// Target i of a sheet that is ready, at the beginning of the buffer, and how long that is.
-pub fn place_step(sheet: Sheet, places: &[u8], count: usize, i: usize, buf: &mut [u8]) -> usize
-    requires { ⌜ SetPlaces (now places) (sheet .n) count ⌝ }
-    requires { ⌜ (i < count) × (targetRoom ≤ length (now buf)) ⌝ }
-    requires { ⌜ Passed (targetOrder sheet (setIn (sheet .n) (now places) count) i) ⌝ }
-    ensures { λ r. ⌜ PlacedAt sheet (now (places .entry)) count i (now (buf .entry)) r (now (buf .exit)) ⌝ }
-{
-    let n = sheet.n;
-    let from = 24 * i;
-    let to = from + n;
-    match sheets::target(sheet, &places[from..to], i, i + 1 == count, buf) {
-        Drawn::Whole(m) => m,
-        Drawn::Refused(_) => 0,
-    }
 }

@@ -30,7 +30,7 @@ fn print_targets(sheet: Sheet, places: &[u8], count: usize, buf: &mut [u8]) -> W
 {
     let mut i = 0;
     while i < count {
-        let m = sheet_print_inner::place_step(sheet, places, count, i, buf);
+        let m = sheet_places_inner::place_step(sheet, places, count, i, buf);
         if !io::write_all(STDOUT_FILENO, &buf[..m]) {
             return Written {
                 wrote: false,

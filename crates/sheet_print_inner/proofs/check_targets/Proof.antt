@@ -4,7 +4,8 @@ use mathlib.Core.Path.{_≡_, refl, sym, ap, _∙_}
 use native.Mathlib.Omega.{arith}
 use borrow.Author.Tests.{not-true, not-false}
 use Rattle.sheet_print_inner.specs.Says.{AllPass}
-use Rattle.sheet_print_inner.proofs.Ready.{slice-at, pass-more, wrong-at}
+use Rattle.sheet_places_inner.proofs.Places.{slice-at}
+use Rattle.sheet_print_inner.proofs.Ready.{pass-more, wrong-at}
 use borrow.Author.Needs.{needs}
 use Rattle.sheet_print_inner.proofs.check_targets.Statement.{statement}
 use Rattle.sheet_print_inner.proofs.check_targets.Tie as tie

@@ -1,10 +1,10 @@
--- `sheet_print_inner::place_step` meets its contract.
+-- `sheet_places_inner::place_step` meets its contract.
 use native.Mathlib.Omega.{arith}
 use Rattle.picture_spec.specs.declared.Drawn.the-variants.{Whole, Refused}
-use Rattle.sheet_print_inner.proofs.Ready.{step-placed, step-never}
+use Rattle.sheet_places_inner.proofs.Places.{step-placed, step-never}
 use borrow.Author.Needs.{needs}
-use Rattle.sheet_print_inner.proofs.place_step.Statement.{statement}
-use Rattle.sheet_print_inner.proofs.place_step.Tie as tie
+use Rattle.sheet_places_inner.proofs.place_step.Statement.{statement}
+use Rattle.sheet_places_inner.proofs.place_step.Tie as tie
 
 mul-from : tie.Need-mul-from
 mul-from c = omega (arith, c .before .before .pre .0 .most, c .before .before .pre .1 .0)

@@ -1,9 +1,9 @@
--- `sheet_print_inner::behind` meets its contract.
+-- `sheet_source_inner::behind` meets its contract.
 use native.Mathlib.Omega.{arith}
-use Rattle.sheet_print_inner.proofs.Ready.{behind-none}
+use Rattle.sheet_source_inner.proofs.Begins.{behind-none}
 use borrow.Author.Needs.{needs}
-use Rattle.sheet_print_inner.proofs.behind.Statement.{statement}
-use Rattle.sheet_print_inner.proofs.behind.Tie as tie
+use Rattle.sheet_source_inner.proofs.behind.Statement.{statement}
+use Rattle.sheet_source_inner.proofs.behind.Tie as tie
 
 returns-2 : tie.Need-returns-2
 returns-2 c = behind-none (c .before .args .s .now) (c .before .args .e) (omega (arith, c .if1 .left)) (c .before .pre)

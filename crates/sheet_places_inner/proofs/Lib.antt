@@ -1,0 +1,2 @@
+-- A ring in its place, and its target (Places).
+pub mod Places

@@ -1,0 +1,2 @@
+-- What the function promises (Says).
+pub mod Says

@@ -1,0 +1,2 @@
+-- Where lines begin (Begins).
+pub mod Begins
