@@ -1,32 +1,8 @@
--- The verb of a word, name after name and group after group.
---     named-yes, named-no    by the test of one name
---     named-then             a name, and what follows it
---     either-then            two names, and what follows them
---     group-then             a group, and what follows it
-use Prim.Native.Nat.{ℕ}
-use mathlib.Core.Path.{_≡_, refl, sym, ap, _∙_}
-use mathlib.Core.Bool.{Bool, true, false}
-use mathlib.Core.List.{List}
-use Rattle.words.specs.Order.{same}
-use Rattle.desk_spec.specs.declared.Verb.{Verb}
+-- The verb of a word, group after group.
+use mathlib.Core.Path.{_≡_, ap, _∙_}
 use Rattle.desk_spec.specs.declared.Found.{Found}
-use Rattle.desk_spec.specs.declared.Found.the-variants.{Known}
-use Rattle.desk_spec.specs.Verbs.{named, orElse}
+use Rattle.desk_spec.specs.Verbs.{orElse}
 
-pub named-yes : (t name : List ℕ) (v : Verb) (next : Found) → same t name ≡ true → Known v ≡ named t name v next
-named-yes t name v next e = sym (ap (λ (b : Bool). elim b [ true ↦ Known v | false ↦ next ]) e)
-
-pub named-no : (t name : List ℕ) (v : Verb) (next : Found) → same t name ≡ false → next ≡ named t name v next
-named-no t name v next e = sym (ap (λ (b : Bool). elim b [ true ↦ Known v | false ↦ next ]) e)
-
--- what follows a name may be said otherwise
-pub named-then : (t name : List ℕ) (v : Verb) (r x y : Found) → r ≡ named t name v x → x ≡ y → r ≡ named t name v y
-named-then t name v r x y p q = p ∙ ap (λ (z : Found). named t name v z) q
-
--- and what follows two names
-pub either-then : (t a b : List ℕ) (u v : Verb) (r x y : Found) → r ≡ named t a u (named t b v x) → x ≡ y → r ≡ named t a u (named t b v y)
-either-then t a b u v r x y p q = p ∙ ap (λ (z : Found). named t a u (named t b v z)) q
-
--- and so may a group and what follows it
+-- a group, and what follows it, may be said otherwise
 pub group-then : (r f g x y : Found) → r ≡ orElse f x → f ≡ g → x ≡ y → r ≡ orElse g y
 group-then r f g x y p q s = p ∙ ap (λ (z : Found). orElse z x) q ∙ ap (λ (z : Found). orElse g z) s

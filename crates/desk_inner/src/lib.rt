@@ -1,9 +1,7 @@
 // What a line of the desk prints, placed into a lent buffer: its first word is a verb. No public calls.
 
-use desk_spec::About;
 use desk_spec::Both;
 use desk_spec::Found;
-use desk_spec::Step;
 use desk_spec::Verb;
 ghost use Prim.Native.Nat.{_+_, _<_, _≤_};
 ghost use mathlib.Core.Path.{_≡_};
@@ -11,26 +9,9 @@ ghost use lib.ListN.{length};
 ghost use Rattle.stream_spec.specs.Blocks.{Puts};
 ghost use Rattle.text_spec.specs.Ascii.{space};
 ghost use Rattle.text_words_spec.specs.Words.{PieceAt};
-ghost use Rattle.desk_spec.specs.Verbs.{named, orElse, aboutOf, bothOf, countOf, stepOf, stripOf, cameraOf, shadesOf, verbOf};
+ghost use Rattle.desk_spec.specs.Verbs.{orElse, bothOf, countOf, stripOf, cameraOf, shadesOf, verbOf};
 ghost use Rattle.desk_spec.specs.Answers.{VerbSays, DeskAnswers};
 ghost use Rattle.desk_texts_inner.specs.Says.{deskRoom};
-
-// The verb v where the word t is this name, else what follows.
-fn or_named(t: &[u8], name: &[u8], v: Verb, next: Found) -> Found
-    ensures { λ r. ⌜ r ≡ named (now (t .entry)) (now (name .entry)) v next ⌝ }
-{
-    if text_spell_inner::same_text(t, name) {
-        return Found::Known(v);
-    }
-    next
-}
-
-// One of two names, else what follows.
-fn or_either(t: &[u8], a: &[u8], u: Verb, b: &[u8], v: Verb, next: Found) -> Found
-    ensures { λ r. ⌜ r ≡ named (now (t .entry)) (now (a .entry)) u (named (now (t .entry)) (now (b .entry)) v next) ⌝ }
-{
-    or_named(t, a, u, or_named(t, b, v, next))
-}
 
 // The first that is known.
 fn or_else(f: Found, next: Found) -> Found
@@ -42,31 +23,10 @@ fn or_else(f: Found, next: Found) -> Found
     }
 }
 
-fn about_of(t: &[u8]) -> Found
-    ensures { λ r. ⌜ r ≡ aboutOf (now (t .entry)) ⌝ }
-{
-    let c = or_either(
-        t,
-        b"even",
-        Verb::About(About::Even),
-        b"place",
-        Verb::About(About::Place),
-        Found::Unknown,
-    );
-    or_either(
-        t,
-        b"class",
-        Verb::About(About::Class),
-        b"home",
-        Verb::About(About::Home),
-        c,
-    )
-}
-
 fn both_of(t: &[u8]) -> Found
     ensures { λ r. ⌜ r ≡ bothOf (now (t .entry)) ⌝ }
 {
-    or_either(
+    desk_names_inner::or_either(
         t,
         b"same",
         Verb::Both(Both::Same),
@@ -79,7 +39,7 @@ fn both_of(t: &[u8]) -> Found
 fn count_of(t: &[u8]) -> Found
     ensures { λ r. ⌜ r ≡ countOf (now (t .entry)) ⌝ }
 {
-    or_either(
+    desk_names_inner::or_either(
         t,
         b"many",
         Verb::Many,
@@ -89,37 +49,16 @@ fn count_of(t: &[u8]) -> Found
     )
 }
 
-fn step_of(t: &[u8]) -> Found
-    ensures { λ r. ⌜ r ≡ stepOf (now (t .entry)) ⌝ }
-{
-    let c = or_either(
-        t,
-        b"prenecklace",
-        Verb::About(About::Step(Step::Prenecklace)),
-        b"bracelet",
-        Verb::About(About::Step(Step::Bracelet)),
-        Found::Unknown,
-    );
-    or_either(
-        t,
-        b"next",
-        Verb::About(About::Step(Step::Necklace)),
-        b"lyndon",
-        Verb::About(About::Step(Step::Lyndon)),
-        c,
-    )
-}
-
 fn strip_of(t: &[u8]) -> Found
     ensures { λ r. ⌜ r ≡ stripOf (now (t .entry)) ⌝ }
 {
-    or_named(t, b"strip", Verb::Strip, Found::Unknown)
+    desk_names_inner::or_named(t, b"strip", Verb::Strip, Found::Unknown)
 }
 
 fn camera_of(t: &[u8]) -> Found
     ensures { λ r. ⌜ r ≡ cameraOf (now (t .entry)) ⌝ }
 {
-    or_either(
+    desk_names_inner::or_either(
         t,
         b"sight",
         Verb::Sight,
@@ -132,7 +71,7 @@ fn camera_of(t: &[u8]) -> Found
 fn shades_of(t: &[u8]) -> Found
     ensures { λ r. ⌜ r ≡ shadesOf (now (t .entry)) ⌝ }
 {
-    or_either(
+    desk_names_inner::or_either(
         t,
         b"first",
         Verb::First,
@@ -146,10 +85,10 @@ fn shades_of(t: &[u8]) -> Found
 fn verb_of(t: &[u8]) -> Found
     ensures { λ r. ⌜ r ≡ verbOf (now (t .entry)) ⌝ }
 {
-    let a = about_of(t);
+    let a = desk_names_inner::about_of(t);
     let b = both_of(t);
     let c = count_of(t);
-    let d = step_of(t);
+    let d = desk_names_inner::step_of(t);
     let e = strip_of(t);
     let f = camera_of(t);
     let g = shades_of(t);

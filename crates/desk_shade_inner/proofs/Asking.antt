@@ -1,17 +1,14 @@
 -- From what is told of the words to what the question prints.
---     eight-told                     whether the words are three or more, of eight digits each
 --     no-floats, no-eight            where they are none, or no such
 --     spelt-floats, put-floats       where they are such
 --     no-shade, put-shade            k stands in front of them
---     put-one, put-several           what one value, and several, print
 use Prim.Native.Nat.{ℕ, _+_, _-_, _*_, _<_, _≤_}
 use mathlib.Core.Path.{_≡_, refl, sym, ap, subst, _∙_}
-use mathlib.Core.Bool.{Bool, true, false}
+use mathlib.Core.Bool.{true, false}
 use mathlib.Core.List.{List, [], _∷_, _++_, map, append-nil}
 use native.Mathlib.Omega.{arith}
-use lib.ListN.{length, getD, take, drop, length-drop, length-append}
-use lib.Seq.{length-take-le, take-add, take-all}
-use lib.Ieee.{Float, nan}
+use lib.ListN.{length, take, drop, length-drop, length-append}
+use lib.Seq.{length-take-le, take-add}
 use Rattle.text_spec.specs.Decimal.{decimal}
 use Rattle.text_spec.specs.Text.{hexOf}
 use Rattle.text_words_spec.specs.Words.{Nibbles}
@@ -19,29 +16,22 @@ use Rattle.stream_spec.specs.Blocks.{Puts}
 use Rattle.strip_spec.specs.Strip.{joined}
 use Rattle.strip_spec.proofs.Joined.{joined-append}
 use Rattle.sight_spec.specs.Rings.{ringsIn}
-use Rattle.density_spec.specs.declared.SectorRead.{SectorRead}
-use Rattle.density_spec.specs.declared.RingRead.{RingRead}
-use Rattle.density_spec.specs.Says.{SectorSays, RingSays}
-use Rattle.desk_spec.specs.Floats.{floatOf, firstCard}
-use Rattle.desk_spec.specs.Texts.{sectorText, shadesText}
+use Rattle.desk_spec.specs.Floats.{floatOf}
 use Rattle.desk_spec.specs.Sights.{AsLong}
 use Rattle.desk_spec.specs.Questions.{EachNibbles, ReadsShade, Replies}
-use Rattle.desk_spec.specs.Answers.{AnswerShows, ShadesSays, oneValue, severalValues, blank}
+use Rattle.desk_spec.specs.Answers.{ShadesSays}
 use Rattle.desk_spec.proofs.Sights.{length-alike, rings-joined}
 use Rattle.desk_spec.proofs.Questions.{words-one}
-use Rattle.desk_texts_inner.specs.Says.{deskRoom, LinePrinted}
-use Rattle.desk_texts_inner.proofs.Putting.{put-shown, puts-on, put-good, put-as}
+use Rattle.desk_texts_inner.specs.Says.{deskRoom}
+use Rattle.desk_texts_inner.proofs.Putting.{puts-on, put-good, put-as}
 use Rattle.desk_words_inner.specs.declared.Head.the-variants.{Number, Malformed}
 use Rattle.desk_words_inner.specs.Says.{HeadSays}
 use Rattle.desk_words_inner.proofs.Heads.{rest-words}
 use Rattle.desk_words_inner.proofs.Shapes.{rest-all}
-use Rattle.desk_rings_inner.specs.Says.{ReadsRings, EndToEnd, EachSays}
-use Rattle.desk_shade_inner.specs.Says.{ReadsFloats, ShadesAsked, FloatsTold, AllEight}
+use Rattle.desk_rings_inner.specs.Says.{ReadsRings, EndToEnd}
+use Rattle.desk_eight_inner.specs.Says.{AllEight}
+use Rattle.desk_shade_inner.specs.Says.{ReadsFloats, ShadesAsked, FloatsTold}
 use Rattle.desk_shade_inner.proofs.Eights.{each-more, each-old, each-new, last-of, nibbles-joined}
-
-pub eight-told : (u : List ℕ) (l m : ℕ) (b : Bool) → m - l ≡ 8 → 24 ≤ m → EachSays u 8 b → AllEight u l m b
-eight-told u l m true e h x = (e, h, x)
-eight-told u l m false e h x = λ f g. x
 
 -- ---- words
 
@@ -149,27 +139,3 @@ module _ (t : List ℕ) where
 
         back : (q : ℕ × List (List ℕ)) → ReadsShade t q → (ts : List (List ℕ)) × ReadsFloats (drop at t) ts
         back q y = (q .1, record { digits = y .digits; eight = y .eight; three = y .three; words = rest-words t j at h (q .0) _ (y .words) })
-
--- ---- values
-
-module _ (k : ℕ) (xs : List Float) where
-  pub put-one : length xs ≡ 3 → (a : SectorRead) → SectorSays (getD xs 2 nan) k (firstCard xs) a → (b : List ℕ) (at r : ℕ) (b′ : List ℕ) → LinePrinted b at (sectorText a) r b′ →
-      Puts (ShadesSays k xs) deskRoom b at r b′
-  put-one l a s b at r b′ p =
-      puts-on (AnswerShows (λ x. SectorSays (getD xs 2 nan) k (firstCard xs) x) sectorText) (ShadesSays k xs) (λ t z. oneValue l z) b at r b′ (put-shown _ _ a s b at r b′ p)
-
-  pub put-several : 3 < length xs → (o : List ℕ) → o ≡ blank (length (drop 2 xs)) → (a : RingRead) (d : List ℕ) → RingSays (take (length xs - 2) (drop 2 xs)) k (firstCard xs) o a d →
-      (b : List ℕ) (at r : ℕ) (b′ : List ℕ) → LinePrinted b at (shadesText a d) r b′ → Puts (ShadesSays k xs) deskRoom b at r b′
-  put-several l o e a d s b at r b′ p =
-      let f : take (length xs - 2) (drop 2 xs) ≡ drop 2 xs = take-all (length xs - 2) (drop 2 xs) (simp length-drop (omega arith)) in
-      let u = subst (λ (v : List Float). RingSays v k (firstCard xs) o a d) f s in
-      let v = subst (λ (w : List ℕ). RingSays (drop 2 xs) k (firstCard xs) w a d) e u in
-      puts-on
-      (AnswerShows {A = RingRead × List ℕ} (λ x. RingSays (drop 2 xs) k (firstCard xs) (blank (length (drop 2 xs))) (x .0) (x .1)) (λ x. shadesText (x .0) (x .1)))
-      (ShadesSays k xs)
-      (λ t z. severalValues l z)
-      b
-      at
-      r
-      b′
-      (put-shown _ _ (a, d) v b at r b′ p)

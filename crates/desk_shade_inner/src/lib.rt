@@ -1,48 +1,16 @@
 // The shades of reflectances by a card: the words, the calls, and what they print. No public calls.
 
-use density_spec::Card;
 use desk_rings_inner::Words;
 use desk_words_inner::Head;
-ghost use Prim.Native.Nat.{_+_, _<_, _≤_};
-ghost use mathlib.Core.Path.{_≡_};
-ghost use lib.ListN.{length, drop};
+ghost use Prim.Native.Nat.{_+_, _≤_};
+ghost use lib.ListN.{length};
 ghost use Rattle.stream_spec.specs.Blocks.{Puts};
 ghost use Rattle.text_words_spec.specs.Words.{Nibbles};
 ghost use Rattle.desk_spec.specs.declared.Verb.the-variants as verbs;
 ghost use Rattle.desk_spec.specs.Questions.{Replies};
-ghost use Rattle.desk_spec.specs.Answers.{ShadesSays, VerbSays, blank};
-ghost use Rattle.desk_texts_inner.specs.Says.{deskRoom, longestRing};
-ghost use Rattle.desk_shade_inner.specs.Says.{AllEight, ReadsFloats, ShadesAsked, FloatsTold};
-
-// One value behind the card.
-fn answer_one(k: usize, xs: &[f32], buf: &mut [u8], at: usize) -> usize
-    requires { ⌜ length (now xs) ≡ 3 ⌝ }
-    requires { ⌜ at + deskRoom ≤ length (now buf) ⌝ }
-    ensures { λ r. ⌜ Puts (ShadesSays k (now (xs .entry))) deskRoom (now (buf .entry)) at r (now (buf .exit)) ⌝ }
-{
-    let card = Card {
-        dark: xs[0],
-        light: xs[1],
-    };
-    let a = density::sector_shade(xs[2], k, card);
-    desk_sector_inner::place_sector_read(buf, at, a)
-}
-
-// Several.
-fn answer_ring(k: usize, xs: &[f32], out: &mut [u8], buf: &mut [u8], at: usize) -> usize
-    requires { ⌜ 3 < length (now xs) ⌝ }
-    requires { ⌜ length (now out) ≤ longestRing ⌝ }
-    requires { ⌜ now out ≡ blank (length (drop 2 (now xs))) ⌝ }
-    requires { ⌜ at + deskRoom ≤ length (now buf) ⌝ }
-    ensures { λ r. ⌜ Puts (ShadesSays k (now (xs .entry))) deskRoom (now (buf .entry)) at r (now (buf .exit)) ⌝ }
-{
-    let card = Card {
-        dark: xs[0],
-        light: xs[1],
-    };
-    let a = density::ring_shades(&xs[2..], k, card, out);
-    desk_sector_inner::place_ring_read(buf, at, a, out)
-}
+ghost use Rattle.desk_spec.specs.Answers.{ShadesSays, VerbSays};
+ghost use Rattle.desk_texts_inner.specs.Says.{deskRoom};
+ghost use Rattle.desk_shade_inner.specs.Says.{ReadsFloats, ShadesAsked, FloatsTold};
 
 fn answer_shades(k: usize, xs: &[f32], buf: &mut [u8], at: usize) -> usize
     requires { ⌜ 3 ≤ length (now xs) ⌝ }
@@ -51,11 +19,11 @@ fn answer_shades(k: usize, xs: &[f32], buf: &mut [u8], at: usize) -> usize
     ensures { λ r. ⌜ Puts (ShadesSays k (now (xs .entry))) deskRoom (now (buf .entry)) at r (now (buf .exit)) ⌝ }
 {
     if xs.len() == 3 {
-        return answer_one(k, xs, buf, at);
+        return desk_card_inner::answer_one(k, xs, buf, at);
     }
     let n = xs.len() - 2;
     let mut out = [0u8; 512];
-    answer_ring(k, xs, &mut out[..n], buf, at)
+    desk_card_inner::answer_ring(k, xs, &mut out[..n], buf, at)
 }
 
 // The floats of digits that lie end to end.
@@ -72,20 +40,6 @@ fn answer_digits(k: usize, s: &[u8], buf: &mut [u8], at: usize) -> usize
     answer_shades(k, &xs[..n], buf, at)
 }
 
-// Whether the words are three or more, of eight digits each: the last lies from the place l to the place m, and all up to m.
-fn all_eight(u: &[u8], l: usize, m: usize) -> bool
-    requires { ⌜ l ≤ m ⌝ }
-    ensures { λ r. ⌜ AllEight (now (u .entry)) l m r ⌝ }
-{
-    if m - l != 8 {
-        return false;
-    }
-    if m < 24 {
-        return false;
-    }
-    desk_rings_inner::each_long(u, 8)
-}
-
 // The digits are spelt into the lent bytes, end to end.
 fn ask_shade(k: usize, u: &[u8], s: &mut [u8], buf: &mut [u8], at: usize) -> usize
     requires { ⌜ length (now u) ≤ length (now s) ⌝ }
@@ -96,7 +50,7 @@ fn ask_shade(k: usize, u: &[u8], s: &mut [u8], buf: &mut [u8], at: usize) -> usi
     match desk_rings_inner::spell_words(u, s) {
         Words::Malformed => desk_texts_inner::place_malformed(buf, at),
         Words::Spelt(l, m) => {
-            if !all_eight(u, l, m) {
+            if !desk_eight_inner::all_eight(u, l, m) {
                 return desk_texts_inner::place_malformed(buf, at);
             }
             answer_digits(k, &s[..m], buf, at)

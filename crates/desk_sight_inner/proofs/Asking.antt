@@ -32,7 +32,8 @@ use Rattle.desk_words_inner.proofs.Shapes.{rest-all}
 use Rattle.desk_rings_inner.specs.Says.{ReadsRings, EndToEnd, EachSays}
 use Rattle.desk_rings_inner.proofs.Spaced.{words-cons}
 use Rattle.desk_sight_inner.specs.declared.Heads.the-variants.{Numbers, Malformed}
-use Rattle.desk_sight_inner.specs.Says.{TellSays, SeenAmong, HeadsSay}
+use Rattle.desk_sight_lengths_inner.specs.Says.{TellSays}
+use Rattle.desk_sight_inner.specs.Says.{SeenAmong, HeadsSay}
 
 -- ---- rings and a reading
 

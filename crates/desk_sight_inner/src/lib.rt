@@ -1,10 +1,7 @@
-// A reading looked for among rings: its words, the call, and what it prints. No public calls.
+// A reading looked for among rings: its words, and what they print. No public calls.
 
 use desk_rings_inner::Words;
 use desk_words_inner::Head;
-use refusal::Refusal;
-use rings::MOST_SECTORS;
-use sight_spec::Sighting;
 ghost use Prim.Native.Nat.{_+_, _-_, _≤_};
 ghost use lib.ListN.{length, take, drop};
 ghost use Rattle.stream_spec.specs.Blocks.{Puts};
@@ -12,57 +9,10 @@ ghost use Rattle.desk_spec.specs.declared.Verb.the-variants as verbs;
 ghost use Rattle.desk_spec.specs.Questions.{Replies};
 ghost use Rattle.desk_spec.specs.Texts.{sightText};
 ghost use Rattle.desk_spec.specs.Answers.{AnswerShows, VerbSays};
-ghost use Rattle.desk_texts_inner.specs.Says.{deskRoom, LinePrinted};
+ghost use Rattle.desk_texts_inner.specs.Says.{deskRoom};
 ghost use Rattle.desk_rings_inner.specs.Says.{ReadsRings};
-ghost use Rattle.desk_sight_inner.specs.Says.{TellSays, SeenAmong, HeadsSay};
-
-// The line of an answer.
-fn place_sighting(buf: &mut [u8], at: usize, a: Sighting) -> usize
-    requires { ⌜ at + deskRoom ≤ length (now buf) ⌝ }
-    ensures { λ r. ⌜ LinePrinted (now (buf .entry)) at (sightText a) r (now (buf .exit)) ⌝ }
-{
-    match a {
-        Sighting::Front {
-            target,
-            shift,
-            misread,
-        } => desk_texts_inner::place_plain(
-            buf,
-            at,
-            b"front % turned % misread %\n",
-            &[target, shift, misread],
-        ),
-        Sighting::Back {
-            target,
-            shift,
-            misread,
-        } => desk_texts_inner::place_plain(
-            buf,
-            at,
-            b"back % turned % misread %\n",
-            &[target, shift, misread],
-        ),
-        Sighting::Several => desk_texts_inner::place_words(buf, at, b"several\n"),
-        Sighting::Unknown => desk_texts_inner::place_words(buf, at, b"unknown\n"),
-        Sighting::Refused(r) => desk_texts_inner::place_refusal(buf, at, r),
-    }
-}
-
-// What is seen where each ring is as long as the reading, and else which refusal the lengths give.
-fn tell(rings: &[u8], reading: &[u8], alike: bool, k: usize, most: usize) -> Sighting
-    ensures { λ a. ⌜ TellSays (now (rings .entry)) (now (reading .entry)) k most alike a ⌝ }
-{
-    if alike {
-        return sight::sight(rings, reading, k, most);
-    }
-    if reading.len() < 1 {
-        return Sighting::Refused(Refusal::Length(0));
-    }
-    if MOST_SECTORS < reading.len() {
-        return Sighting::Refused(Refusal::Length(0));
-    }
-    Sighting::Refused(Refusal::Pair)
-}
+ghost use Rattle.desk_sight_lengths_inner.specs.Says.{TellSays};
+ghost use Rattle.desk_sight_inner.specs.Says.{SeenAmong, HeadsSay};
 
 // The rings lie up to the place l, and the reading from there up to the place m.
 fn answer_sight(
@@ -80,8 +30,8 @@ fn answer_sight(
     requires { ⌜ at + deskRoom ≤ length (now buf) ⌝ }
     ensures { λ r. ⌜ Puts (AnswerShows (TellSays (take l (now (sectors .entry))) (take (m - l) (drop l (now (sectors .entry)))) k most alike) sightText) deskRoom (now (buf .entry)) at r (now (buf .exit)) ⌝ }
 {
-    let a = tell(&sectors[..l], &sectors[l..m], alike, k, most);
-    place_sighting(buf, at, a)
+    let a = desk_sight_lengths_inner::tell(&sectors[..l], &sectors[l..m], alike, k, most);
+    desk_sight_text_inner::place_sighting(buf, at, a)
 }
 
 // The rings and the reading are spelt into the lent bytes, end to end.

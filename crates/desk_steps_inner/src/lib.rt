@@ -1,7 +1,6 @@
-// Steps from a reading: to the next necklace, Lyndon word, prenecklace or bracelet, and what each prints. No public calls.
+// Steps from a reading: to the next necklace, Lyndon word, prenecklace or bracelet. No public calls.
 
 use desk_spec::Step;
-use walk_bracelet_spec::Arrival;
 use walk_kind_laws::Kind;
 use walk_spec::Outcome;
 ghost use Prim.Native.Nat.{_+_, _≤_};
@@ -9,46 +8,10 @@ ghost use mathlib.Core.Path.{_≡_};
 ghost use lib.ListN.{length};
 ghost use Rattle.stream_spec.specs.Blocks.{Puts};
 ghost use Rattle.desk_spec.specs.declared.Step.the-variants as steps;
-ghost use Rattle.desk_spec.specs.Texts.{stepText, arrivalText};
 ghost use Rattle.walk_kind_laws.specs.Kinds.{kindOf};
 ghost use Rattle.walk_reading_spec.specs.Says.{StepFromSays};
 ghost use Rattle.desk_spec.specs.Answers.{KindPrints, StepPrints, blank};
-ghost use Rattle.desk_texts_inner.specs.Says.{deskRoom, longestRing, LinePrinted};
-
-// ---- what an answer prints
-
-fn place_outcome(buf: &mut [u8], at: usize, a: Outcome, ring: &[u8]) -> usize
-    requires { ⌜ length (now ring) ≤ longestRing ⌝ }
-    requires { ⌜ at + deskRoom ≤ length (now buf) ⌝ }
-    ensures { λ r. ⌜ LinePrinted (now (buf .entry)) at (stepText a (now (ring .entry))) r (now (buf .exit)) ⌝ }
-{
-    match a {
-        Outcome::Moved(m) => desk_texts_inner::place_line(
-            buf,
-            at,
-            b"next @ moves %\n",
-            &[m],
-            ring.len(),
-            ring,
-        ),
-        Outcome::Done(m) => desk_texts_inner::place_number(buf, at, b"done moves %\n", m),
-        Outcome::Refused(r) => desk_texts_inner::place_refusal(buf, at, r),
-    }
-}
-
-fn place_arrival(buf: &mut [u8], at: usize, a: Arrival, ring: &[u8]) -> usize
-    requires { ⌜ length (now ring) ≤ longestRing ⌝ }
-    requires { ⌜ at + deskRoom ≤ length (now buf) ⌝ }
-    ensures { λ r. ⌜ LinePrinted (now (buf .entry)) at (arrivalText a (now (ring .entry))) r (now (buf .exit)) ⌝ }
-{
-    match a {
-        Arrival::Moved => desk_texts_inner::place_ring_line(buf, at, b"next @\n", ring),
-        Arrival::Done => desk_texts_inner::place_done(buf, at),
-        Arrival::Refused(r) => desk_texts_inner::place_refusal(buf, at, r),
-    }
-}
-
-// ---- the answer to each step
+ghost use Rattle.desk_texts_inner.specs.Says.{deskRoom};
 
 // A step to the next of a kind.
 fn step_to(kind: Kind, k: usize, w: &[u8], out: &mut [u8]) -> Outcome
@@ -68,7 +31,7 @@ fn answer_kind(kind: Kind, k: usize, w: &[u8], out: &mut [u8], buf: &mut [u8], a
     ensures { λ r. ⌜ Puts (KindPrints (kindOf kind) k (now (w .entry))) deskRoom (now (buf .entry)) at r (now (buf .exit)) ⌝ }
 {
     let a = step_to(kind, k, w, out);
-    place_outcome(buf, at, a, out)
+    desk_steps_text_inner::place_outcome(buf, at, a, out)
 }
 
 // One ring from each mirror pair: its answer tells no moves.
@@ -79,7 +42,7 @@ fn answer_bracelet(k: usize, w: &[u8], out: &mut [u8], buf: &mut [u8], at: usize
     ensures { λ r. ⌜ Puts (StepPrints steps.Bracelet k (now (w .entry))) deskRoom (now (buf .entry)) at r (now (buf .exit)) ⌝ }
 {
     let a = walk_reading::next_bracelet(w, k, out);
-    place_arrival(buf, at, a, out)
+    desk_steps_text_inner::place_arrival(buf, at, a, out)
 }
 
 pub fn answer_step(v: Step, k: usize, w: &[u8], out: &mut [u8], buf: &mut [u8], at: usize) -> usize

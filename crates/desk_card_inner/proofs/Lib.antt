@@ -1,0 +1,2 @@
+-- From an answer to what the values print (Values).
+pub mod Values

@@ -1,0 +1,2 @@
+-- Words of eight digits (Says).
+pub mod Says

@@ -1,0 +1,2 @@
+-- A verb by its names (Names).
+pub mod Names

@@ -1,0 +1,2 @@
+-- What is told of a reading among rings (Says).
+pub mod Says
