@@ -16,9 +16,10 @@ use Rattle.guard_laws.proofs.Sides.{Long, length-sides, front-at, back-at}
 use Rattle.sight_spec.specs.Rings.{ringAt, ringsIn}
 use Rattle.sight_spec.specs.Says.{Alone, Two, None, SeenFront, SeenBack}
 use Rattle.sight_spec.proofs.Rings.{length-first, ring-length, rings-long}
-use Rattle.sight_inner.specs.declared.Near.{Near}
-use Rattle.sight_inner.specs.declared.Near.the-variants.{Nobody, One, Many}
-use Rattle.sight_inner.specs.Says.{Turns, NearSays}
+use Rattle.sight_near_inner.specs.declared.Near.{Near}
+use Rattle.sight_near_inner.specs.declared.Near.the-variants.{Nobody, One, Many}
+use Rattle.sight_near_inner.specs.Says.{NearSays}
+use Rattle.sight_turn_inner.specs.Says.{Turns}
 
 -- ---- readings ts of n sectors, and r
 

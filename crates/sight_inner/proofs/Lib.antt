@@ -1,3 +1,2 @@
--- The loops and what they find (Looking), and both sides put together (Both).
-pub mod Looking
+-- Both sides put together (Both).
 pub mod Both

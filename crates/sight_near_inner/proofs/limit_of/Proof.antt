@@ -1,8 +1,8 @@
--- `sight_inner::limit_of` meets its contract.
+-- `sight_near_inner::limit_of` meets its contract.
 use native.Mathlib.Omega.{arith}
 use borrow.Author.Needs.{needs}
-use Rattle.sight_inner.proofs.limit_of.Statement.{statement}
-use Rattle.sight_inner.proofs.limit_of.Tie as tie
+use Rattle.sight_near_inner.proofs.limit_of.Statement.{statement}
+use Rattle.sight_near_inner.proofs.limit_of.Tie as tie
 
 add-result : tie.Need-add-result
 add-result c = omega (arith, c .before .pre)

@@ -1,7 +1,7 @@
--- `sight_inner::nearest` meets its contract.
+-- `sight_turn_inner::nearest` meets its contract.
 use borrow.Author.Needs.{needs}
-use Rattle.sight_inner.proofs.nearest.Statement.{statement}
-use Rattle.sight_inner.proofs.nearest.Tie as tie
+use Rattle.sight_turn_inner.proofs.nearest.Statement.{statement}
+use Rattle.sight_turn_inner.proofs.nearest.Tie as tie
 
 fewest-differing-requires : tie.Need-fewest-differing-requires
 fewest-differing-requires c κs = c .before .before .pre .1

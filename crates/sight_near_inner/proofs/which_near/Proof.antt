@@ -1,11 +1,11 @@
--- `sight_inner::which_near` meets its contract: the first ring that is near, and whether another is behind it.
+-- `sight_near_inner::which_near` meets its contract: the first ring that is near, and whether another is behind it.
 use native.Mathlib.Omega.{arith}
 use native.Mathlib.Nat.{div-le-self}
 use lib.ListN.{length}
 use borrow.Author.Needs.{needs}
-use Rattle.sight_inner.proofs.Looking.{near-none, near-two, near-one}
-use Rattle.sight_inner.proofs.which_near.Statement.{statement}
-use Rattle.sight_inner.proofs.which_near.Tie as tie
+use Rattle.sight_near_inner.proofs.Looking.{near-none, near-two, near-one}
+use Rattle.sight_near_inner.proofs.which_near.Statement.{statement}
+use Rattle.sight_near_inner.proofs.which_near.Tie as tie
 
 first-near-requires : tie.Need-first-near-requires
 first-near-requires c κs = (c .before .before .pre .0, c .before .before .pre .1, omega arith)

@@ -1,13 +1,13 @@
--- `sight_inner::nearest_to` meets its contract: the part that is lent is the ring.
+-- `sight_turn_inner::nearest_to` meets its contract: the part that is lent is the ring.
 use Prim.Native.Nat.{_+_, _*_}
 use mathlib.Core.Path.{refl, subst}
 use native.Mathlib.Omega.{arith}
 use lib.ListN.{length, length-take, length-drop}
 use Rattle.sight_spec.proofs.Rings.{ring-fits}
-use Rattle.sight_inner.specs.Says.{Turns}
-use Rattle.sight_inner.proofs.Looking.{part-ring}
-use Rattle.sight_inner.proofs.nearest_to.Statement.{statement}
-use Rattle.sight_inner.proofs.nearest_to.Tie as tie
+use Rattle.sight_turn_inner.specs.Says.{Turns}
+use Rattle.sight_turn_inner.proofs.Parts.{part-ring}
+use Rattle.sight_turn_inner.proofs.nearest_to.Statement.{statement}
+use Rattle.sight_turn_inner.proofs.nearest_to.Tie as tie
 
 mul-at : tie.Need-mul-at
 mul-at c = omega (arith, ring-fits (length (c .before .before .args .reading .now)) (c .before .before .args .rings .now) (c .before .before .args .j) (c .before .before .pre .1))

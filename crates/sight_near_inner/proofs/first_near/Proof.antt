@@ -1,13 +1,13 @@
--- `sight_inner::first_near` meets its contract. The loop's invariant: the rings from `from` up to j are further than `most` from the reading.
+-- `sight_near_inner::first_near` meets its contract. The loop's invariant: the rings from `from` up to j are further than `most` from the reading.
 use Prim.Native.Nat.{_≤_, _-_, _/_}
 use native.Mathlib.Omega.{arith}
 use native.Mathlib.Nat.{div-le-self}
 use lib.ListN.{length, length-take, length-drop}
 use Rattle.sight_spec.proofs.Rings.{ring-fits}
-use Rattle.sight_inner.proofs.Looking.{FarTo, far-start, far-on, far-found, far-end, part-near, part-far}
+use Rattle.sight_near_inner.proofs.Looking.{FarTo, far-start, far-on, far-found, far-end, part-near, part-far}
 use borrow.Author.Needs.{needs}
-use Rattle.sight_inner.proofs.first_near.Statement.{statement}
-use Rattle.sight_inner.proofs.first_near.Tie as tie
+use Rattle.sight_near_inner.proofs.first_near.Statement.{statement}
+use Rattle.sight_near_inner.proofs.first_near.Tie as tie
 
 abbrev Inv-loop : tie.InvT-loop
 Inv-loop rings reading from most n m limit j₀ j = (from ≤ j) × (j ≤ length rings / length reading) × FarTo most rings reading from j

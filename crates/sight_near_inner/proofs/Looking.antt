@@ -1,7 +1,7 @@
 -- Looking for the rings that are near a reading r, among rings rs that lie end to end.
 --     FarTo e rs r from j                           the rings from `from` up to j are further than e from r
 --     far-start, far-on, far-found, far-end         the search for the first ring that is near
---     part-ring, part-near, part-far                the part of the rings that the code lends is the ring, and what is told of it
+--     part-near, part-far                           what is told of the part of the rings that the code lends
 --     near-none, near-one, near-two                 which are near, by two searches
 use Prim.Native.Nat.{ℕ, suc, _+_, _-_, _*_, _/_, _<_, _≤_, min}
 use mathlib.Core.Path.{_≡_, refl, sym, ap, _∙_}
@@ -17,7 +17,8 @@ use Rattle.ring_home_laws.proofs.Alike.{apart-le}
 use Rattle.sight_spec.specs.Rings.{ringAt, ringsIn}
 use Rattle.sight_spec.specs.Says.{Alone, Two, None}
 use Rattle.sight_spec.proofs.Rings.{length-first, first-at}
-use Rattle.sight_inner.specs.Says.{FirstNear}
+use Rattle.sight_turn_inner.proofs.Parts.{part-ring}
+use Rattle.sight_near_inner.specs.Says.{FirstNear}
 
 -- ---- the first ring that is near
 
@@ -38,11 +39,7 @@ far-found e rs r from j f o h l = record { on = o; within = omega arith; passed 
 pub far-end : (e : ℕ) (rs r : List ℕ) (from j : ℕ) → FarTo e rs r from j → from ≤ j → j ≤ length rs / length r → length rs / length r ≤ j → FirstNear e rs r from j
 far-end e rs r from j f o h l = record { on = o; within = h; passed = f; here = λ m. absurd (omega arith) }
 
--- the part that the code lends
-pub part-ring : (rs : List ℕ) (n j at end : ℕ) → at ≡ n * j → end ≡ at + n → take (end - at) (drop at rs) ≡ ringAt n rs j
-part-ring rs n j at end e f = let g : end - at ≡ n = omega arith in rw (g, e) refl
-
--- what is told of it, where a turn is given up at one more sector than may be misread, or than there are
+-- what is told of the part that the code lends, where a turn is given up at one more sector than may be misread, or than there are
 module _ (e : ℕ) (rs r : List ℕ) (j limit : ℕ) (b : Bool) (q : limit ≡ suc (min (length r) e))
     (s : b ≡ ltb (apart r (take (length r * j + length r - length r * j) (drop (length r * j) rs))) limit) where
   told : b ≡ ltb (apart r (ringAt (length r) rs j)) limit

@@ -1,2 +1,0 @@
--- What the inner functions promise (Says).
-pub mod Says

@@ -1,0 +1,2 @@
+-- The loop and what it finds (Looking).
+pub mod Looking
