@@ -1,3 +1,2 @@
--- The lines of a text one after another (Lines), and their checks (Checks).
-pub mod Lines
+-- The checks of lines (Checks).
 pub mod Checks

@@ -50,7 +50,7 @@ use Rattle.sheet_print_spec.specs.Prints.{none, wrong, whole, targetOrder, Targ
 use Rattle.sheet_print_spec.specs.Prints.{ringIn, ownSheet, OwnPrints, ReadsSheet, PrintsBy, SheetPrints}
 use Rattle.sheet_print_spec.proofs.Rings.{rings-at}
 use Rattle.sheet_own_inner.specs.Says.{LinesPass, WrongLine}
-use Rattle.sheet_own_inner.proofs.Lines.{rest-is}
+use Rattle.sheet_lines_inner.proofs.Lines.{rest-is}
 use Rattle.sheet_places_inner.specs.Says.{SetPlaces}
 use Rattle.sheet_places_inner.proofs.Places.{passed-at, given-at}
 use Rattle.sheet_source_inner.specs.Says.{isOwn, BehindLine}

@@ -140,7 +140,7 @@ fn prepare_own(sheet: Sheet, text: &[u8], from: usize, ring: &mut [u8]) -> Job
     requires { ⌜ length (now text) ≤ length (now ring) ⌝ }
     ensures { λ r. ⌜ (r .from ≡ from) × OwnPrepared sheet (lines (now (text .entry))) (r .sheet) (r .count) (r .answer) ⌝ }
 {
-    let own = sheet_own_inner::own_sheet(sheet, text);
+    let own = sheet_lines_inner::own_sheet(sheet, text);
     match sheet_own_inner::check_lines(own, text, ring) {
         LinesTold::Good(count) => bare_job(own, from, count, own_answer(count)),
         LinesTold::Refused(r, j) => bare_job(own, from, 0, Answer::Wrong(r, j)),

@@ -19,7 +19,7 @@ use Rattle.desk_texts_inner.specs.Says.{LinePrinted}
 use Rattle.sheet_print_inner.specs.declared.Answer.{Answer}
 use Rattle.sheet_print_inner.specs.declared.Answer.the-variants as A
 use Rattle.sheet_print_inner.specs.Says.{ReadyOwn, linesAt, Prepared}
-use Rattle.sheet_own_inner.proofs.Lines.{rest-is}
+use Rattle.sheet_lines_inner.proofs.Lines.{rest-is}
 use Rattle.sheet_program_inner.specs.Says.{AnswerReady}
 
 pub step-inside : (o : Sheet) (w : List ℕ) (i : ℕ) (last : Bool) (b : List ℕ) (m : ℕ) (b′ : List ℕ) → targetRoom ≤ length b →

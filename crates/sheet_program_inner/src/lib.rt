@@ -54,7 +54,7 @@ fn print_lines(sheet: Sheet, text: &[u8], count: usize, buf: &mut [u8]) -> Writt
     let mut at = 0;
     let mut j = 0;
     while j < count {
-        let step = sheet_own_inner::place_next(sheet, text, at, j, count, buf);
+        let step = sheet_own_target_inner::place_next(sheet, text, at, j, count, buf);
         let m = step.length;
         if !io::write_all(STDOUT_FILENO, &buf[..m]) {
             return Written {

@@ -4,8 +4,9 @@ use mathlib.Core.Path.{_≡_, refl, sym, ap, _∙_}
 use native.Mathlib.Omega.{arith}
 use lib.ListN.{length, length-take, length-drop}
 use Rattle.stream_spec.specs.Lines.{lines}
-use Rattle.sheet_own_inner.specs.Says.{LineReached, LinesPass}
-use Rattle.sheet_own_inner.proofs.Lines.{reached-first, reached-on, reached-line, reached-over, relent-length}
+use Rattle.sheet_own_inner.specs.Says.{LinesPass}
+use Rattle.sheet_lines_inner.specs.Says.{LineReached}
+use Rattle.sheet_lines_inner.proofs.Lines.{reached-first, reached-on, reached-line, reached-over, relent-length}
 use Rattle.sheet_own_inner.proofs.Checks.{lines-more, lines-wrong}
 use borrow.Author.Needs.{needs}
 use Rattle.sheet_own_inner.proofs.check_lines.Statement.{statement}

@@ -4,8 +4,8 @@ use mathlib.Core.Path.{_≡_, refl, _∙_}
 use native.Mathlib.Omega.{arith}
 use lib.ListN.{length, length-take}
 use Rattle.sheet_spec.specs.Says.{targetRoom}
-use Rattle.sheet_own_inner.specs.Says.{LineReached}
-use Rattle.sheet_own_inner.proofs.Lines.{reached-first}
+use Rattle.sheet_lines_inner.specs.Says.{LineReached}
+use Rattle.sheet_lines_inner.proofs.Lines.{reached-first}
 use Rattle.sheet_program_inner.proofs.Output.{step-inside}
 use borrow.Author.Needs.{needs}
 use Rattle.sheet_program_inner.proofs.print_lines.Statement.{statement}

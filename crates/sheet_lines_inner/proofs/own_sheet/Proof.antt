@@ -1,11 +1,11 @@
--- `sheet_own_inner::own_sheet` meets its contract.
+-- `sheet_lines_inner::own_sheet` meets its contract.
 use Prim.Native.Nat.{ℕ}
 use mathlib.Core.Path.{sym, ap}
 use Rattle.sheet_words_spec.specs.Words.{withNumberN}
-use Rattle.sheet_own_inner.proofs.Lines.{first-long}
+use Rattle.sheet_lines_inner.proofs.Lines.{first-long}
 use borrow.Author.Needs.{needs}
-use Rattle.sheet_own_inner.proofs.own_sheet.Statement.{statement}
-use Rattle.sheet_own_inner.proofs.own_sheet.Tie as tie
+use Rattle.sheet_lines_inner.proofs.own_sheet.Statement.{statement}
+use Rattle.sheet_lines_inner.proofs.own_sheet.Tie as tie
 
 returns : tie.Need-returns
 returns c =

@@ -1,12 +1,12 @@
--- `sheet_own_inner::line_end` meets its contract.
+-- `sheet_lines_inner::line_end` meets its contract.
 use native.Mathlib.Omega.{arith}
 use lib.ListN.{length-drop}
 use mathlib.Core.Path.{ap, _∙_}
 use lib.ListN.{length}
-use Rattle.sheet_own_inner.proofs.Lines.{line-at, rest-is}
+use Rattle.sheet_lines_inner.proofs.Lines.{line-at, rest-is}
 use borrow.Author.Needs.{needs}
-use Rattle.sheet_own_inner.proofs.line_end.Statement.{statement}
-use Rattle.sheet_own_inner.proofs.line_end.Tie as tie
+use Rattle.sheet_lines_inner.proofs.line_end.Statement.{statement}
+use Rattle.sheet_lines_inner.proofs.line_end.Tie as tie
 
 add-result : tie.Need-add-result
 add-result c =

@@ -1,10 +1,10 @@
--- `sheet_own_inner::place_line` meets its contract.
+-- `sheet_own_target_inner::place_line` meets its contract.
 use native.Mathlib.Omega.{arith}
 use lib.ListN.{length, length-take}
-use Rattle.sheet_own_inner.proofs.Checks.{line-short}
+use Rattle.sheet_own_target_inner.proofs.Targets.{line-short}
 use borrow.Author.Needs.{needs}
-use Rattle.sheet_own_inner.proofs.place_line.Statement.{statement}
-use Rattle.sheet_own_inner.proofs.place_line.Tie as tie
+use Rattle.sheet_own_target_inner.proofs.place_line.Statement.{statement}
+use Rattle.sheet_own_target_inner.proofs.place_line.Tie as tie
 
 array-borrow-prefix-ring : tie.Need-array-borrow-prefix-ring
 array-borrow-prefix-ring c =

@@ -21,7 +21,7 @@ use Rattle.text_words_spec.proofs.Pieces.{first-same, behind-same, none-some}
 use Rattle.stream_spec.specs.Lines.{ended, under, lastOf, linesFrom, lines, Plain, none, also, closed, Cuts, nones}
 use Rattle.stream_spec.proofs.Bytes.{ended-newline, under-newline, ended-append, under-append, last-some}
 use Rattle.stream_spec.proofs.Whole.{cut-one}
-use Rattle.sheet_own_inner.specs.Says.{LineAt, LineReached}
+use Rattle.sheet_lines_inner.specs.Says.{LineAt, LineReached}
 
 -- ---- the first line
 

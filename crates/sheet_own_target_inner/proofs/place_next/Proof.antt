@@ -1,10 +1,10 @@
--- `sheet_own_inner::place_next` meets its contract.
+-- `sheet_own_target_inner::place_next` meets its contract.
 use native.Mathlib.Omega.{arith}
-use Rattle.sheet_own_inner.proofs.Lines.{reached-inside, reached-line, reached-on}
-use Rattle.sheet_own_inner.proofs.Checks.{line-passed, line-step}
+use Rattle.sheet_lines_inner.proofs.Lines.{reached-inside, reached-line, reached-on}
+use Rattle.sheet_own_target_inner.proofs.Targets.{line-passed, line-step}
 use borrow.Author.Needs.{needs}
-use Rattle.sheet_own_inner.proofs.place_next.Statement.{statement}
-use Rattle.sheet_own_inner.proofs.place_next.Tie as tie
+use Rattle.sheet_own_target_inner.proofs.place_next.Statement.{statement}
+use Rattle.sheet_own_target_inner.proofs.place_next.Tie as tie
 
 line-end-requires : tie.Need-line-end-requires
 line-end-requires c κs =

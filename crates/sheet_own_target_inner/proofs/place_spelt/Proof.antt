@@ -1,8 +1,8 @@
--- `sheet_own_inner::place_spelt` meets its contract.
-use Rattle.sheet_own_inner.proofs.Checks.{line-placed, line-never}
+-- `sheet_own_target_inner::place_spelt` meets its contract.
+use Rattle.sheet_own_target_inner.proofs.Targets.{line-placed, line-never}
 use borrow.Author.Needs.{needs}
-use Rattle.sheet_own_inner.proofs.place_spelt.Statement.{statement}
-use Rattle.sheet_own_inner.proofs.place_spelt.Tie as tie
+use Rattle.sheet_own_target_inner.proofs.place_spelt.Statement.{statement}
+use Rattle.sheet_own_target_inner.proofs.place_spelt.Tie as tie
 
 returns : tie.Need-returns
 returns c =

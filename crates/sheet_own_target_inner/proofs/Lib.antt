@@ -1,0 +1,2 @@
+-- The target of a line (Targets).
+pub mod Targets
