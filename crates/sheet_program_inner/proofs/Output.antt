@@ -1,10 +1,8 @@
 -- What is written.
---     step-inside        a target's text lies within the buffer, which keeps its length
---     line-inside, wrong-inside    and so does a refusal's line
+--     line-inside, wrong-inside    a refusal's line lies within the buffer, which keeps its length
 --     ready-of, lines-ready    what an input asks for is ready, or refused
 use Prim.Native.Nat.{ℕ, _-_, _≤_}
 use mathlib.Core.Path.{_≡_}
-use mathlib.Core.Bool.{Bool}
 use mathlib.Core.List.{List}
 use native.Mathlib.Omega.{arith}
 use lib.ListN.{length, take, drop}
@@ -12,19 +10,14 @@ use Rattle.stream_spec.specs.Lines.{lines}
 use Rattle.text_spec.proofs.Put.{placed-length}
 use Rattle.text_spec.specs.Put.{Placed}
 use Rattle.program_refusal_inner.specs.Room.{refusedLineRoom}
-use Rattle.picture_spec.specs.declared.Drawn.the-variants.{Whole}
 use Rattle.sheet_spec.specs.declared.Sheet.{Sheet}
-use Rattle.sheet_spec.specs.Says.{targetRoom, TargetSays}
+use Rattle.sheet_spec.specs.Says.{targetRoom}
 use Rattle.desk_texts_inner.specs.Says.{LinePrinted}
 use Rattle.sheet_print_inner.specs.declared.Answer.{Answer}
 use Rattle.sheet_print_inner.specs.declared.Answer.the-variants as A
 use Rattle.sheet_print_inner.specs.Says.{ReadyOwn, linesAt, Prepared}
 use Rattle.sheet_lines_inner.proofs.Lines.{rest-is}
 use Rattle.sheet_program_inner.specs.Says.{AnswerReady}
-
-pub step-inside : (o : Sheet) (w : List ℕ) (i : ℕ) (last : Bool) (b : List ℕ) (m : ℕ) (b′ : List ℕ) → targetRoom ≤ length b →
-    TargetSays o w i last b (Whole m) b′ → (m ≤ length b) × (length b′ ≡ length b)
-step-inside o w i last b m b′ h s = (omega (arith, s .2), placed-length b 0 _ m b′ (s .1))
 
 pub line-inside : (b t : List ℕ) (m : ℕ) (b′ : List ℕ) → targetRoom ≤ length b → LinePrinted b 0 t m b′ → (m ≤ length b) × (length b′ ≡ length b)
 line-inside b t m b′ h s = (omega (arith, s .short, s .placed .next), placed-length b 0 t m b′ (s .placed))

@@ -1,13 +1,13 @@
--- `sheet_program_inner::print_targets` meets its contract: the targets below the place are written.
+-- `sheet_write_inner::print_targets` meets its contract: the targets below the place are written.
 use Prim.Native.Nat.{_-_, _≤_}
 use mathlib.Core.Path.{_≡_, refl, _∙_}
 use native.Mathlib.Omega.{arith}
 use lib.ListN.{length, length-take}
 use Rattle.sheet_spec.specs.Says.{targetRoom}
-use Rattle.sheet_program_inner.proofs.Output.{step-inside}
+use Rattle.sheet_write_inner.proofs.Inside.{step-inside}
 use borrow.Author.Needs.{needs}
-use Rattle.sheet_program_inner.proofs.print_targets.Statement.{statement}
-use Rattle.sheet_program_inner.proofs.print_targets.Tie as tie
+use Rattle.sheet_write_inner.proofs.print_targets.Statement.{statement}
+use Rattle.sheet_write_inner.proofs.print_targets.Tie as tie
 
 abbrev Inv-loop : tie.InvT-loop
 Inv-loop sheet places count buf₀ i₀ buf i = (i ≤ count) × (targetRoom ≤ length buf) × (length buf ≡ length buf₀)

@@ -1,4 +1,4 @@
--- `sheet_program_inner::print_lines` meets its contract: the targets below the place are written.
+-- `sheet_write_inner::print_lines` meets its contract: the targets below the place are written.
 use Prim.Native.Nat.{_-_, _≤_}
 use mathlib.Core.Path.{_≡_, refl, _∙_}
 use native.Mathlib.Omega.{arith}
@@ -6,10 +6,10 @@ use lib.ListN.{length, length-take}
 use Rattle.sheet_spec.specs.Says.{targetRoom}
 use Rattle.sheet_lines_inner.specs.Says.{LineReached}
 use Rattle.sheet_lines_inner.proofs.Lines.{reached-first}
-use Rattle.sheet_program_inner.proofs.Output.{step-inside}
+use Rattle.sheet_write_inner.proofs.Inside.{step-inside}
 use borrow.Author.Needs.{needs}
-use Rattle.sheet_program_inner.proofs.print_lines.Statement.{statement}
-use Rattle.sheet_program_inner.proofs.print_lines.Tie as tie
+use Rattle.sheet_write_inner.proofs.print_lines.Statement.{statement}
+use Rattle.sheet_write_inner.proofs.print_lines.Tie as tie
 
 abbrev Inv-loop : tie.InvT-loop
 Inv-loop sheet text count buf₀ at₀ j₀ buf at j = LineReached text at j × (j ≤ count) × (targetRoom ≤ length buf) × (length buf ≡ length buf₀)

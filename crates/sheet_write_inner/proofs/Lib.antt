@@ -1,0 +1,2 @@
+-- That a target lies within the buffer (Inside).
+pub mod Inside

@@ -1,0 +1,2 @@
+-- What writing a sheet promises (Says).
+pub mod Says
