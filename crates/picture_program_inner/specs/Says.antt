@@ -7,7 +7,7 @@ use lib.ListN.{take}
 use Rattle.program_reading_inner.specs.declared.Most.{Most}
 use Rattle.program_reading_inner.specs.declared.Most.the-variants as M
 use Rattle.picture_print_spec.specs.Prints.{PicturePrints}
-use Rattle.picture_print_inner.specs.Says.{PictureText}
+use Rattle.picture_words_inner.specs.Says.{PictureText}
 
 abbrev pub PictureInputSays : Most → List ℕ → List ℕ → ℕ → List ℕ → Type 0
 PictureInputSays M.Full line b r b′ = (r ≡ 0) × (b′ ≡ b)

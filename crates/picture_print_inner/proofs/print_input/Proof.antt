@@ -1,7 +1,8 @@
 -- `picture_print_inner::print_input` meets its contract.
 use native.Mathlib.Omega.{arith}
 use lib.ListN.{length, length-take}
-use Rattle.picture_print_inner.proofs.Printing.{print-bad, put-input, no-line}
+use Rattle.picture_words_inner.proofs.Words.{print-bad}
+use Rattle.picture_print_inner.proofs.Printing.{put-input, no-line}
 use borrow.Author.Needs.{needs}
 use Rattle.picture_print_inner.proofs.print_input.Statement.{statement}
 use Rattle.picture_print_inner.proofs.print_input.Tie as tie

@@ -1,7 +1,8 @@
 -- `picture_print_inner::print_line` meets its contract.
 use native.Mathlib.Omega.{arith}
 use lib.ListN.{length, length-take, length-drop}
-use Rattle.picture_print_inner.proofs.Printing.{print-bad, put-line, no-number}
+use Rattle.picture_words_inner.proofs.Words.{print-bad}
+use Rattle.picture_print_inner.proofs.Printing.{put-line, no-number}
 use borrow.Author.Needs.{needs}
 use Rattle.picture_print_inner.proofs.print_line.Statement.{statement}
 use Rattle.picture_print_inner.proofs.print_line.Tie as tie

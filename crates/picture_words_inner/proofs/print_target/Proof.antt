@@ -1,8 +1,8 @@
--- `picture_print_inner::print_target` meets its contract.
-use Rattle.picture_print_inner.proofs.Printing.{drawn-put, refused-put}
+-- `picture_words_inner::print_target` meets its contract.
+use Rattle.picture_words_inner.proofs.Words.{drawn-put, refused-put}
 use borrow.Author.Needs.{needs}
-use Rattle.picture_print_inner.proofs.print_target.Statement.{statement}
-use Rattle.picture_print_inner.proofs.print_target.Tie as tie
+use Rattle.picture_words_inner.proofs.print_target.Statement.{statement}
+use Rattle.picture_words_inner.proofs.print_target.Tie as tie
 
 returns : tie.Need-returns
 returns c =

@@ -1,13 +1,13 @@
--- `picture_print_inner::print_words` meets its contract.
+-- `picture_words_inner::print_words` meets its contract.
 use Prim.Native.Nat.{_+_}
 use mathlib.Core.Path.{sym, _∙_}
 use native.Mathlib.Omega.{arith}
 use lib.ListN.{length, length-take}
 use borrow.Author.Tests.{not-true, not-false}
-use Rattle.picture_print_inner.proofs.Printing.{print-bad, put-managed, put-levels, no-levels, other-text, this-text}
+use Rattle.picture_words_inner.proofs.Words.{print-bad, put-managed, put-levels, no-levels, other-text, this-text}
 use borrow.Author.Needs.{needs}
-use Rattle.picture_print_inner.proofs.print_words.Statement.{statement}
-use Rattle.picture_print_inner.proofs.print_words.Tie as tie
+use Rattle.picture_words_inner.proofs.print_words.Statement.{statement}
+use Rattle.picture_words_inner.proofs.print_words.Tie as tie
 
 slice-aggregate-print-spelt : tie.Need-slice-aggregate-print-spelt
 slice-aggregate-print-spelt c = simp length-take (omega (arith, c .before .before .before .before .before .before .pre .0, c .before .before .piece-end .ensures .within))

@@ -1,9 +1,9 @@
--- `picture_print_inner::print_spelt` meets its contract.
+-- `picture_words_inner::print_spelt` meets its contract.
 use borrow.Author.Tests.{not-true, not-false}
-use Rattle.picture_print_inner.proofs.Printing.{print-good, print-bad}
+use Rattle.picture_words_inner.proofs.Words.{print-good, print-bad}
 use borrow.Author.Needs.{needs}
-use Rattle.picture_print_inner.proofs.print_spelt.Statement.{statement}
-use Rattle.picture_print_inner.proofs.print_spelt.Tie as tie
+use Rattle.picture_words_inner.proofs.print_spelt.Statement.{statement}
+use Rattle.picture_words_inner.proofs.print_spelt.Tie as tie
 
 returns : tie.Need-returns
 returns c =

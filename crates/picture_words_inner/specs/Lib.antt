@@ -1,0 +1,2 @@
+-- What the functions promise (Says).
+pub mod Says
