@@ -1,6 +1,6 @@
 // The desk: for each line of standard input one line on standard output, as soon as it is there.
 
-use stream_asking_inner::Kind;
+use stream_kind_inner::Kind;
 
 fn main() {
     stream_program_inner::run(Kind::Desk);

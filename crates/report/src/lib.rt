@@ -2,7 +2,7 @@
 
 use report_spec::Fed;
 use report_spec::Pending;
-use stream_asking_inner::Kind;
+use stream_kind_inner::Kind;
 ghost use Prim.Native.Nat.{_≤_};
 ghost use mathlib.Core.Path.{_≡_};
 ghost use mathlib.Core.List.{[]};

@@ -1,11 +1,11 @@
 // The bytes of a block, one after another: the line under way, and the texts of the lines that end. No public calls.
 
-use stream_asking_inner::Kind;
+use stream_kind_inner::Kind;
 ghost use Prim.Native.Nat.{_+_, _*_, _≤_};
 ghost use mathlib.Core.Path.{_≡_};
 ghost use lib.ListN.{length, take};
 ghost use Rattle.stream_spec.specs.Blocks.{ByteSays, BlockSays, EndSays};
-ghost use Rattle.stream_asking_inner.specs.Says.{Said, mostOf, roomOf};
+ghost use Rattle.stream_kind_inner.specs.Says.{Said, mostOf, roomOf};
 ghost use Rattle.stream_blocks_inner.specs.Says.{smaller};
 
 // Behind some bytes: how many bytes of the line under way are held, and the place behind the texts.

@@ -21,8 +21,8 @@ use Rattle.program_reading_inner.specs.declared.Got.{Got}
 use Rattle.program_reading_inner.specs.declared.Got.the-variants.{Bytes, Over, Failed}
 use Rattle.program_reading_inner.specs.Says.{GotSays}
 use Rattle.stream_spec.specs.Blocks.{BlockSays, EndSays}
-use Rattle.stream_asking_inner.specs.declared.Kind.{Kind}
-use Rattle.stream_asking_inner.specs.Says.{Said, mostOf}
+use Rattle.stream_kind_inner.specs.declared.Kind.{Kind}
+use Rattle.stream_kind_inner.specs.Says.{Said, mostOf}
 use Rattle.stream_program_inner.specs.Says.{BehindRead, ReadAnswered, TurnsMade, more, GoesOn}
 
 pub goes-unwritten : (wrote : Bool) (got : Got) (reads : ℕ) → wrote ≡ false → GoesOn wrote got reads false

@@ -12,8 +12,8 @@ use mathlib.Core.Bool.{Bool, true, false}
 use mathlib.Core.List.{List, []}
 use lib.ListN.{length, take}
 use Rattle.stream_spec.specs.Blocks.{BlockSays, EndSays}
-use Rattle.stream_asking_inner.specs.declared.Kind.{Kind}
-use Rattle.stream_asking_inner.specs.Says.{Said, mostOf, roomOf}
+use Rattle.stream_kind_inner.specs.declared.Kind.{Kind}
+use Rattle.stream_kind_inner.specs.Says.{Said, mostOf, roomOf}
 use Rattle.program_reading_inner.specs.Says.{GotSays}
 use Rattle.program_reading_inner.specs.declared.Got.{Got}
 use Rattle.program_reading_inner.specs.declared.Got.the-variants.{Bytes, Over, Failed}

@@ -4,13 +4,13 @@
 use libc::STDERR_FILENO;
 use libc::STDOUT_FILENO;
 use program_reading_inner::Got;
-use stream_asking_inner::Kind;
 use stream_blocks_inner::Behind;
+use stream_kind_inner::Kind;
 ghost use Prim.Native.Nat.{_*_, _≤_, _<_};
 ghost use mathlib.Core.Path.{_≡_};
 ghost use mathlib.Core.Bool.{false};
 ghost use lib.ListN.{length, take};
-ghost use Rattle.stream_asking_inner.specs.Says.{mostOf, roomOf};
+ghost use Rattle.stream_kind_inner.specs.Says.{mostOf, roomOf};
 ghost use Rattle.stream_program_inner.specs.Says.{RoomForRead, BehindRead, ReadAnswered, PumpSays, GoesOn};
 
 // Behind a turn: what its read gave, whether the texts could be written, and how many bytes of the line under way are held.
@@ -120,8 +120,8 @@ pub fn run(kind: Kind) {
     let mut block = [0u8; 2048];
     let mut line = [0u8; 4096];
     let mut buf = wide_buffer();
-    let n = stream_asking_inner::block_length(kind);
-    let m = stream_asking_inner::kept_bytes(kind);
+    let n = stream_kind_inner::block_length(kind);
+    let m = stream_kind_inner::kept_bytes(kind);
     let left = pump(kind, &mut block[..n], &mut line[..m], &mut buf);
     let got = left.got;
     let ended = program_reading_inner::stream_ending(got, left.wrote);

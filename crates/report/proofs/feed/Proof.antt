@@ -2,7 +2,7 @@
 use mathlib.Core.Path.{_≡_, refl}
 use native.Mathlib.Omega.{arith}
 use lib.ListN.{length, length-take}
-use Rattle.stream_asking_inner.specs.Says.{Said}
+use Rattle.stream_kind_inner.specs.Says.{Said}
 use Rattle.stream_blocks_inner.proofs.Smaller.{smaller-right}
 use Rattle.report.proofs.Making.{taken-within, taken-room, feed-says}
 use borrow.Author.Needs.{needs}

@@ -3,7 +3,7 @@ use mathlib.Core.Path.{_≡_, refl}
 use native.Mathlib.Omega.{arith}
 use lib.ListN.{length, length-take}
 use Rattle.report_spec.specs.Blocks.{small}
-use Rattle.stream_asking_inner.specs.Says.{Said}
+use Rattle.stream_kind_inner.specs.Says.{Said}
 use Rattle.stream_blocks_inner.proofs.Smaller.{smaller-right}
 use Rattle.report.proofs.Making.{end-says}
 use borrow.Author.Needs.{needs}

@@ -1,5 +1,5 @@
 -- `stream_asking_inner::place_text` meets its contract.
-use Rattle.stream_asking_inner.specs.Says.{Said}
+use Rattle.stream_kind_inner.specs.Says.{Said}
 use borrow.Author.Needs.{needs}
 use Rattle.stream_asking_inner.proofs.place_text.Statement.{statement}
 use Rattle.stream_asking_inner.proofs.place_text.Tie as tie

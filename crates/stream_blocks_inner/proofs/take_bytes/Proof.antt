@@ -7,8 +7,8 @@ use lib.ListN.{length, take, length-take}
 use Rattle.stream_spec.specs.Texts.{Tells}
 use Rattle.stream_spec.specs.Blocks.{ByteSays}
 use Rattle.stream_spec.proofs.Taking.{Taking, taking-none, taking-room, taking-long, taking-on, taking-end}
-use Rattle.stream_asking_inner.specs.Says.{Said, mostOf, roomOf}
-use Rattle.stream_asking_inner.proofs.Telling.{said-tells}
+use Rattle.stream_kind_inner.specs.Says.{Said, mostOf, roomOf}
+use Rattle.stream_kind_inner.proofs.Telling.{said-tells}
 use borrow.Author.Needs.{needs}
 use Rattle.stream_blocks_inner.proofs.take_bytes.Statement.{statement}
 use Rattle.stream_blocks_inner.proofs.take_bytes.Tie as tie

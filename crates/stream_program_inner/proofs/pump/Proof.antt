@@ -3,7 +3,7 @@ use Prim.Native.Nat.{_-_, _*_, _<_, _≤_}
 use mathlib.Core.Path.{_≡_, refl, sym, _∙_}
 use native.Mathlib.Omega.{arith}
 use lib.ListN.{length, take}
-use Rattle.stream_asking_inner.specs.Says.{mostOf, roomOf}
+use Rattle.stream_kind_inner.specs.Says.{mostOf, roomOf}
 use Rattle.stream_program_inner.specs.Says.{TurnsMade, none}
 use Rattle.stream_program_inner.proofs.Stopping.{goes-less, turns-more}
 use borrow.Author.Needs.{needs}

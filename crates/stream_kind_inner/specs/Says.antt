@@ -9,8 +9,8 @@ use Rattle.report_spec.specs.Lines as reports
 use Rattle.report_spec.specs.Blocks as blocks
 use Rattle.desk_spec.specs.Answers as desks
 use Rattle.desk_texts_inner.specs.Says.{deskRoom}
-use Rattle.stream_asking_inner.specs.declared.Kind.{Kind}
-use Rattle.stream_asking_inner.specs.declared.Kind.the-variants.{Count, Desk}
+use Rattle.stream_kind_inner.specs.declared.Kind.{Kind}
+use Rattle.stream_kind_inner.specs.declared.Kind.the-variants.{Count, Desk}
 
 unfoldable pub Said : Kind → Relation
 Said Count = reports.Answers

@@ -9,9 +9,9 @@ use Rattle.stream_spec.proofs.Unique.{one-prints}
 use Rattle.stream_spec.proofs.Cut.{run-prints, cut-anyhow}
 use Rattle.report_laws.proofs.Kept.{report-tells}
 use Rattle.desk_inner.proofs.Telling.{desk-tells}
-use Rattle.stream_asking_inner.specs.declared.Kind.{Kind}
-use Rattle.stream_asking_inner.specs.declared.Kind.the-variants.{Count, Desk}
-use Rattle.stream_asking_inner.specs.Says.{Said, mostOf}
+use Rattle.stream_kind_inner.specs.declared.Kind.{Kind}
+use Rattle.stream_kind_inner.specs.declared.Kind.the-variants.{Count, Desk}
+use Rattle.stream_kind_inner.specs.Says.{Said, mostOf}
 
 pub said-tells : (kind : Kind) → Tells (Said kind) (mostOf kind)
 unfolding Said

@@ -1,7 +1,7 @@
--- `stream_asking_inner::block_length` meets its contract.
+-- `stream_kind_inner::block_length` meets its contract.
 use borrow.Author.Needs.{needs}
-use Rattle.stream_asking_inner.proofs.block_length.Statement.{statement}
-use Rattle.stream_asking_inner.proofs.block_length.Tie as tie
+use Rattle.stream_kind_inner.proofs.block_length.Statement.{statement}
+use Rattle.stream_kind_inner.proofs.block_length.Tie as tie
 
 enum-told : tie.Need-enum-told
 enum-told c = search needs
