@@ -2,15 +2,11 @@
 --     paged-length                              a page keeps the buffer's length
 --     turning-first, input-turning, turning-next    behind the first page, and behind the next, the listing stands or nothing follows
 --     pagesLeft, pages-fall                     a bound on the pages that follow, which falls
---     goes-unwritten, goes-written, goes-bytes  whether another page follows
 use Prim.Native.Nat.{ℕ, zero, suc, _+_, _-_, _<_, _≤_}
 use mathlib.Core.Path.{_≡_, refl, sym, ap, _∙_}
 use mathlib.Core.Logic.{_⊎_, inl, inr}
-use mathlib.Core.Bool.{Bool, true, false, false≢true}
 use mathlib.Core.List.{List, [], _++_}
 use native.Mathlib.Omega.{arith}
-use lib.Dec.{ltb}
-use borrow.Author.Tests.{ltb-true}
 use lib.ListN.{length, take, drop, length-append, length-take, length-drop}
 use lib.Seq.{take-all}
 use Rattle.limits_spec.specs.Limits.{Listable}
@@ -22,7 +18,7 @@ use Rattle.listing_spec.specs.Paging.{rowRoom, FirstPage, small, refused, liste
 use Rattle.listing_laws.proofs.Leaving.{counted-start, goes-true, goes-some, AtLeast, Stands, stands-good, stands-behind, empty-bad}
 use Rattle.program_reading_inner.specs.declared.Most.{Most}
 use Rattle.program_reading_inner.specs.declared.Most.the-variants as M
-use Rattle.listing_program_inner.specs.Says.{FirstPageSays, Turning, goesOn}
+use Rattle.listing_program_inner.specs.Says.{FirstPageSays, Turning}
 
 -- a page keeps the buffer's length
 pub paged-length : (P : List ℕ → State → Type 0) (b : List ℕ) (r : Page) (b′ : List ℕ) → Paged P b r b′ → length b′ ≡ length b
@@ -119,16 +115,3 @@ pages-fall q b r b′ st room h p = rw (behind-some (q .length) (left (q .state 
         let k = fewer (q .state) rest s (stands-behind (q .state) rest (s .numbers) (goes-true n (s .counted))) (some .1) in
         let k′ : left (r .state .n) (r .state .rings) < left (q .state .n) (q .state .rings) = rw f k in
         rw (behind-some (r .length) (left (r .state .n) (r .state .rings)) (omega (arith, some .0, p .long))) (omega arith)
-
--- ---- whether another page follows
-
-pub goes-unwritten : (wrote : Bool) (m : ℕ) → wrote ≡ false → false ≡ goesOn wrote m
-goes-unwritten wrote m e = rw e refl
-
-pub goes-written : (wrote : Bool) (m : ℕ) → wrote ≡ true → ltb 0 m ≡ goesOn wrote m
-goes-written wrote m e = rw e refl
-
--- where it goes on, the page has bytes
-pub goes-bytes : (wrote : Bool) (m : ℕ) → goesOn wrote m ≡ true → 0 < m
-goes-bytes true m e = ltb-true 0 m e
-goes-bytes false m e = absurd (false≢true e)

@@ -1,13 +1,10 @@
--- What the parts of the program promise.
+-- What the parts of the program promise. Whether another page follows: `listing_steps_inner`.
 --     FirstPageSays         the first page of the output for any input of which that was read to `line`; none, and the buffer as it was, where a read failed
---     goesOn wrote m        does another page follow one of m bytes? wrote: could they be written?
 --     Turning r m           the page r stands in a buffer of m bytes, and behind it the listing stands or nothing follows
 use Prim.Native.Nat.{ℕ, _≤_}
 use mathlib.Core.Path.{_≡_}
 use mathlib.Core.Logic.{_⊎_}
-use mathlib.Core.Bool.{Bool, _&&_}
 use mathlib.Core.List.{List}
-use lib.Dec.{ltb}
 use lib.ListN.{length, take}
 use Rattle.program_reading_inner.specs.declared.Most.{Most}
 use Rattle.program_reading_inner.specs.declared.Most.the-variants as M
@@ -25,9 +22,6 @@ abbrev pub FirstPageSays : Most → List ℕ → List ℕ → Page → List ℕ 
 FirstPageSays M.Full line b r b′ = (s : List ℕ) → BeginsWith s line → Paged (FirstPage s (length b)) b r b′
 FirstPageSays (M.Ended got) line b r b′ = Paged (FirstPage (take got line) (length b)) b r b′
 FirstPageSays M.Failed line b r b′ = (r .length ≡ 0) × (r .state ≡ emptyState) × (b′ ≡ b)
-
-abbrev pub goesOn : Bool → ℕ → Bool
-goesOn wrote m = wrote && ltb 0 m
 
 pub record Turning (r : Page) (m : ℕ) : Type 0 where
   pub inside : r .length ≤ m

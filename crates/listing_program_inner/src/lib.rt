@@ -8,23 +8,15 @@ ghost use Prim.Native.Nat.{_≤_};
 ghost use mathlib.Core.Path.{_≡_};
 ghost use mathlib.Core.Bool.{false};
 ghost use lib.ListN.{length};
-ghost use Rattle.listing_spec.specs.State.{emptyState};
 ghost use Rattle.listing_spec.specs.Paging.{rowRoom};
 ghost use Rattle.program_reading_inner.specs.Says.{MostSays};
-ghost use Rattle.listing_program_inner.specs.Says.{listLineBytes, FirstPageSays, Turning, goesOn};
+ghost use Rattle.listing_steps_inner.specs.Says.{goesOn};
+ghost use Rattle.listing_program_inner.specs.Says.{listLineBytes, FirstPageSays, Turning};
 
 // Where the program stopped: whether the last page could be written, and how many bytes it had.
 pub struct Printed {
     pub wrote: bool,
     pub length: usize,
-}
-
-// A page of no bytes, behind which nothing follows.
-fn no_page() -> Page
-    ensures { λ r. ⌜ (r .length ≡ 0) × (r .state ≡ emptyState) ⌝ }
-{
-    let state = listing_pages_inner::empty_state();
-    Page { length: 0, state }
 }
 
 // The first page of the output for an input of which that was read: all of it, or as many bytes as there was room for. There has to be room for 9 bytes, of which a
@@ -37,18 +29,8 @@ fn first_of_input(most: Most, line: &[u8], buf: &mut [u8]) -> Page
     match most {
         Most::Full => listing::first_page(line, buf),
         Most::Ended(got) => listing::first_page(&line[..got], buf),
-        Most::Failed => no_page(),
+        Most::Failed => listing_steps_inner::no_page(),
     }
-}
-
-// Whether another page follows: where this one has bytes, and they were written.
-fn goes_on(wrote: bool, length: usize) -> bool
-    ensures { λ r. ⌜ r ≡ goesOn wrote length ⌝ }
-{
-    if !wrote {
-        return false;
-    }
-    0 < length
 }
 
 // Writes a page, and all that follow. Where a write fails, nothing more is written.
@@ -61,7 +43,7 @@ fn print_pages(first: Page, buf: &mut [u8]) -> Printed
     loop {
         let m = page.length;
         let wrote = io::write_all(STDOUT_FILENO, &buf[..m]);
-        if !goes_on(wrote, m) {
+        if !listing_steps_inner::goes_on(wrote, m) {
             return Printed { wrote, length: m };
         }
         page = listing::next_page(page.state, buf);

@@ -1,2 +1,3 @@
--- The smaller of two numbers (Smaller).
+-- The smaller of two numbers (Smaller), and one byte more of a line (Holding).
 pub mod Smaller
+pub mod Holding

@@ -1,18 +1,14 @@
 // The bytes of a block, one after another: the line under way, and the texts of the lines that end. No public calls.
 
 use stream_kind_inner::Kind;
+use stream_steps_inner::Behind;
+use stream_steps_inner::Held;
 ghost use Prim.Native.Nat.{_+_, _*_, _≤_};
 ghost use mathlib.Core.Path.{_≡_};
 ghost use lib.ListN.{length, take};
 ghost use Rattle.stream_spec.specs.Blocks.{ByteSays, BlockSays, EndSays};
 ghost use Rattle.stream_kind_inner.specs.Says.{Said, mostOf, roomOf};
 ghost use Rattle.stream_blocks_inner.specs.Says.{smaller};
-
-// Behind some bytes: how many bytes of the line under way are held, and the place behind the texts.
-pub struct Behind {
-    pub len: usize,
-    pub at: usize,
-}
 
 // The smaller of two numbers.
 pub fn smaller_of(a: usize, b: usize) -> usize
@@ -24,7 +20,7 @@ pub fn smaller_of(a: usize, b: usize) -> usize
     b
 }
 
-// One byte more of a line whose first `len` bytes are held. A newline ends it; of a line that is too long the rest is passed over.
+// One byte more of a line whose first `len` bytes are held. Where it ends the line, the line's text is placed.
 fn take_byte(kind: Kind, line: &mut [u8], len: usize, b: u8, buf: &mut [u8], at: usize) -> Behind
     requires { ⌜ length (now line) ≡ mostOf kind ⌝ }
     requires { ⌜ len ≤ length (now line) ⌝ }
@@ -32,15 +28,13 @@ fn take_byte(kind: Kind, line: &mut [u8], len: usize, b: u8, buf: &mut [u8], at:
     ensures { λ r. ⌜ r .len ≤ length (now (line .exit)) ⌝ }
     ensures { λ r. ⌜ ByteSays (Said kind) (length (now (line .entry))) (roomOf kind) (take len (now (line .entry))) at b (now (buf .entry)) (take (r .len) (now (line .exit))) (r .at) (now (buf .exit)) ⌝ }
 {
-    if b == b'\n' {
-        let next = stream_asking_inner::place_text(kind, &line[..len], buf, at);
-        return Behind { len: 0, at: next };
+    match stream_steps_inner::hold_byte(line, len, b) {
+        Held::Ended => {
+            let next = stream_asking_inner::place_text(kind, &line[..len], buf, at);
+            Behind { len: 0, at: next }
+        }
+        Held::Bytes(m) => Behind { len: m, at },
     }
-    if len < line.len() {
-        line[len] = b;
-        return Behind { len: len + 1, at };
-    }
-    Behind { len, at }
 }
 
 // A block, for which there is room: the texts of the lines that end in it stand at the beginning of the buffer.

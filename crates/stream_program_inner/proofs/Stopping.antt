@@ -1,52 +1,25 @@
 -- What is written behind a read, and why a program stops.
 --     turn-bytes, turn-over, turn-failed, turn-inside       what stands in the buffer behind a read
---     goes-unwritten, goes-over, goes-failed, goes-bytes    by what a read gave, and whether its texts were written
---     goes-less                                             where it goes on, another read can be counted
---     turns-more                                            and one turn more is made
+--     turns-more                                            where it goes on, one turn more is made
 --     take-room, line-room                                  there is room for the texts of what was read
 --     first-room, first-long                                the first bytes of a buffer, as a block and as a line
 --     got-inside                                            what was read is inside the block
 use Prim.Native.Nat.{ℕ, suc, _+_, _*_, _<_, _≤_}
 use mathlib.Core.Path.{_≡_, refl, sym, ap, _∙_}
-use mathlib.Core.Bool.{Bool, true, false, not, false≢true}
+use mathlib.Core.Bool.{Bool, true, false, false≢true}
 use mathlib.Core.List.{List}
 use native.Mathlib.Omega.{arith}
 use native.Mathlib.Nat.{mul-le-mul-right}
 use native.Mathlib.Numerals.{add-one}
-use lib.Dec.{ltb}
 use lib.ListN.{length, take, length-take}
-use borrow.Author.Tests.{ltb-true, ltb-false}
-use Rattle.words.proofs.Split.{passes, fails, test}
 use Rattle.program_reading_inner.specs.declared.Got.{Got}
 use Rattle.program_reading_inner.specs.declared.Got.the-variants.{Bytes, Over, Failed}
 use Rattle.program_reading_inner.specs.Says.{GotSays}
+use Rattle.stream_steps_inner.specs.Says.{GoesOn}
 use Rattle.stream_spec.specs.Blocks.{BlockSays, EndSays}
 use Rattle.stream_kind_inner.specs.declared.Kind.{Kind}
 use Rattle.stream_kind_inner.specs.Says.{Said, mostOf}
-use Rattle.stream_program_inner.specs.Says.{BehindRead, ReadAnswered, TurnsMade, more, GoesOn}
-
-pub goes-unwritten : (wrote : Bool) (got : Got) (reads : ℕ) → wrote ≡ false → GoesOn wrote got reads false
-goes-unwritten wrote got reads e = rw e refl
-
-pub goes-over : (wrote : Bool) (got : Got) (reads : ℕ) → wrote ≡ true → got ≡ Over → GoesOn wrote got reads false
-goes-over wrote got reads e f = rw (e, f) refl
-
-pub goes-failed : (wrote : Bool) (got : Got) (reads : ℕ) → wrote ≡ true → got ≡ Failed → GoesOn wrote got reads false
-goes-failed wrote got reads e f = rw (e, f) refl
-
-pub goes-bytes : (wrote : Bool) (got : Got) (reads n : ℕ) → reads < 18446744073709551616 → wrote ≡ true → got ≡ Bytes n → GoesOn wrote got reads (ltb reads 18446744073709551615)
-goes-bytes wrote got reads n h e f =
-    rw (e, f) (elim (test (ltb reads 18446744073709551615)) [
-      | passes x ↦ rw x (ltb-true reads 18446744073709551615 x)
-      | fails x ↦ rw x (omega (arith, ltb-false reads 18446744073709551615 x))
-    ])
-
--- where it goes on
-pub goes-less : (wrote : Bool) (got : Got) (reads : ℕ) → GoesOn wrote got reads true → reads < 18446744073709551615
-goes-less true (Bytes n) reads h = h
-goes-less true Over reads h = absurd (false≢true (sym h))
-goes-less true Failed reads h = absurd (false≢true (sym h))
-goes-less false got reads h = absurd (false≢true (sym h))
+use Rattle.stream_program_inner.specs.Says.{BehindRead, ReadAnswered, TurnsMade, more}
 
 -- bytes were read, and another turn is made
 pub turns-more : (kind : Kind) (wrote : Bool) (got : Got) (n : ℕ) (u s b v b′ : List ℕ) → GoesOn wrote got n true → TurnsMade kind n u → ReadAnswered kind got u s b v b′ →
@@ -92,5 +65,5 @@ module _ (kind : Kind) (u s b v : List ℕ) (r : ℕ) (b′ : List ℕ) where
   turn-inside Over t = t .inside
   turn-inside Failed t = omega (arith, t .0)
 
-pub turn-failed : (kind : Kind) (got : Got) (u s b : List ℕ) → got ≡ Failed → BehindRead kind got u s b u 0 b
-turn-failed kind got u s b e = rw e (refl, refl, refl)
+pub turn-failed : (kind : Kind) (got : Got) (w s b : List ℕ) (m n r : ℕ) → got ≡ Failed → n ≡ m → r ≡ 0 → BehindRead kind got (take m w) s b (take n w) r b
+turn-failed kind got w s b m n r e f g = rw (e, f, g) (refl, refl, refl)

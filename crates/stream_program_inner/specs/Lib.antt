@@ -1,2 +1,2 @@
--- What is written behind a read, why a program stops, and what it says then (Says).
+-- What is written behind a read, and behind all of them (Says).
 pub mod Says

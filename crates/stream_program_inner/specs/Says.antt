@@ -1,14 +1,12 @@
--- What is written behind a read, and why a program stops.
+-- What is written behind a read, and behind all of them. Whether another follows: `stream_steps_inner`.
 --     RoomForRead kind got s b    the buffer b has room for a text for each byte of the block s, and what was read is inside it
 --     BehindRead                  what stands in the buffer behind a read: the texts of the lines that end in what was read, that of a last line where the input
 --                                 is over, and nothing where the read failed, and the line under way is as it was; as in `stream_spec`, specs/Blocks
 --     ReadAnswered                the same, of however many bytes that is
 --     TurnsMade kind n u          n reads gave bytes, and each was answered with what the one before it had left of the line under way; u is what the last one left
 --     PumpSays kind got n s b′    behind n such reads the last one gave `got`, and was answered with what they had left; s and b′ are the block and the buffer then
---     GoesOn wrote got reads r    r: does it go on? Where bytes were read and their texts written, unless 2 to the power 64 reads were made
 use Prim.Native.Nat.{ℕ, suc, _*_, _<_, _≤_}
 use mathlib.Core.Path.{_≡_}
-use mathlib.Core.Bool.{Bool, true, false}
 use mathlib.Core.List.{List, []}
 use lib.ListN.{length, take}
 use Rattle.stream_spec.specs.Blocks.{BlockSays, EndSays}
@@ -41,10 +39,3 @@ pub record PumpSays (kind : Kind) (got : Got) (n : ℕ) (s b′ : List ℕ) : Ty
   pub buffer : List ℕ
   pub turns : TurnsMade kind n held
   pub answered : ReadAnswered kind got held s buffer left b′
-
-abbrev pub GoesOn : Bool → Got → ℕ → Bool → Type 0
-GoesOn true (Bytes n) reads true = reads < 18446744073709551615
-GoesOn true (Bytes n) reads false = reads ≡ 18446744073709551615
-GoesOn true Over reads r = r ≡ false
-GoesOn true Failed reads r = r ≡ false
-GoesOn false got reads r = r ≡ false

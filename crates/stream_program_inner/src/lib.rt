@@ -4,14 +4,15 @@
 use libc::STDERR_FILENO;
 use libc::STDOUT_FILENO;
 use program_reading_inner::Got;
-use stream_blocks_inner::Behind;
 use stream_kind_inner::Kind;
+use stream_steps_inner::Behind;
 ghost use Prim.Native.Nat.{_*_, _≤_, _<_};
 ghost use mathlib.Core.Path.{_≡_};
 ghost use mathlib.Core.Bool.{false};
 ghost use lib.ListN.{length, take};
 ghost use Rattle.stream_kind_inner.specs.Says.{mostOf, roomOf};
-ghost use Rattle.stream_program_inner.specs.Says.{RoomForRead, BehindRead, ReadAnswered, PumpSays, GoesOn};
+ghost use Rattle.stream_steps_inner.specs.Says.{GoesOn};
+ghost use Rattle.stream_program_inner.specs.Says.{RoomForRead, BehindRead, ReadAnswered, PumpSays};
 
 // Behind a turn: what its read gave, whether the texts could be written, and how many bytes of the line under way are held.
 pub struct Turned {
@@ -49,7 +50,7 @@ fn place_turn(
             let at = stream_blocks_inner::place_last(kind, &line[..len], buf);
             Behind { len: 0, at }
         }
-        Got::Failed => Behind { len, at: 0 },
+        Got::Failed => stream_steps_inner::behind_failure(len),
     }
 }
 
@@ -72,21 +73,6 @@ fn turn(kind: Kind, block: &mut [u8], line: &mut [u8], len: usize, buf: &mut [u8
     }
 }
 
-// Whether another turn follows: where bytes were read and their texts written. A proved loop has to end, and nothing says that an input does: so not where 2 to the
-// power 64 reads were made, and no run comes so far.
-fn goes_on(got: Got, wrote: bool, reads: u64) -> bool
-    ensures { λ r. ⌜ GoesOn wrote got reads r ⌝ }
-{
-    if !wrote {
-        return false;
-    }
-    match got {
-        Got::Bytes(_) => reads < u64::MAX,
-        Got::Over => false,
-        Got::Failed => false,
-    }
-}
-
 // Turn after turn, each with what the one before it left of the line under way.
 fn pump(kind: Kind, block: &mut [u8], line: &mut [u8], buf: &mut [u8]) -> Stopped
     requires { ⌜ length (now line) ≡ mostOf kind ⌝ }
@@ -100,7 +86,7 @@ fn pump(kind: Kind, block: &mut [u8], line: &mut [u8], buf: &mut [u8]) -> Stoppe
         let t = turn(kind, block, line, len, buf);
         let got = t.got;
         let wrote = t.wrote;
-        if !goes_on(got, wrote, reads) {
+        if !stream_steps_inner::goes_on(got, wrote, reads) {
             return Stopped { got, wrote, reads };
         }
         len = t.len;

@@ -4,8 +4,9 @@ use mathlib.Core.Path.{_≡_, refl, sym, _∙_}
 use native.Mathlib.Omega.{arith}
 use lib.ListN.{length, length-take}
 use Rattle.listing_spec.specs.Paging.{rowRoom}
+use Rattle.listing_steps_inner.proofs.Going.{goes-bytes}
 use Rattle.listing_program_inner.specs.Says.{Turning}
-use Rattle.listing_program_inner.proofs.Turns.{paged-length, turning-next, pagesLeft, pages-fall, goes-bytes}
+use Rattle.listing_program_inner.proofs.Turns.{paged-length, turning-next, pagesLeft, pages-fall}
 use borrow.Author.Tests.{not-true, not-false}
 use borrow.Author.Needs.{needs}
 use Rattle.listing_program_inner.proofs.print_pages.Statement.{statement}

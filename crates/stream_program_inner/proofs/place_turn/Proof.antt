@@ -50,13 +50,14 @@ returns-2 c =
 
 returns-3 : tie.Need-returns-3
 returns-3 c =
-    let pre = c .before .before .before .before .before .pre in
-    let args = c .before .before .before .before .before .args in
-    (omega (arith, pre .1 .0), turn-failed (args .kind) (args .got) _ _ _ (c .enum-told2 .given .1))
+    let g = c .before .before .before .before .before .before in
+    let a = g .args in
+    let f = c .behind-failure .ensures in
+    (omega (arith, g .pre .1 .0, f .0), turn-failed (a .kind) (a .got) (a .line .now) _ _ (a .len) _ _ (c .before .enum-told2 .given .1) (f .0) (f .1))
 
 pub place-turn-spec : {M : Type 1} → statement M
 place-turn-spec =
     tie.close
     (tie.spec (λ c. search needs) slice-aggregate-take-bytes take-bytes-requires enum-told (λ c. search needs)
-    slice-aggregate-place-last place-last-requires (λ c. search needs) (λ c. search needs) (λ c. search needs) returns
+    slice-aggregate-place-last place-last-requires (λ c. search needs) (λ c κs. search needs) (λ c. search needs) (λ c. search needs) returns
     (λ c. search needs) (λ c. search needs) returns-2 returns-3)

@@ -5,7 +5,8 @@ use native.Mathlib.Omega.{arith}
 use lib.ListN.{length, take}
 use Rattle.stream_kind_inner.specs.Says.{mostOf, roomOf}
 use Rattle.stream_program_inner.specs.Says.{TurnsMade, none}
-use Rattle.stream_program_inner.proofs.Stopping.{goes-less, turns-more}
+use Rattle.stream_steps_inner.proofs.Going.{goes-less}
+use Rattle.stream_program_inner.proofs.Stopping.{turns-more}
 use borrow.Author.Needs.{needs}
 use borrow.Author.Tests.{not-true, not-false}
 use Rattle.stream_program_inner.proofs.pump.Statement.{statement}

@@ -1,10 +1,10 @@
--- `stream_program_inner::goes_on` meets its contract.
+-- `stream_steps_inner::goes_on` meets its contract.
 use native.Mathlib.Omega.{arith}
-use Rattle.stream_program_inner.proofs.Stopping.{goes-unwritten, goes-over, goes-failed, goes-bytes}
+use Rattle.stream_steps_inner.proofs.Going.{goes-unwritten, goes-over, goes-failed, goes-bytes}
 use borrow.Author.Needs.{needs}
 use borrow.Author.Tests.{not-true, not-false}
-use Rattle.stream_program_inner.proofs.goes_on.Statement.{statement}
-use Rattle.stream_program_inner.proofs.goes_on.Tie as tie
+use Rattle.stream_steps_inner.proofs.goes_on.Statement.{statement}
+use Rattle.stream_steps_inner.proofs.goes_on.Tie as tie
 
 returns : tie.Need-returns
 returns c = let a = c .before .args in goes-unwritten (a .wrote) (a .got) (a .reads) (not-true _ (c .if1 .taken))

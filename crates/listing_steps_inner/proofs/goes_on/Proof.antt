@@ -1,9 +1,9 @@
--- `listing_program_inner::goes_on` meets its contract.
-use Rattle.listing_program_inner.proofs.Turns.{goes-unwritten, goes-written}
+-- `listing_steps_inner::goes_on` meets its contract.
+use Rattle.listing_steps_inner.proofs.Going.{goes-unwritten, goes-written}
 use borrow.Author.Tests.{not-true, not-false}
 use borrow.Author.Needs.{needs}
-use Rattle.listing_program_inner.proofs.goes_on.Statement.{statement}
-use Rattle.listing_program_inner.proofs.goes_on.Tie as tie
+use Rattle.listing_steps_inner.proofs.goes_on.Statement.{statement}
+use Rattle.listing_steps_inner.proofs.goes_on.Tie as tie
 
 returns : tie.Need-returns
 returns c = goes-unwritten (c .before .args .wrote) (c .before .args .length) (not-true _ (c .if1 .taken))

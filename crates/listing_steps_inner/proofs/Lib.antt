@@ -1,0 +1,2 @@
+-- Whether another page follows (Going).
+pub mod Going

@@ -1,0 +1,2 @@
+-- Whether another page follows (Says).
+pub mod Says

@@ -1,0 +1,2 @@
+-- Whether another read follows (Going).
+pub mod Going
