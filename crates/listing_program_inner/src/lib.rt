@@ -65,7 +65,7 @@ pub fn run() {
     let mut buf = io::large_buffer();
     let first = first_of_input(most, &line, &mut buf);
     let left = print_pages(first, &mut buf);
-    let ended = program_reading_inner::line_ending(most, left.wrote);
+    let ended = program_outcome_inner::line_ending(most, left.wrote);
     let m = program_ending_inner::say(ended, &mut buf);
     io::write_all(STDERR_FILENO, &buf[..m]);
 }

@@ -31,7 +31,7 @@ pub fn run() {
     let mut buf = io::large_buffer();
     let m = output_of_input(most, &line, &mut w, &mut buf);
     let wrote = io::write_all(STDOUT_FILENO, &buf[..m]);
-    let ended = program_reading_inner::whole_ending(most, wrote);
+    let ended = program_outcome_inner::whole_ending(most, wrote);
     let k = program_ending_inner::say(ended, &mut buf);
     io::write_all(STDERR_FILENO, &buf[..k]);
 }

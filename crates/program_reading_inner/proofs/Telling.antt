@@ -4,11 +4,9 @@
 --     says-told                             a count that is told is inside the block
 --     got-some                              what was read is some bytes
 --     says-ended                            the input ended before the buffer was full
---     whole-read                            how a run ended that read its input to its end
---     line-unwritten, line-read, stream-unwritten, stream-read    how a run ended, by whether all was written and by what was read
 use Prim.Native.Nat.{ℕ, zero, suc, min, _<_, _≤_}
 use mathlib.Core.Path.{_≡_, refl, sym, ap, _∙_}
-use mathlib.Core.Bool.{Bool, true, false, false≢true}
+use mathlib.Core.Bool.{true, false, false≢true}
 use mathlib.Core.List.{List}
 use native.Mathlib.Omega.{arith}
 use lib.ListN.{length, take, length-take}
@@ -17,12 +15,10 @@ use lib.Signed.{ltZ}
 use borrow.Author.Tests.{ltb-true}
 use Rattle.io.specs.Counts.{clamped}
 use Rattle.libc.specs.Io.{Moved}
-use Rattle.program_ending_inner.specs.declared.Ending.{Ending}
-use Rattle.program_ending_inner.specs.declared.Ending.the-variants.{Unwritten}
 use Rattle.program_reading_inner.specs.declared.Got.{Got}
 use Rattle.program_reading_inner.specs.declared.Got.the-variants.{Bytes, Over, Failed}
 use Rattle.program_reading_inner.specs.declared.Most.{Most}
-use Rattle.program_reading_inner.specs.Says.{toldOf, GotSays, endedOf, MostSays, lineEnding, wholeEnding, streamEnding}
+use Rattle.program_reading_inner.specs.Says.{toldOf, GotSays, endedOf, MostSays}
 
 -- z is the answer as it was handed over
 module _ (got z : ℤ) (same : z ≡ got) where
@@ -68,20 +64,3 @@ pub says-ended : (got : Got) (at : ℕ) (r : Most) (s : List ℕ) → r ≡ ende
 says-ended (Bytes n) at r s e h = rw e tt
 says-ended Over at r s e h = rw e h
 says-ended Failed at r s e h = rw e tt
-
--- ---- how a run ended
-
-pub line-unwritten : (wrote : Bool) (most : Most) → wrote ≡ false → Unwritten ≡ lineEnding wrote most
-line-unwritten wrote most e = rw e refl
-
-pub line-read : (wrote : Bool) (most m : Most) → wrote ≡ true → most ≡ m → lineEnding true m ≡ lineEnding wrote most
-line-read wrote most m e f = rw (e, f) refl
-
-pub whole-read : (wrote : Bool) (most m : Most) → wholeEnding wrote m ≡ lineEnding wrote m → most ≡ m → (r : Ending) → r ≡ lineEnding wrote most → r ≡ wholeEnding wrote most
-whole-read wrote most m q e r p = p ∙ rw e (sym q)
-
-pub stream-unwritten : (wrote : Bool) (got : Got) → wrote ≡ false → Unwritten ≡ streamEnding wrote got
-stream-unwritten wrote got e = rw e refl
-
-pub stream-read : (wrote : Bool) (got g : Got) → wrote ≡ true → got ≡ g → streamEnding true g ≡ streamEnding wrote got
-stream-read wrote got g e f = rw (e, f) refl

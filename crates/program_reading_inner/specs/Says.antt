@@ -1,20 +1,14 @@
--- What reading promises, and how a run ended by it.
+-- What reading promises. How a run ended by it: `program_outcome_inner`.
 --     toldOf got             what the system's answer says: -1 that the read failed, 0 that the input is over
 --     GotSays r s            some bytes, and no more than the block s has
 --     endedOf got at         behind `at` bytes a read that gave none: the input is over, or the read failed
 --     MostSays r s           the buffer s is full, or the input ended before it was
 --     BeginsWith s line      the buffer `line` holds the beginning of the input s, as much as there is room for
---     lineEnding wrote most  the run of a program that reads its input and writes one text for it; wrote: could all of it be written?
---     wholeEnding wrote most the run of one that has to read its input to its end, and cannot where it fills the buffer
---     streamEnding wrote got the run of one that answers its lines as they come: it ends behind bytes only where it can count no more reads
 use Prim.Native.Nat.{ℕ, zero, suc, _<_, _≤_}
 use mathlib.Core.Path.{_≡_}
-use mathlib.Core.Bool.{Bool, true, false}
 use mathlib.Core.List.{List}
 use lib.ListN.{length, take}
 use lib.IntN.{ℤ, pos, negsuc}
-use Rattle.program_ending_inner.specs.declared.Ending.{Ending}
-use Rattle.program_ending_inner.specs.declared.Ending.the-variants as E
 use Rattle.program_reading_inner.specs.declared.Got.{Got}
 use Rattle.program_reading_inner.specs.declared.Got.the-variants.{Bytes, Over, Failed}
 use Rattle.program_reading_inner.specs.declared.Most.{Most}
@@ -42,20 +36,3 @@ MostSays M.Failed s = Unit
 
 abbrev pub BeginsWith : List ℕ → List ℕ → Type 0
 BeginsWith s line = take (length line) s ≡ line
-
-abbrev pub lineEnding : Bool → Most → Ending
-lineEnding false most = E.Unwritten
-lineEnding true M.Full = E.Whole
-lineEnding true (M.Ended n) = E.Whole
-lineEnding true M.Failed = E.Unread
-
-abbrev pub wholeEnding : Bool → Most → Ending
-wholeEnding wrote M.Full = E.TooLong
-wholeEnding wrote (M.Ended n) = lineEnding wrote (M.Ended n)
-wholeEnding wrote M.Failed = lineEnding wrote M.Failed
-
-abbrev pub streamEnding : Bool → Got → Ending
-streamEnding false got = E.Unwritten
-streamEnding true (Bytes n) = E.TooLong
-streamEnding true Over = E.Whole
-streamEnding true Failed = E.Unread

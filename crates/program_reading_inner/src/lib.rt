@@ -1,11 +1,10 @@
-// Reading standard input, with a read that failed told apart from the end of the input, and how a run ended by it. No public calls: no contract can say what is read.
+// Reading standard input, with a read that failed told apart from the end of the input. No public calls: no contract can say what is read.
 
 use libc::STDIN_FILENO;
-use program_ending_inner::Ending;
 ghost use mathlib.Core.Path.{_≡_};
 ghost use lib.ListN.{length};
 ghost use Rattle.libc.specs.Io.{Moved};
-ghost use Rattle.program_reading_inner.specs.Says.{toldOf, GotSays, endedOf, MostSays, lineEnding, wholeEnding, streamEnding};
+ghost use Rattle.program_reading_inner.specs.Says.{toldOf, GotSays, endedOf, MostSays};
 
 // What a read gave: so many bytes, at least one; the end of the input; or that it failed.
 pub enum Got {
@@ -68,43 +67,4 @@ pub fn read_most(buf: &mut [u8]) -> Most
         at += n;
     }
     Most::Full
-}
-
-// How a run ended that read its input and then wrote the text for it: `wrote` tells whether all of it could be written.
-pub fn line_ending(most: Most, wrote: bool) -> Ending
-    ensures { λ r. ⌜ r ≡ lineEnding wrote most ⌝ }
-{
-    if !wrote {
-        return Ending::Unwritten;
-    }
-    match most {
-        Most::Full => Ending::Whole,
-        Most::Ended(_) => Ending::Whole,
-        Most::Failed => Ending::Unread,
-    }
-}
-
-// How a run ended that has to read its input to its end before it writes: an input that fills the buffer is too long.
-pub fn whole_ending(most: Most, wrote: bool) -> Ending
-    ensures { λ r. ⌜ r ≡ wholeEnding wrote most ⌝ }
-{
-    match most {
-        Most::Full => Ending::TooLong,
-        Most::Ended(_) => line_ending(most, wrote),
-        Most::Failed => line_ending(most, wrote),
-    }
-}
-
-// How a run ended that wrote the texts of its lines as they came, where `got` is what its last read gave.
-pub fn stream_ending(got: Got, wrote: bool) -> Ending
-    ensures { λ r. ⌜ r ≡ streamEnding wrote got ⌝ }
-{
-    if !wrote {
-        return Ending::Unwritten;
-    }
-    match got {
-        Got::Bytes(_) => Ending::TooLong,
-        Got::Over => Ending::Whole,
-        Got::Failed => Ending::Unread,
-    }
 }

@@ -30,7 +30,7 @@ pub fn run(rule: Rule) {
     let mut buf = io::buffer();
     let m = output_of_input(rule, most, &line, &mut buf);
     let wrote = io::write_all(STDOUT_FILENO, &buf[..m]);
-    let ended = program_reading_inner::line_ending(most, wrote);
+    let ended = program_outcome_inner::line_ending(most, wrote);
     let k = program_ending_inner::say(ended, &mut buf);
     io::write_all(STDERR_FILENO, &buf[..k]);
 }

@@ -79,7 +79,7 @@ pub fn run() {
     let most = program_reading_inner::read_most(&mut input);
     let mut buf = io::large_buffer();
     let wrote = print_input(most, &input, &mut buf);
-    let ended = program_reading_inner::whole_ending(most, wrote);
+    let ended = program_outcome_inner::whole_ending(most, wrote);
     let k = program_ending_inner::say(ended, &mut buf);
     io::write_all(STDERR_FILENO, &buf[..k]);
 }

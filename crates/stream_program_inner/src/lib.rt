@@ -110,7 +110,7 @@ pub fn run(kind: Kind) {
     let m = stream_kind_inner::kept_bytes(kind);
     let left = pump(kind, &mut block[..n], &mut line[..m], &mut buf);
     let got = left.got;
-    let ended = program_reading_inner::stream_ending(got, left.wrote);
+    let ended = program_outcome_inner::stream_ending(got, left.wrote);
     let k = program_ending_inner::say(ended, &mut buf);
     io::write_all(STDERR_FILENO, &buf[..k]);
 }

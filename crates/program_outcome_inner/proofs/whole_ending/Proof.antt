@@ -1,10 +1,10 @@
--- `program_reading_inner::whole_ending` meets its contract.
+-- `program_outcome_inner::whole_ending` meets its contract.
 use mathlib.Core.Path.{refl}
 use Rattle.program_reading_inner.specs.declared.Most.the-variants.{Failed}
-use Rattle.program_reading_inner.proofs.Telling.{whole-read}
+use Rattle.program_outcome_inner.proofs.Outcomes.{whole-read}
 use borrow.Author.Needs.{needs}
-use Rattle.program_reading_inner.proofs.whole_ending.Statement.{statement}
-use Rattle.program_reading_inner.proofs.whole_ending.Tie as tie
+use Rattle.program_outcome_inner.proofs.whole_ending.Statement.{statement}
+use Rattle.program_outcome_inner.proofs.whole_ending.Tie as tie
 
 returns-2 : tie.Need-returns-2
 returns-2 c = whole-read (c .before .before .before .args .wrote) (c .before .before .before .args .most) _ refl (c .before .enum-told2 .given .1) _ (c .line-ending .ensures)

@@ -1,0 +1,2 @@
+-- How a run ended, by what was read (Outcomes).
+pub mod Outcomes

@@ -1,0 +1,2 @@
+-- How a run ended, by what was read (Says).
+pub mod Says
