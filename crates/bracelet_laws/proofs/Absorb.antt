@@ -4,14 +4,8 @@
 --     absorbs                  a bracelet, raised from some place on to an ending that never falls, is a bracelet
 --     absorb-begin, absorb     the lemma, of a beginning, and of the first m sectors
 --     begun-filled, filled-begins, begins-iff                    the beginnings of bracelets are those that are one when filled up
-use Prim.Native.Nat.{ℕ, _+_, _-_, _<_, _≤_}
-use mathlib.Core.Path.{_≡_, sym, _∙_}
-use mathlib.Core.Logic.{_↔_}
-use mathlib.Core.Bool.{true}
-use mathlib.Core.List.{List, _++_}
-use native.Mathlib.Omega.{arith}
-use lib.ListN.{length, getD, take, replicate, length-append, length-replicate, getD-replicate, List·getD-append}
-use lib.Seq.{length-take-le, getD-take, getD-append-add}
+use Rattle.words.proofs.Plain.{ℕ, _+_, _-_, _<_, _≤_, arith, _≡_, sym, _∙_, _↔_, true, List, _++_, length, getD, take, replicate, length-append}
+use Rattle.words.proofs.Plain.{length-replicate, getD-replicate, List·getD-append, length-take-le, getD-take, getD-append-add}
 use Rattle.words.specs.Readings.{Reading}
 use Rattle.words.proofs.Split.{lt, eq, gt, tri}
 use Rattle.words.proofs.Sequence.{sec, place}
@@ -55,9 +49,7 @@ module _ (n k : ℕ) (u : List ℕ) (fits : length u ≤ n) where
 pub absorbs : (n m : ℕ) (w v : List ℕ) → 0 < n → length w ≡ n → bracelet w ≡ true → length v ≡ n → ((j : ℕ) → j < m → j < n → getD v j 0 ≡ getD w j 0) →
     ((j : ℕ) → m ≤ j → j < n → getD w j 0 ≤ getD v j 0) → ((i j : ℕ) → m ≤ i → i ≤ j → j < n → getD v i 0 ≤ getD v j 0) → bracelet v ≡ true
 absorbs n m w v z q h e low rise grow =
-    of-brace v (omega arith)
-    (rw e
-    (record {
+    of-brace v (omega arith) (rw e (record {
       turns = λ i b. absorb-places n m (sec w) (sec v) _ (rot-moves n i z) low rise grow (brace .turns i b);
       mirrors = λ i b. absorb-places n m (sec w) (sec v) _ (mir-moves n i b) low rise grow (brace .mirrors i b);
     }))
@@ -69,8 +61,7 @@ absorbs n m w v z q h e low rise grow =
 pub absorb-begin : (n k : ℕ) (u w : List ℕ) → 0 < n → Reading n k w → bracelet w ≡ true → length u ≤ n → ((j : ℕ) → j < length u → getD u j 0 ≡ getD w j 0) → bracelet (filled n k u) ≡ true
 absorb-begin n k u w z r h l begins =
     absorbs n (length u) w (filled n k u) z (r .long) h (length-filled n k u l)
-    (λ j a b. filled-low n k u l j a ∙ begins j a)
-    (λ j a b. omega (arith, filled-high n k u l j a b, r .shades j b))
+    (λ j a b. filled-low n k u l j a ∙ begins j a) (λ j a b. omega (arith, filled-high n k u l j a b, r .shades j b))
     (λ i j a c b. omega (arith, filled-high n k u l i a (omega arith), filled-high n k u l j (omega arith) b))
 
 -- 004, Lemma 1: the first m sectors of a bracelet, filled up, are a bracelet

@@ -1,19 +1,12 @@
 -- Bracelets, beginnings and small walks: one table, one claim. A row's readings are decimal numerals, as in the table of `rings`.
 -- A row for a walk shows two things of the rings that it names: they are those of the full walk by bracelets from the all-zero ring; and of each reading, in
 -- increasing order, the ring or its mirror image is 1 of them, the all-zero ring included.
-use Prim.Native.Nat.{ℕ, _^_}
-use mathlib.Core.Path.{_≡_, refl}
-use mathlib.Core.Bool.{Bool, true, false}
-use mathlib.Core.List.{List, [], _∷_, map}
-use lib.ListN.{replicate}
-use Rattle.words.specs.Readings.{readings, count}
-use Rattle.words.specs.Table.{Hold}
-use Rattle.rings.specs.Alike.{bracelet}
+use Rattle.words.proofs.Plain.{ℕ, _^_, _≡_, refl, Bool, true, false, List, [], _∷_, map, replicate}
+use Rattle.words.specs.{Readings.readings, Readings.count, Table.Hold}
+use Rattle.rings.specs.{Alike.bracelet, Open.open-all}
 use Rattle.rings.specs.Steps.{howMany, zeros, FullWalk, done, step}
 use Rattle.rings.proofs.Cases.{ring, digits}
-use Rattle.rings.specs.Open.{open-all}
-use Rattle.bracelet_laws.specs.Pairs.{ofPair}
-use Rattle.bracelet_laws.specs.Beginnings.{filled, tried}
+use Rattle.bracelet_laws.specs.{Pairs.ofPair, Beginnings.filled, Beginnings.tried}
 
 -- the shapes of a row
 pub data Case : Type 0 where

@@ -8,22 +8,14 @@
 --     stuck-end, stuck-on, stuck-at, stuck-full, stuck-none        the search for the place to raise, from the end; nothing above where it finds none
 --     Leads k w c m        the first m sectors of c lead to the next bracelet after w (specs/Beginnings, passed on)
 --     lead-start, lead-letter, lead-set, lead-on, lead-end      the search for the sectors behind it, place by place, up to the next bracelet
-use Prim.Native.Nat.{ℕ, suc, _+_, _-_, _<_, _≤_}
-use mathlib.Core.Path.{_≡_, refl, sym, _∙_}
-use mathlib.Core.Bool.{true, false}
-use mathlib.Core.Option.{none, some}
-use mathlib.Core.List.{List, [], _∷_, _++_}
-use native.Mathlib.Omega.{arith}
-use lib.ListN.{length, getD, take, set, length-append, length-set, List·getD-append}
-use lib.Seq.{length-take-le, getD-take, getD-at, getD-set-same, getD-set-other, ext-getD}
-use Rattle.words.specs.Order.{before}
-use Rattle.words.specs.Readings.{Reading}
+use Rattle.words.proofs.Plain.{ℕ, suc, _+_, _-_, _<_, _≤_, arith, _≡_, refl, sym, _∙_, true, false, none, some, List, [], _∷_, _++_, length, getD, take, set}
+use Rattle.words.proofs.Plain.{length-append, length-set, List·getD-append, length-take-le, getD-take, getD-at, getD-set-same, getD-set-other, ext-getD}
+use Rattle.words.specs.{Order.before, Readings.Reading}
 use Rattle.words.proofs.Split.{Tri, lt, eq, gt, tri, both, both-left, both-right, clash, refuted}
 use Rattle.words.proofs.Sequence.{sec, Less, place, less-asym}
 use Rattle.words.proofs.Lex.{before-less, less-before, not-less-upTo}
 use Rattle.words.proofs.Readings.{first-is, first-nothing}
-use Rattle.rings.specs.Alike.{bracelet}
-use Rattle.rings.specs.Steps.{aboveOf, nextOf}
+use Rattle.rings.specs.{Alike.bracelet, Steps.aboveOf, Steps.nextOf}
 use Rattle.bracelet_laws.specs.Beginnings.{tried}
 pub use Rattle.bracelet_laws.specs.Beginnings.{Leads}
 use Rattle.bracelet_laws.proofs.Absorb.{length-filled, filled-low, filled-high, absorbs}
@@ -154,8 +146,7 @@ first-above k w v r h = rw (r .long) at (before-less w v (sym (r .long)) h)
 pub stuck-none : (k : ℕ) (w : List ℕ) → Stuck k w 0 → nextOf bracelet k w ≡ none
 unfolding nextOf aboveOf
 stuck-none k w s =
-    first-nothing (length w) k (aboveOf bracelet w)
-    (λ v r.
+    first-nothing (length w) k (aboveOf bracelet w) (λ v r.
     refuted (aboveOf bracelet w v)
     (λ h. omega (arith, stuck-past k w v 0 s r (both-right (before w v) (bracelet v) h) (first-above k w v r (both-left (before w v) (bracelet v) h)))))
 

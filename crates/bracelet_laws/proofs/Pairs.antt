@@ -7,23 +7,15 @@
 --     bracelet-once         each bracelet appears exactly once
 --     walk-pairs            of each ring and its mirror image exactly one appears, exactly once
 --     walk-even             each even-handed ring appears, exactly once: it stands for itself
-use Prim.Native.Nat.{ℕ, _<_}
-use mathlib.Core.Path.{_≡_, sym, ap, subst, _∙_}
-use mathlib.Core.Logic.{_↔_}
-use mathlib.Core.Bool.{Bool, true, false, _||_}
-use mathlib.Core.List.{List, _∷_}
-use native.Mathlib.Omega.{arith}
-use lib.ListN.{length}
+use Rattle.words.proofs.Plain.{ℕ, _<_, arith, _≡_, sym, ap, subst, _∙_, _↔_, Bool, true, false, _||_, List, _∷_, length}
 use Rattle.words.specs.Order.{before, upTo, same}
 use Rattle.words.specs.Readings.{Reading, total, count}
 use Rattle.words.proofs.Split.{passes, fails, test, agree, either, left, right, either-left, either-right, forced}
 use Rattle.words.proofs.Lex.{ahead, equal, behind, lex, same-refl, same-true, true-same, upTo-refl, upTo-antisym, upTo-total, not-upTo, before-less}
 use Rattle.words.proofs.Readings.{All, also, all-weaken, Increasing}
 use Rattle.words.proofs.Count.{count-cong, count-zero}
-use Rattle.rings.specs.Necklace.{necklace}
-use Rattle.rings.specs.Home.{home, shift}
+use Rattle.rings.specs.{Necklace.necklace, Home.home, Home.shift, Steps.FullWalk}
 use Rattle.rings.specs.Alike.{evenHanded, mirrored, bracelet}
-use Rattle.rings.specs.Steps.{FullWalk}
 use Rattle.ring_laws.proofs.Moves.{before-not-same, after-not-same}
 use Rattle.ring_laws.proofs.FullWalk.{zeros, length-zeros, zeros-at, zeros-reading, zeros-necklace, walk-kind, walk-increasing, walk-each}
 use Rattle.ring_home_laws.proofs.Home.{shift-lt, home-turn-of, length-home, home-reading, home-necklace, necklace-home}
@@ -63,9 +55,7 @@ zeros-first n u e h = let l = before-less u (zeros n) (e ∙ sym (length-zeros n
 -- it is a bracelet
 pub zeros-bracelet : (n : ℕ) → 0 < n → bracelet (zeros n) ≡ true
 zeros-bracelet n z =
-    bracelet-both (zeros n) (zeros-necklace n)
-    (forced (upTo (zeros n) (mirrored (zeros n)))
-    (λ e.
+    bracelet-both (zeros n) (zeros-necklace n) (forced (upTo (zeros n) (mirrored (zeros n))) (λ e.
     zeros-first n (mirrored (zeros n)) (length-mirrored (zeros n) (omega (arith, length-zeros n)) ∙ length-zeros n) (not-upTo (zeros n) (mirrored (zeros n)) e)))
 
 -- ---- the walk

@@ -6,21 +6,14 @@
 --     turn-at, mirror-at                   the sectors of a turn and of a turned reverse
 --     Brace a n                            the first n of a are not above any of their turns and mirrored turns
 --     brace-of, of-brace                   bracelet w, and Brace of its sectors
-use Prim.Native.Nat.{ℕ, _+_, _-_, _<_, _≤_}
-use mathlib.Core.Path.{_≡_, refl, sym, subst, _∙_}
-use mathlib.Core.Bool.{true}
-use mathlib.Core.List.{List, reverse}
-use native.Mathlib.Omega.{arith}
-use lib.ListN.{length, getD, length-reverse}
-use Rattle.words.specs.Order.{upTo}
-use Rattle.words.specs.Turn.{turn}
+use Rattle.words.proofs.Plain.{ℕ, _+_, _-_, _<_, _≤_, arith, _≡_, refl, sym, subst, _∙_, true, List, reverse, length, getD, length-reverse}
+use Rattle.words.specs.{Order.upTo, Turn.turn}
 use Rattle.words.proofs.Split.{lt, eq, gt, tri, agree, both, both-left, both-right}
 use Rattle.words.proofs.Search.{all-at, all-of}
 use Rattle.words.proofs.Sequence.{sec, Less, recast}
 use Rattle.words.proofs.Lex.{upTo-trans, upTo-not-less, not-less-upTo}
 use Rattle.words.proofs.Turn.{length-turn, turn-low, turn-high, getD-reverse}
-use Rattle.rings.specs.Necklace.{necklace, notAboveTurn}
-use Rattle.rings.specs.Home.{home, shift}
+use Rattle.rings.specs.{Necklace.necklace, Necklace.notAboveTurn, Home.home, Home.shift}
 use Rattle.rings.specs.Alike.{mirrored, bracelet, notAboveEither, leastOfPair}
 use Rattle.ring_home_laws.proofs.Home.{shift-lt, home-turn-of, home-least}
 use Rattle.bracelet_laws.proofs.Places.{rot, mir, rot-lt, rot-low, rot-high}
@@ -111,8 +104,7 @@ module _ (w : List ℕ) (z : 0 < length w) where
 
   pub of-brace : Brace (sec w) (length w) → bracelet w ≡ true
   of-brace brace =
-      turns-bracelet w z
-      (λ i b. not-less-upTo w (turn i w) (sym (length-turn i w (omega arith)))
+      turns-bracelet w z (λ i b. not-less-upTo w (turn i w) (sym (length-turn i w (omega arith)))
       (λ l. brace .turns i b (recast (sec (turn i w)) (sec w) (λ m. sec w (rot (length w) i m)) (sec w) (length w) (λ m c. turn-at i w m b c) (λ m c. refl) l)))
       (λ i b. not-less-upTo w (turn i (reverse w)) (length-mirror i b)
       (λ l. brace .mirrors i b (recast (sec (turn i (reverse w))) (sec w) (λ m. sec w (mir (length w) i m)) (sec w) (length w) (λ m c. mirror-at i w m b c) (λ m c. refl) l)))

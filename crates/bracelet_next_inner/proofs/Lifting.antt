@@ -5,17 +5,10 @@
 --     lifting-below, lifting-settles, lifting-found                the place is found: its least shade
 --     led-settles, led-on                                          the least shade at a place behind it
 --     Leading k c m s i, leading-start, leading-settles, leading-on, leading-end    place by place, up to the end
-use Prim.Native.Nat.{ℕ, suc, _+_, _-_, _<_, _≤_}
-use mathlib.Core.Path.{_≡_, refl, ap, _∙_}
-use mathlib.Core.Bool.{true, false}
-use mathlib.Core.List.{List}
-use native.Mathlib.Omega.{arith}
-use native.Mathlib.Numerals.{add-one}
-use lib.ListN.{length, getD, set, length-set}
-use lib.Seq.{set-set, getD-set-same, getD-set-other}
+use Rattle.words.proofs.Plain.{ℕ, suc, _+_, _-_, _<_, _≤_, add-one, arith, _≡_, refl, ap, _∙_, true, false, List, length, getD, set, length-set, set-set}
+use Rattle.words.proofs.{Plain.getD-set-same, Plain.getD-set-other, Sequence.sec, Sequence.place}
 use Rattle.words.specs.Readings.{Reading}
 use Rattle.words.proofs.Split.{lt, eq, gt, tri}
-use Rattle.words.proofs.Sequence.{sec, place}
 use Rattle.rings.specs.Alike.{bracelet}
 use Rattle.bracelet_laws.specs.Beginnings.{tried}
 use Rattle.bracelet_laws.proofs.Next.{tried-is, tried-rises, Stuck, stuck-end, stuck-full, stuck-at, stuck-none, Leads, lead-start, lead-letter, lead-set, lead-on, lead-end}

@@ -5,13 +5,8 @@
 --     halves-within    a span within another takes at most as many
 --     tries-less       with a number of tries before it, the tries left and the halves together go down
 --     halves-shades    the span of 16 shades takes at most 4
-use Prim.Native.Nat.{ℕ, zero, suc, _+_, _-_, _^_, _<_, _≤_}
-use mathlib.Core.Path.{_≡_, refl}
-use mathlib.Core.Bool.{Bool}
-use native.Mathlib.Omega.{arith}
+use Rattle.words.proofs.Plain.{ℕ, zero, suc, _+_, _-_, _^_, _<_, _≤_, arith, _≡_, refl, Bool, ltb, ltb-true, lt-ltb}
 use native.Mathlib.Nat.{pow-zero, pow-succ'}
-use lib.Dec.{ltb}
-use borrow.Author.Tests.{ltb-true, lt-ltb}
 use Rattle.words.specs.Search.{least}
 use Rattle.words.proofs.Split.{lt, eq, gt, tri, clash}
 use Rattle.words.proofs.Search.{least-at, least-none}

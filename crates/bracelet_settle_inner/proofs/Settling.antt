@@ -1,13 +1,7 @@
 -- The search for the least shade at a place that makes a bracelet, by halves.
 --     Settling s m a t v l h     v is s but for place m; the shade h makes a bracelet, and no shade from a up to l does
 --     settling-start, settling-down, settling-up, settling-end
-use Prim.Native.Nat.{ℕ, _+_, _<_, _≤_}
-use mathlib.Core.Path.{_≡_, refl, _∙_}
-use mathlib.Core.Bool.{true, false}
-use mathlib.Core.List.{List}
-use native.Mathlib.Omega.{arith}
-use lib.ListN.{length, set, length-set}
-use lib.Seq.{set-set}
+use Rattle.words.proofs.Plain.{ℕ, _+_, _<_, _≤_, arith, _≡_, refl, _∙_, true, false, List, length, set, length-set, set-set}
 use Rattle.words.proofs.Split.{refuted, clash}
 use Rattle.rings.specs.Alike.{bracelet}
 use Rattle.bracelet_settle_inner.specs.Shades.{Settles, ShadeSettled}

@@ -5,27 +5,15 @@
 --     facing-start, facing-more, facing-skip       the scan; r is the place around that the code computes for j
 --     facing-above, facing-whole, facing-end       what it finds
 --     scan-broken, scan-uneven, scan-whole         what the scan from left to right shows: no bracelet, no bracelet, a necklace
-use Prim.Native.Nat.{ℕ, suc, _+_, _-_, _%_, _<_, _≤_}
-use mathlib.Core.Path.{_≡_, sym, ap, refl, _∙_}
-use mathlib.Core.Bool.{true, false}
-use mathlib.Core.List.{List, reverse}
-use native.Mathlib.Omega.{arith}
-use lib.ListN.{length, length-reverse}
-use lib.Seq.{ext-getD}
-use Rattle.words.specs.Order.{upTo, same}
-use Rattle.words.specs.Turn.{turn}
+use Rattle.words.proofs.Plain.{ℕ, suc, _+_, _-_, _%_, _<_, _≤_, arith, _≡_, sym, ap, refl, _∙_, true, false, List, reverse, length, length-reverse, ext-getD}
+use Rattle.words.specs.{Order.upTo, Order.same, Turn.turn}
 use Rattle.words.proofs.Split.{Tri, lt, eq, gt, tri, refuted}
-use Rattle.words.proofs.Search.{all-at, some-of}
+use Rattle.words.proofs.{Search.all-at, Search.some-of, Lex.true-same, Lex.not-less-upTo, Turn.length-turn}
 use Rattle.words.proofs.Sequence.{sec, from, Less, place, widen, recast}
-use Rattle.words.proofs.Lex.{true-same, not-less-upTo}
-use Rattle.words.proofs.Turn.{length-turn}
-use Rattle.rings.specs.Necklace.{necklace, notAboveTurn}
-use Rattle.rings.specs.Alike.{evenHanded, bracelet}
+use Rattle.rings.specs.{Necklace.necklace, Necklace.notAboveTurn, Alike.evenHanded, Alike.bracelet}
 use Rattle.ring_laws.proofs.Run.{Run, Pre, smaller}
-use Rattle.ring_laws.proofs.Words.{pre-of, necklace-prenecklace}
-use Rattle.ring_laws.proofs.Lyndon.{run-necklace, necklace-run}
-use Rattle.classify_inner.specs.declared.Begun.{Begun}
-use Rattle.classify_inner.specs.Beginning.{LongestPrenecklace}
+use Rattle.ring_laws.proofs.{Words.pre-of, Words.necklace-prenecklace, Lyndon.run-necklace, Lyndon.necklace-run}
+use Rattle.classify_inner.specs.{declared.Begun.Begun, Beginning.LongestPrenecklace}
 use Rattle.home_turns_inner.specs.Around.{Around}
 use Rattle.bracelet_laws.proofs.Places.{rot, mir, rot-low, rot-high}
 use Rattle.bracelet_laws.proofs.Words.{brace-of, turns-bracelet, mirror-at, bracelet-necklace}
@@ -43,8 +31,7 @@ skipped a b n j d pre h o match up l = go (tri (d + l .at) j)
     go (lt e) = pre d (record { at = l .at; bound = omega arith; agree = λ m g. on m g (omega arith); less = omega (arith, l .less, match (d + l .at) e) })
     go (eq e) = pre d (record { at = l .at; bound = omega arith; agree = λ m g. on m g (omega arith); less = omega (arith, l .less, place a (d + l .at) j e, place b (d + l .at) j e) })
     go (gt e) =
-        pre d
-        (record {
+        pre d (record {
           at = j - d;
           bound = omega arith;
           agree = λ m g. on m (omega arith) (omega arith);
@@ -71,8 +58,7 @@ module _ (w : List ℕ) (r : Begun) (opened : LongestPrenecklace w r) where
   -- it broke off: no prenecklace
   pub scan-broken : r .end < length w → bracelet w ≡ false
   scan-broken h =
-      refuted (bracelet w)
-      (λ p.
+      refuted (bracelet w) (λ p.
       pre-of w (necklace-prenecklace w (bracelet-necklace w p)) (r .lyn)
       (widen (from (r .lyn) (sec w)) (sec w) (suc (r .end) - r .lyn) (length w - r .lyn) (omega arith) (smaller (sec w) (r .end) (r .lyn) (opened .run) (opened .breaks h))))
 
@@ -137,8 +123,7 @@ module _ (w : List ℕ) (z : 0 < length w) (h : necklace w ≡ true) where
     pub facing-whole : i < length w → length w ≤ j → bracelet w ≡ true
     unfolding evenHanded
     facing-whole l o =
-        even-bracelet w z h
-        (some-of (length w) (λ t. same (turn t (reverse w)) w) i l
+        even-bracelet w z h (some-of (length w) (λ t. same (turn t (reverse w)) w) i l
         (true-same (turn i (reverse w)) w (ext-getD 0 (turn i (reverse w)) w long (λ m g. mirror-at i w m l (omega (arith, long)) ∙ f .match m (omega (arith, long))))))
       where
         long : length (turn i (reverse w)) ≡ length w

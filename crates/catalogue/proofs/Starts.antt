@@ -1,15 +1,8 @@
 -- A start in the catalogue: what reading the record answers is what reading at the start does.
 --     record-read
-use Prim.Native.Nat.{ℕ, _-_, _<_}
-use mathlib.Core.Path.{_≡_}
-use mathlib.Core.Logic.{inr}
-use mathlib.Core.List.{List}
-use native.Mathlib.Omega.{arith}
-use lib.ListN.{length, take, drop, length-drop}
-use lib.Seq.{take-all}
-use Rattle.record_spec.specs.declared.Entry.{Entry}
+use Rattle.words.proofs.Plain.{ℕ, _-_, _<_, arith, _≡_, inr, List, length, take, drop, length-drop, take-all}
+use Rattle.record_spec.specs.{declared.Entry.Entry, Says.ReadSays}
 use Rattle.record_spec.specs.declared.Entry.the-variants.{Record, End, Refused}
-use Rattle.record_spec.specs.Says.{ReadSays}
 use Rattle.record_body_inner.specs.Steps.{RecordSays}
 
 -- reading the record is reading at s; the part is handed on by its length

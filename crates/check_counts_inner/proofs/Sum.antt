@@ -1,12 +1,6 @@
 -- Counting an exact sum down: after i of the numbers, `left` is n less those passed, said without a subtraction as
 -- `sumOf cs + left ≡ n + sumOf (drop i cs)`. In order: one number more, the end, and a number too large.
-use Prim.Native.Nat.{ℕ, _+_, _<_, _≤_, _-_}
-use mathlib.Core.Path.{_≡_}
-use mathlib.Core.List.{List}
-use native.Mathlib.Omega.{arith}
-use native.Mathlib.Numerals.{add-one}
-use lib.ListN.{length, getD, drop, drop-of-length-le}
-use lib.Seq.{drop-cons}
+use Rattle.words.proofs.Plain.{ℕ, _+_, _<_, _≤_, _-_, add-one, arith, _≡_, List, length, getD, drop, drop-of-length-le, drop-cons}
 use Rattle.words.specs.Sum.{sumOf}
 
 -- the sum from place i on is the number at i and the sum after it

@@ -4,12 +4,7 @@
 --     Part a b m u              u is the part from place b on, with the limit m
 --     part-bad, part-good       the scan stopped within the part, or came to its end
 --     nothing                   before the first sector there is none
-use Prim.Native.Nat.{ℕ, _+_, _-_, _<_, _≤_}
-use mathlib.Core.Path.{_≡_}
-use mathlib.Core.List.{List}
-use native.Mathlib.Omega.{arith}
-use lib.ListN.{length, getD}
-use native.Mathlib.Decide.{decLt}
+use Rattle.words.proofs.Plain.{ℕ, _+_, _-_, _<_, _≤_, arith, decLt, _≡_, List, length, getD}
 use Rattle.refusal.specs.Calls.{Asked, FirstBad}
 use Rattle.check_numbers_inner.specs.Scan.{Scanned}
 

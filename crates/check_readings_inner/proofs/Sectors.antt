@@ -2,12 +2,7 @@
 --     reading-bad, reading-good        one reading
 --     former-bad, former-good          the first of two readings
 --     latter-bad, latter-good          the second of two readings
-use Prim.Native.Nat.{ℕ, _+_, _<_, _≤_}
-use mathlib.Core.Path.{_≡_, refl, sym, _∙_}
-use mathlib.Core.List.{List, _++_}
-use native.Mathlib.Omega.{arith}
-use lib.ListN.{length, getD, length-append, List·getD-append}
-use lib.Seq.{getD-append-add}
+use Rattle.words.proofs.Plain.{ℕ, _+_, _<_, _≤_, arith, _≡_, refl, sym, _∙_, List, _++_, length, getD, length-append, List·getD-append, getD-append-add}
 use Rattle.words.proofs.Sequence.{sec, place}
 use Rattle.refusal.specs.Calls.{Below, askReading, askTwo}
 use Rattle.check_numbers_inner.specs.Scan.{Scanned}

@@ -1,16 +1,9 @@
 -- The scan of a reading, over plain lists: what each turn of its loop rests on, and the class by what it found.
-use Prim.Native.Nat.{ℕ, suc, _+_, _-_, _%_, _<_, _≤_}
-use mathlib.Core.Path.{_≡_, refl, sym, _∙_}
-use mathlib.Core.List.{List, [], _∷_}
-use native.Mathlib.Omega.{arith}
-use native.Mathlib.Numerals.{add-one}
-use lib.ListN.{length, getD}
+use Rattle.words.proofs.Plain.{ℕ, suc, _+_, _-_, _%_, _<_, _≤_, add-one, arith, _≡_, refl, sym, _∙_, List, [], _∷_, length, getD}
 use Rattle.words.proofs.Sequence.{sec, place}
 use Rattle.rings.specs.declared.Class.the-variants.{Loose, Opening, Repeating, Single}
-use Rattle.rings.specs.Class.{classOf}
-use Rattle.rings.specs.Open.{open-all}
-use Rattle.classify_inner.specs.declared.Begun.{Begun}
-use Rattle.classify_inner.specs.Beginning.{LongestPrenecklace}
+use Rattle.rings.specs.{Class.classOf, Open.open-all}
+use Rattle.classify_inner.specs.{declared.Begun.Begun, Beginning.LongestPrenecklace}
 use Rattle.ring_laws.proofs.Run.{Run, lyn-self, lyn-one, same, greater}
 use Rattle.ring_laws.proofs.Classes.{class-loose, class-opening, class-repeating, class-single}
 

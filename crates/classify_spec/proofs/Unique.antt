@@ -1,7 +1,5 @@
 -- Classifying has one answer.
-use Prim.Native.Nat.{ℕ}
-use mathlib.Core.Path.{_≡_, sym, ap, _∙_}
-use mathlib.Core.List.{List}
+use Rattle.words.proofs.Plain.{ℕ, _≡_, sym, ap, _∙_, List}
 use Rattle.refusal.specs.Calls.{oneReading}
 use Rattle.refusal.proofs.Unique.{one-refusal, never-both}
 use Rattle.classify_spec.specs.declared.Classified.{Classified}

@@ -2,16 +2,10 @@
 --     cut-number, other-number    a refusal of number 7 is Cut, and one of another number stays
 --     block-good, block-left      what a block's own answer makes of the block
 --     part-turned                 the new records stand where the old ones stood
-use Prim.Native.Nat.{ℕ, _≤_}
-use mathlib.Core.Path.{_≡_, refl, sym, ap, _∙_}
-use mathlib.Core.Bool.{Bool, true, false, true≢false}
-use mathlib.Core.List.{List, [], _++_}
-use native.Mathlib.Omega.{arith}
-use lib.ListN.{length, take, drop, length-take, drop-of-length-le}
-use lib.Seq.{take-all, take-at, drop-at}
-use Rattle.refusal.specs.declared.Refusal.{Refusal}
+use Rattle.words.proofs.Plain.{ℕ, _≤_, arith, _≡_, refl, sym, ap, _∙_, Bool, true, false, true≢false, List, [], _++_, length, take, drop, length-take}
+use Rattle.words.proofs.Plain.{drop-of-length-le, take-all, take-at, drop-at}
+use Rattle.refusal.specs.{declared.Refusal.Refusal, Numbers.numberOf, Numbers.placeOf}
 use Rattle.refusal.specs.declared.Refusal.the-variants as R
-use Rattle.refusal.specs.Numbers.{numberOf, placeOf}
 use Rattle.converter_spec.specs.Converts.{Sound, Turned, Damaged}
 use Rattle.converter_spec.proofs.Through.{turned-length}
 use Rattle.converter_blocks_spec.specs.declared.Stretch.{Stretch}

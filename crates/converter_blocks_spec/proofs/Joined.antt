@@ -3,25 +3,15 @@
 --     sound-joined, damage-joined      behind good records, what b is tells of the whole
 --     turned-joined                    the new catalogues stand behind one another too
 --     damage-lasts                     a refusal other than Cut stays, whatever follows
-use Prim.Native.Nat.{ℕ, _+_, _<_, _≤_}
-use mathlib.Core.Path.{_≡_, refl, sym, ap, _∙_, subst}
-use mathlib.Core.List.{List, [], _++_, append-assoc}
-use native.Mathlib.Omega.{arith}
-use mathlib.Core.Logic.{inl, inr}
-use lib.ListN.{length, getD, take, drop, length-append, length-drop, List·getD-append}
-use lib.Seq.{take-append-le, drop-append-le}
-use Rattle.refusal.specs.declared.Refusal.{Refusal}
-use Rattle.refusal.specs.declared.Refusal.the-variants.{Cut}
-use Rattle.record_spec.specs.declared.Kind.the-variants.{Front}
+use Rattle.words.proofs.Plain.{ℕ, _+_, _<_, _≤_, arith, _≡_, refl, sym, ap, _∙_, subst, inl, inr, List, [], _++_, append-assoc, length, getD, take, drop}
+use Rattle.words.proofs.Plain.{length-append, length-drop, List·getD-append, take-append-le, drop-append-le}
+use Rattle.refusal.specs.{declared.Refusal.Refusal, declared.Refusal.the-variants.Cut, Order.Given}
+use Rattle.record_spec.specs.{declared.Kind.the-variants.Front, Order.After9, Order.behindOrder}
 use Rattle.record_spec.specs.Layout.{nOf, kOf, sectorsOf, bodyOf}
-use Rattle.refusal.specs.Order.{Given}
-use Rattle.record_spec.specs.Order.{After9, behindOrder}
 use Rattle.converter_spec.specs.Sides.{Side, SideMarked, frontRing}
-use Rattle.converter_spec.specs.Reads.{oldOrder}
+use Rattle.converter_spec.specs.{Reads.oldOrder, Converts.Sound.ended, Converts.Sound.more}
 use Rattle.converter_spec.specs.Converts.{Sound, Turned, Damaged, FrontOf}
-use Rattle.converter_spec.specs.Converts.Sound.{ended, more}
-use Rattle.converter_spec.specs.Converts.Turned.{done, replaced}
-use Rattle.converter_spec.specs.Converts.Damaged.{here, later}
+use Rattle.converter_spec.specs.{Converts.Turned.done, Converts.Turned.replaced, Converts.Damaged.here, Converts.Damaged.later}
 use Rattle.converter_spec.proofs.Fronts.{front-long, front-bytes, bytes-front}
 use Rattle.converter_blocks_spec.specs.Blocks.{Lasting}
 

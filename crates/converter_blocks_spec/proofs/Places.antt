@@ -5,29 +5,18 @@
 --     Torn a s q                   the records of a, which begins at s, are good up to q, and there stands the beginning of one more
 --     damage-torn                  Cut at q is that
 --     begun-short                  the beginning of a record has less than 68 bytes
-use Prim.Native.Nat.{ℕ, _+_, _-_, _<_, _≤_}
-use mathlib.Core.Path.{_≡_, refl, sym, ap, _∙_}
-use mathlib.Core.Logic.{inl, inr}
-use mathlib.Core.List.{List, [], _++_}
-use native.Mathlib.Omega.{arith}
-use lib.ListN.{length, getD, take, drop, length-drop, length-take}
-use lib.Seq.{getD-take, take-take, drop-drop}
+use Rattle.words.proofs.Plain.{ℕ, _+_, _-_, _<_, _≤_, arith, _≡_, refl, sym, ap, _∙_, inl, inr, List, [], _++_, length, getD, take, drop, length-drop}
+use Rattle.words.proofs.Plain.{length-take, getD-take, take-take, drop-drop}
 use Rattle.words.proofs.Split.{lt, eq, gt, tri}
-use Rattle.refusal.specs.declared.Refusal.{Refusal}
+use Rattle.refusal.specs.{declared.Refusal.Refusal, Numbers.numberOf, Numbers.placeOf, Order.Given}
 use Rattle.refusal.specs.declared.Refusal.the-variants as R
-use Rattle.refusal.specs.Numbers.{numberOf, placeOf}
 use Rattle.record_spec.specs.declared.Kind.the-variants.{Front}
 use Rattle.record_spec.specs.Layout.{nOf, kOf, bodyOf, sectorsOf}
-use Rattle.refusal.specs.Order.{Given}
 use Rattle.record_spec.specs.Order.{After7, After9, bodyOrder, behindOrder}
 use Rattle.ring_laws.proofs.Classes.{look-within}
-use Rattle.record_spec.proofs.Only.{drop-take}
-use Rattle.record_spec.proofs.Laws.{length-sectors}
-use Rattle.converter_spec.specs.Sides.{Side, SideMarked}
-use Rattle.converter_spec.specs.Reads.{oldOrder}
-use Rattle.converter_spec.specs.Converts.{Sound, Damaged}
-use Rattle.converter_spec.specs.Converts.Sound.{ended, more}
-use Rattle.converter_spec.specs.Converts.Damaged.{here, later}
+use Rattle.record_spec.proofs.{Only.drop-take, Laws.length-sectors}
+use Rattle.converter_spec.specs.{Sides.Side, Sides.SideMarked, Reads.oldOrder, Converts.Sound, Converts.Damaged}
+use Rattle.converter_spec.specs.{Converts.Sound.ended, Converts.Sound.more, Converts.Damaged.here, Converts.Damaged.later}
 use Rattle.converter_blocks_spec.specs.Passes.{moved}
 
 -- ---- places

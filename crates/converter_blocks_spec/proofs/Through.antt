@@ -4,16 +4,9 @@
 --     check-converts       its verdict is the answer of converting the whole
 --     write-whole          the second pass writes the new catalogue of the whole
 --     write-converts       converting the whole answers Converted, and leaves those bytes
-use Prim.Native.Nat.{ℕ, _+_, _<_, _≤_}
-use mathlib.Core.Path.{_≡_, refl, sym, ap, _∙_}
-use mathlib.Core.Bool.{Bool, true, false}
-use mathlib.Core.List.{List, [], _++_}
-use native.Mathlib.Omega.{arith}
-use native.Mathlib.Decide.{decLt}
-use lib.ListN.{length, take, drop, length-drop, length-take, take-append-drop}
-use lib.Seq.{take-take, take-all, drop-drop}
-use Rattle.refusal.specs.declared.Refusal.{Refusal}
-use Rattle.refusal.specs.declared.Checked.{Checked}
+use Rattle.words.proofs.Plain.{ℕ, _+_, _<_, _≤_, arith, decLt, _≡_, refl, sym, ap, _∙_, Bool, true, false, List, [], _++_, length, take, drop, length-drop}
+use Rattle.words.proofs.Plain.{length-take, take-append-drop, take-take, take-all, drop-drop}
+use Rattle.refusal.specs.{declared.Refusal.Refusal, declared.Checked.Checked}
 use Rattle.refusal.specs.declared.Checked.the-variants as C
 use Rattle.converter_spec.specs.declared.Conversion.{Conversion}
 use Rattle.converter_spec.specs.declared.Conversion.the-variants.{Converted, Refused}
@@ -26,8 +19,7 @@ use Rattle.converter_blocks_spec.specs.Passes.{moved, blockOf, Reaches, 
 use Rattle.converter_blocks_spec.specs.Passes.ChecksBlocks.{further, good, bad}
 use Rattle.converter_blocks_spec.specs.Passes.Writes.{part, rest}
 use Rattle.converter_blocks_spec.proofs.Joined.{sound-joined, damage-joined, damage-lasts, turned-joined}
-use Rattle.converter_blocks_spec.proofs.Places.{damage-moved, begun-short}
-use Rattle.converter_blocks_spec.proofs.Unique.{all}
+use Rattle.converter_blocks_spec.proofs.{Places.damage-moved, Places.begun-short, Unique.all}
 
 -- a block of 68 bytes or more that is not refused has a whole record
 pub goes-on : (b : List ℕ) (e : ℕ) → StretchSays b false (S.Records e) → 68 ≤ length b → 0 < e

@@ -2,28 +2,18 @@
 --     torn-damage      records that are good up to a place, and the beginning of one more there, are Cut there
 --     one-stretch      no two answers of checking a block satisfy the promise
 --     one-turn         nor two of converting it, the output included
-use Prim.Native.Nat.{ℕ, _+_, _<_, _≤_}
-use mathlib.Core.Path.{_≡_, refl, sym, ap, _∙_}
-use mathlib.Core.Bool.{Bool, true, false, true≢false}
-use mathlib.Core.List.{List, [], _++_, append-nil}
-use native.Mathlib.Omega.{arith}
-use native.Mathlib.Decide.{decLt}
-use lib.ListN.{length, take, drop, length-drop, length-take, take-append-drop, drop-of-length-le}
-use Rattle.refusal.specs.declared.Refusal.{Refusal}
-use Rattle.refusal.specs.declared.Refusal.the-variants.{Cut}
-use Rattle.refusal.specs.Numbers.{placeOf}
-use Rattle.refusal.specs.Order.{Given}
-use Rattle.converter_spec.specs.Reads.{oldOrder}
+use Rattle.words.proofs.Plain.{ℕ, _+_, _<_, _≤_, arith, decLt, _≡_, refl, sym, ap, _∙_, Bool, true, false, true≢false, List, [], _++_, append-nil, length, take}
+use Rattle.words.proofs.Plain.{drop, length-drop, length-take, take-append-drop, drop-of-length-le}
+use Rattle.refusal.specs.{declared.Refusal.Refusal, declared.Refusal.the-variants.Cut, Numbers.placeOf, Order.Given}
+use Rattle.converter_spec.specs.{Reads.oldOrder, Converts.Sound.ended, Converts.Sound.more}
 use Rattle.converter_spec.specs.Converts.{Sound, Turned, Damaged}
-use Rattle.converter_spec.specs.Converts.Sound.{ended, more}
 use Rattle.converter_spec.specs.Converts.Damaged.{here, later}
 use Rattle.converter_spec.proofs.Unique.{one-turned, one-damage, sound-damaged}
 use Rattle.converter_blocks_spec.specs.declared.Stretch.{Stretch}
 use Rattle.converter_blocks_spec.specs.declared.Stretch.the-variants.{Records, Refused}
 use Rattle.converter_blocks_spec.specs.Blocks.{Lasting, Unfinished, nothing, begun, LeftOver, Stays, StretchSays, Unturned, TurnSays}
 use Rattle.converter_blocks_spec.specs.Blocks.Unturned.{room, damaged}
-use Rattle.converter_blocks_spec.proofs.Joined.{damage-joined}
-use Rattle.converter_blocks_spec.proofs.Places.{broken-moved}
+use Rattle.converter_blocks_spec.proofs.{Joined.damage-joined, Places.broken-moved}
 
 -- good records, and the beginning of one more
 pub torn-damage : (b : List ℕ) (m : ℕ) → m ≤ length b → Sound (take m b) → 0 < length (drop m b) → Given (oldOrder (drop m b) 0) (Cut 0) → Damaged b 0 (Cut m)

@@ -1,13 +1,8 @@
 -- The mark of a record of an old catalogue.
 --     unknown         a first byte that is not 52, and a second byte of neither mark, are of no side
 --     rest-checked    under the mark of a side, what stands behind it decides
-use Prim.Native.Nat.{ℕ, _≤_}
-use mathlib.Core.Path.{_≡_}
-use mathlib.Core.Logic.{inr}
-use mathlib.Core.List.{List}
-use lib.ListN.{length, getD}
-use Rattle.refusal.specs.declared.Checked.{Checked}
-use Rattle.refusal.specs.declared.Checked.the-variants.{Good, Refused}
+use Rattle.words.proofs.Plain.{ℕ, _≤_, _≡_, inr, List, length, getD}
+use Rattle.refusal.specs.{declared.Checked.Checked, declared.Checked.the-variants.Good, declared.Checked.the-variants.Refused}
 use Rattle.record_body_inner.specs.Steps.{RestSays}
 use Rattle.converter_spec.specs.Sides.{Side, sideByte, SideMarked}
 use Rattle.converter_spec.specs.Sides.Side.{front, back}

@@ -4,24 +4,16 @@
 --     write-within, write-gone                    the second time
 --     turn-check, turn-write                      by which time it is
 --     at-read                                     by what was read
-use Prim.Native.Nat.{ℕ, _+_, _<_, _≤_}
-use mathlib.Core.Path.{_≡_, refl, sym, ap, _∙_}
-use mathlib.Core.Bool.{Bool, true, false}
-use mathlib.Core.List.{List, [], _++_}
-use native.Mathlib.Omega.{arith}
-use lib.ListN.{length, take, drop, length-drop}
-use lib.Seq.{take-append-le, take-all}
-use Rattle.refusal.specs.declared.Refusal.{Refusal}
-use Rattle.refusal.specs.Numbers.{numberOf, placeOf}
+use Rattle.words.proofs.Plain.{ℕ, _+_, _<_, _≤_, arith, _≡_, refl, sym, ap, _∙_, Bool, true, false, List, [], _++_, length, take, drop, length-drop}
+use Rattle.words.proofs.Plain.{take-append-le, take-all}
+use Rattle.refusal.specs.{declared.Refusal.Refusal, Numbers.numberOf, Numbers.placeOf}
 use Rattle.converter_blocks_spec.specs.declared.Stretch.the-variants as S
 use Rattle.converter_blocks_spec.specs.Blocks as O
-use Rattle.converter_blocks_spec.proofs.Unique.{all}
-use Rattle.converter_blocks_spec.proofs.Places.{damage-placed}
+use Rattle.converter_blocks_spec.proofs.{Unique.all, Places.damage-placed}
 use Rattle.program_ending_inner.specs.declared.Ending.the-variants as E
 use Rattle.program_passes_inner.specs.Passes.{ReadTo, Course, goneBy}
 use Rattle.program_passes_inner.specs.Passes.Course.{On, Done, Stopped}
-use Rattle.converter_pass_inner.specs.Says.{BlockBecomes, AtSays}
-use Rattle.converter_pass_inner.specs.Says.AtSays.{read}
+use Rattle.converter_pass_inner.specs.{Says.BlockBecomes, Says.AtSays, Says.AtSays.read}
 
 pub place-room : (b : List ℕ) (last : Bool) (r : Refusal) → O.StretchSays b last (S.Refused r) → placeOf r < length b
 place-room b last r h = omega (arith, damage-placed b 0 r (h .0) .0)

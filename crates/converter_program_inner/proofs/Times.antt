@@ -3,20 +3,12 @@
 --     reached-none                     before the first block
 --     at-on, at-ends, at-within        behind a block: another is read, or none
 --     written-through, through-whole   how both times ended
-use Prim.Native.Nat.{ℕ, _+_, _<_, _≤_}
-use mathlib.Core.Path.{_≡_, refl, sym, ap, _∙_}
-use mathlib.Core.Logic.{_⊎_, inl, inr}
-use mathlib.Core.Bool.{Bool, true, false, true≢false}
-use mathlib.Core.List.{List, [], _++_}
-use native.Mathlib.Omega.{arith}
-use lib.Dec.{eqb}
-use lib.ListN.{length, take, length-append, length-take}
-use borrow.Author.Tests.{eqb-true}
+use Rattle.words.proofs.Plain.{ℕ, _+_, _<_, _≤_, arith, _≡_, refl, sym, ap, _∙_, _⊎_, inl, inr, Bool, true, false, true≢false, List, [], _++_, eqb, length}
+use Rattle.words.proofs.Plain.{take, length-append, length-take, eqb-true}
 use Rattle.words.proofs.Split.{passes, fails, test}
 use Rattle.refusal.specs.declared.Refusal.{Refusal}
-use Rattle.converter_spec.specs.Converts.{Damaged}
+use Rattle.converter_spec.specs.{Converts.Damaged, Converts.Turned.done}
 use Rattle.converter_spec.specs.Converts.Sound.{ended as none}
-use Rattle.converter_spec.specs.Converts.Turned.{done}
 use Rattle.converter_blocks_spec.specs.Passes.{moved}
 use Rattle.converter_blocks_spec.proofs.Joined.{sound-joined, damage-joined, turned-joined}
 use Rattle.converter_blocks_spec.proofs.Places.{number-moved, damage-moved, damage-placed}

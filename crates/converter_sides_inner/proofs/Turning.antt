@@ -1,12 +1,8 @@
 -- A reading turned where it stands, in the words of what `bytes::reverse` leaves.
 --     front-reversed, rest-reversed    a beginning reversed, and the rest of a list
 --     turned-there                     the first i reversed, the others reversed, and then the whole: turned by i
-use Prim.Native.Nat.{ℕ, _≤_}
-use mathlib.Core.Path.{_≡_, refl, _∙_}
-use mathlib.Core.List.{List, [], _++_, append-nil, reverse, reverse-append, reverse-reverse}
-use native.Mathlib.Omega.{arith}
-use lib.ListN.{length, take, drop, length-append, length-drop, length-reverse}
-use lib.Seq.{length-take-le, take-length, drop-length, take-at, drop-at}
+use Rattle.words.proofs.Plain.{ℕ, _≤_, arith, _≡_, refl, _∙_, List, [], _++_, append-nil, reverse, reverse-append, reverse-reverse, length, take, drop}
+use Rattle.words.proofs.Plain.{length-append, length-drop, length-reverse, length-take-le, take-length, drop-length, take-at, drop-at}
 use Rattle.bytes.specs.Bytes.{rev, slice}
 use Rattle.words.specs.Turn.{turn}
 

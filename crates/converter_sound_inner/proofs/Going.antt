@@ -3,17 +3,11 @@
 --     going-room                      where a record that is good ends
 --     going-first, going-on           the invariant holds at 0, and behind a record that is good
 --     going-found, going-ended        a record that is refused is the damage; where the catalogue ends there is none
-use Prim.Native.Nat.{ℕ, _+_, _-_, _<_, _≤_}
-use mathlib.Core.Path.{_≡_, ap, _∙_}
-use mathlib.Core.List.{List}
-use native.Mathlib.Omega.{arith}
-use lib.ListN.{length, getD, take, drop, length-drop, drop-of-length-le}
-use lib.Seq.{getD-drop, drop-drop, take-all}
-use Rattle.refusal.specs.declared.Refusal.{Refusal}
-use Rattle.refusal.specs.declared.Checked.the-variants.{Good, Refused}
+use Rattle.words.proofs.Plain.{ℕ, _+_, _-_, _<_, _≤_, arith, _≡_, ap, _∙_, List, length, getD, take, drop, length-drop, drop-of-length-le, getD-drop, drop-drop}
+use Rattle.words.proofs.Plain.{take-all}
+use Rattle.refusal.specs.{declared.Refusal.Refusal, declared.Checked.the-variants.Good, declared.Checked.the-variants.Refused}
 use Rattle.record_spec.specs.Layout.{nOf}
-use Rattle.converter_spec.specs.Converts.{Sound, Damaged}
-use Rattle.converter_spec.specs.Converts.Sound.{ended, more}
+use Rattle.converter_spec.specs.{Converts.Sound, Converts.Damaged, Converts.Sound.ended, Converts.Sound.more}
 use Rattle.converter_spec.specs.Converts.Damaged.{here, later}
 use Rattle.converter_check_inner.specs.Old.{OldSays}
 

@@ -1,9 +1,7 @@
 -- Old catalogues to check by hand, of the definitions themselves: one table, one claim.
 --     shows t x v       the record that t begins with is of side x and has the front ring v
 -- The rows are document 01's two records and one record more of each side.
-use Prim.Native.Nat.{ℕ}
-use mathlib.Core.Path.{_≡_, refl}
-use mathlib.Core.List.{List, [], _∷_}
+use Rattle.words.proofs.Plain.{ℕ, _≡_, refl, List, [], _∷_}
 use Rattle.words.specs.Table.{Hold}
 use Rattle.rings.specs.Open.{open-all}
 use Rattle.record_spec.specs.Layout.{sectorsOf}

@@ -4,25 +4,17 @@
 --     front-long, front-bytes                        a front record is there, and is its bytes and what follows
 --     front-good                                     it is good
 --     bytes-front                                    a part that begins with those bytes begins with the front record
-use Prim.Native.Nat.{ℕ, _+_, _<_, _≤_}
-use mathlib.Core.Path.{_≡_, refl, sym, ap, _∙_, subst}
-use mathlib.Core.Bool.{true}
-use mathlib.Core.List.{List, _++_}
-use native.Mathlib.Omega.{arith}
-use lib.ListN.{length, getD, drop, length-take, length-drop}
-use lib.Seq.{take-at}
+use Rattle.words.proofs.Plain.{ℕ, _+_, _<_, _≤_, arith, _≡_, refl, sym, ap, _∙_, subst, true, List, _++_, length, getD, drop, length-take, length-drop, take-at}
 use Rattle.words.specs.Readings.{Reading}
 use Rattle.rings.specs.Necklace.{necklace}
 use Rattle.ring_home_laws.proofs.Alike.{length-mirrored, mirrored-reading, mirrored-necklace}
 use Rattle.refusal.specs.Calls.{Below}
-use Rattle.record_spec.specs.declared.Kind.the-variants.{Front}
+use Rattle.record_spec.specs.{declared.Kind.the-variants.Front, Order.After9}
 use Rattle.record_spec.specs.Layout.{nOf, kOf, sectorsOf}
-use Rattle.record_spec.specs.Order.{After9}
 use Rattle.record_spec.proofs.Laid.{bytes, laid-sectors, whole}
 use Rattle.record_spec.proofs.Laws.{length-sectors}
 use Rattle.converter_spec.specs.Sides.{Side, SideMarked, frontRing}
-use Rattle.converter_spec.specs.Sides.Side.{front, back}
-use Rattle.converter_spec.specs.Converts.{FrontOf}
+use Rattle.converter_spec.specs.{Sides.Side.front, Sides.Side.back, Converts.FrontOf}
 
 -- ---- the front ring
 
@@ -91,8 +83,7 @@ module _ (t : List ℕ) (a : After9 t) where
   -- a part that begins with those bytes begins with the front record
   pub bytes-front : (x : Side) (u v : List ℕ) → u ≡ bytes Front (nOf t) (kOf t) (frontRing x (sectorsOf t)) ++ v → FrontOf x t u
   bytes-front x u v e =
-      rw e
-      (record {
+      rw e (record {
         marked = (refl, refl);
         sectors = refl;
         shades = refl;

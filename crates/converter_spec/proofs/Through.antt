@@ -8,26 +8,16 @@
 --     read-through                  whatever the reader answers there
 --     Alike c d s b, alike          so from start to end: at each start both readers give a record, behind which is the next start, or both the end
 --     damage-read                   a catalogue that is refused for its damage is refused as the old reader did, at one of its starts
-use Prim.Native.Nat.{ℕ, _+_, _<_, _≤_}
-use mathlib.Core.Path.{_≡_, refl, sym, ap, _∙_, subst}
-use mathlib.Core.Logic.{inr}
-use mathlib.Core.List.{List, [], _++_}
-use native.Mathlib.Omega.{arith}
-use lib.ListN.{length, drop, length-drop}
-use lib.Seq.{drop-drop}
+use Rattle.words.proofs.Plain.{ℕ, _+_, _<_, _≤_, arith, _≡_, refl, sym, ap, _∙_, subst, inr, List, [], _++_, length, drop, length-drop, drop-drop}
 use Rattle.refusal.specs.declared.Refusal.{Refusal}
-use Rattle.record_spec.specs.declared.Kind.the-variants.{Front}
-use Rattle.record_spec.specs.declared.Entry.{Entry}
-use Rattle.record_spec.specs.declared.Entry.the-variants.{Record, End}
+use Rattle.record_spec.specs.{declared.Kind.the-variants.Front, declared.Entry.Entry}
+use Rattle.record_spec.specs.{declared.Entry.the-variants.Record, declared.Entry.the-variants.End, Order.After9, Says.ReadSays}
 use Rattle.record_spec.specs.Layout.{Marked, nOf, kOf, sectorsOf}
-use Rattle.record_spec.specs.Order.{After9}
-use Rattle.record_spec.specs.Says.{ReadSays}
 use Rattle.record_spec.proofs.Unique.{one-read}
 use Rattle.converter_spec.specs.declared.Conversion.{Conversion}
 use Rattle.converter_spec.specs.declared.Conversion.the-variants.{Converted, Refused}
 use Rattle.converter_spec.specs.Sides.{Side, SideMarked, frontRing}
-use Rattle.converter_spec.specs.Sides.Side.{front, back}
-use Rattle.converter_spec.specs.Reads.{OldReadSays}
+use Rattle.converter_spec.specs.{Sides.Side.front, Sides.Side.back, Reads.OldReadSays}
 use Rattle.converter_spec.specs.Reads.OldEntry.{entry, end, refused}
 use Rattle.converter_spec.specs.Converts.{Turned, Damaged, ConvertSays, FrontRecords}
 use Rattle.converter_spec.specs.Converts.Turned.{done, replaced}

@@ -4,24 +4,17 @@
 --     one-turned, one-damage           there is one new catalogue, or one refusal
 --     sound-damaged                    and not both
 --     one-convert                      no two answers satisfy the contract, the output included
-use Prim.Native.Nat.{ℕ, _+_}
-use mathlib.Core.Path.{_≡_, refl, sym, ap, _∙_}
-use mathlib.Core.List.{List, [], _++_}
-use native.Mathlib.Omega.{arith}
-use lib.ListN.{length, drop}
-use Rattle.refusal.specs.declared.Refusal.{Refusal}
-use Rattle.refusal.specs.Order.{Given}
+use Rattle.words.proofs.Plain.{ℕ, _+_, arith, _≡_, refl, sym, ap, _∙_, List, [], _++_, length, drop}
+use Rattle.refusal.specs.{declared.Refusal.Refusal, Order.Given}
 use Rattle.refusal.proofs.Unique.{one-refusal, never-both}
-use Rattle.record_spec.specs.declared.Kind.the-variants.{Front}
+use Rattle.record_spec.specs.{declared.Kind.the-variants.Front, Order.After9}
 use Rattle.record_spec.specs.Layout.{nOf, kOf, sectorsOf}
-use Rattle.record_spec.specs.Order.{After9}
 use Rattle.record_spec.proofs.Laid.{bytes}
 use Rattle.converter_spec.specs.declared.Conversion.{Conversion}
 use Rattle.converter_spec.specs.declared.Conversion.the-variants.{Converted, Refused}
 use Rattle.converter_spec.specs.Sides.{Side, SideMarked, frontRing}
-use Rattle.converter_spec.specs.Reads.{oldOrder}
+use Rattle.converter_spec.specs.{Reads.oldOrder, Converts.Sound.ended, Converts.Sound.more}
 use Rattle.converter_spec.specs.Converts.{Sound, Turned, Damaged, Unconverted, ConvertSays}
-use Rattle.converter_spec.specs.Converts.Sound.{ended, more}
 use Rattle.converter_spec.specs.Converts.Turned.{done, replaced}
 use Rattle.converter_spec.specs.Converts.Damaged.{here, later}
 use Rattle.converter_spec.specs.Converts.Unconverted.{room, damaged}

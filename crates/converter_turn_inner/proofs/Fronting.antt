@@ -2,17 +2,12 @@
 --     passed-on       a record whose second byte is not the back mark's is a front record: it was copied
 --     kept            what is written is as long
 --     turned-over     under the front mark, with its ring turned over, it is the front record
-use Prim.Native.Nat.{ℕ, _+_, _-_, _<_, _≤_}
-use mathlib.Core.Path.{_≡_, ap, _∙_}
-use mathlib.Core.List.{List, [], _∷_, _++_, append-nil}
-use native.Mathlib.Omega.{arith}
-use lib.ListN.{length, getD, take, drop, set, length-append, length-drop, length-set, drop-of-length-le}
-use lib.Seq.{take-all, length-take-le}
+use Rattle.words.proofs.Plain.{ℕ, _+_, _-_, _<_, _≤_, arith, _≡_, ap, _∙_, List, [], _∷_, _++_, append-nil, length, getD, take, drop, set, length-append}
+use Rattle.words.proofs.Plain.{length-drop, length-set, drop-of-length-le, take-all, length-take-le}
 use Rattle.rings.specs.Alike.{mirrored}
 use Rattle.ring_home_laws.proofs.Alike.{length-mirrored}
 use Rattle.word_copy_laws.proofs.Copy.{copied}
-use Rattle.converter_spec.specs.Sides.{Side, SideMarked}
-use Rattle.converter_spec.specs.Sides.Side.{front, back}
+use Rattle.converter_spec.specs.{Sides.Side, Sides.SideMarked, Sides.Side.front, Sides.Side.back}
 use Rattle.converter_turn_inner.specs.Fronts.{Fronted}
 
 -- a record of no other bytes than a mark's, n, k and sectors, by its side

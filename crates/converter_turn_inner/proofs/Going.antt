@@ -3,20 +3,13 @@
 --     going-room                   where the record at p ends
 --     going-first, going-on        it holds at 0, and behind a record that was written
 --     going-ended                  where the catalogue ends, all of it is written
-use Prim.Native.Nat.{ℕ, _+_, _-_, _<_, _≤_}
-use mathlib.Core.Path.{_≡_, refl, sym, ap, _∙_}
-use mathlib.Core.List.{List, [], _++_, append-nil, append-assoc}
-use native.Mathlib.Omega.{arith}
-use lib.ListN.{length, getD, take, drop, length-append, length-drop, drop-of-length-le}
-use lib.Seq.{length-take-le, take-at, drop-at, take-all, getD-take, getD-drop, drop-drop}
-use Rattle.record_spec.specs.declared.Kind.the-variants.{Front}
+use Rattle.words.proofs.Plain.{ℕ, _+_, _-_, _<_, _≤_, arith, _≡_, refl, sym, ap, _∙_, List, [], _++_, append-nil, append-assoc, length, getD, take, drop}
+use Rattle.words.proofs.Plain.{length-append, length-drop, drop-of-length-le, length-take-le, take-at, drop-at, take-all, getD-take, getD-drop, drop-drop}
+use Rattle.record_spec.specs.{declared.Kind.the-variants.Front, Order.After9}
 use Rattle.record_spec.specs.Layout.{nOf, kOf, sectorsOf}
-use Rattle.record_spec.specs.Order.{After9}
-use Rattle.record_spec.proofs.Laid.{bytes}
-use Rattle.record_spec.proofs.Only.{drop-take}
+use Rattle.record_spec.proofs.{Laid.bytes, Only.drop-take}
 use Rattle.converter_spec.specs.Sides.{Side, SideMarked, frontRing}
-use Rattle.converter_spec.specs.Converts.{Sound, Turned}
-use Rattle.converter_spec.specs.Converts.Sound.{ended, more}
+use Rattle.converter_spec.specs.{Converts.Sound, Converts.Turned, Converts.Sound.ended, Converts.Sound.more}
 use Rattle.converter_spec.specs.Converts.Turned.{done, replaced}
 use Rattle.converter_turn_inner.specs.Fronts.{Fronted}
 use Rattle.converter_spec.proofs.Fronts.{front-n, bytes-front}

@@ -2,14 +2,9 @@
 --     none-counted     before the first cut, none is counted
 --     one-counted      a cut that is not above x counts
 --     none-more        a cut above x does not
-use Prim.Native.Nat.{ℕ, suc, _+_}
-use mathlib.Core.Path.{_≡_, refl}
-use mathlib.Core.Bool.{true, false}
-use native.Mathlib.Numerals.{add-one}
-use native.Mathlib.Omega.{arith}
+use Rattle.words.proofs.Plain.{ℕ, suc, _+_, add-one, arith, _≡_, refl, true, false}
 use lib.Ieee.{Float, le}
-use Rattle.density_spec.specs.declared.Card.{Card}
-use Rattle.density_spec.specs.Cuts.{cut, cutsUpTo}
+use Rattle.density_spec.specs.{declared.Card.Card, Cuts.cut, Cuts.cutsUpTo}
 
 pub none-counted : (c : Card) (k : ℕ) (x : Float) → cutsUpTo c k x 0 ≡ 0
 unfolding cutsUpTo

@@ -3,23 +3,13 @@
 --     brighter-ring      of two rings that `ring_shades` wrote for one card and k, the same sector by sector, whichever sectors of either are compared
 --     ring-sector        a sector's shade in a ring that was written is the one that `sector_shade` tells of its value
 -- That the contracts admit one answer each: `density_spec`, proofs/Unique.
-use Prim.Native.Nat.{ℕ, _<_, _≤_}
-use mathlib.Core.Path.{_≡_}
-use mathlib.Core.Bool.{Bool, true}
-use mathlib.Core.List.{List}
-use native.Mathlib.Omega.{arith}
-use lib.Dec.{T}
-use lib.ListN.{length, getD}
+use Rattle.words.proofs.Plain.{ℕ, _<_, _≤_, arith, _≡_, Bool, true, List, T, length, getD}
 use lib.Ieee.{Float, nan, le}
-use Rattle.density_spec.specs.declared.Card.{Card}
-use Rattle.density_spec.specs.declared.Sector.{Sector}
-use Rattle.density_spec.specs.declared.Sector.the-variants.{Shade}
+use Rattle.density_spec.specs.{declared.Card.Card, declared.Sector.Sector, declared.Sector.the-variants.Shade, Cuts.shadeOf}
 use Rattle.density_spec.specs.declared.SectorRead.the-variants as S
 use Rattle.density_spec.specs.declared.RingRead.the-variants as R
-use Rattle.density_spec.specs.Cuts.{shadeOf}
 use Rattle.density_spec.specs.Says.{SectorSays, RingSays}
-use Rattle.density_spec.proofs.Unique.{one-told}
-use Rattle.density_spec.proofs.Places.{shade-at}
+use Rattle.density_spec.proofs.{Unique.one-told, Places.shade-at}
 use Rattle.density_laws.proofs.Shades.{brighter}
 
 -- a test that passes

@@ -3,13 +3,9 @@
 --     le-lt           where x <= y, y is not below x
 --     lt-le           of two numbers, where y is not below x, x <= y
 --     le-number       where x <= y, x is a number
-use Prim.Native.Nat.{ℕ, zero, suc, _≤_, _<_, _+_, _*_}
-use mathlib.Core.Path.{_≡_, _∙_, sym, refl}
-use mathlib.Core.Bool.{Bool, true, false, _||_}
+use Rattle.words.proofs.Plain.{ℕ, zero, suc, _≤_, _<_, _+_, _*_, arith, _≡_, _∙_, sym, refl, Bool, true, false, _||_, T, ltb, eqb, ltb-true, ltb-false}
+use Rattle.words.proofs.Plain.{eqb-true, lt-ltb, le-ltb, eq-eqb, ne-eqb}
 use native.Mathlib.Nat.{mul-pos, zero-mul, le-of-lt}
-use native.Mathlib.Omega.{arith}
-use borrow.Author.Tests.{ltb-true, ltb-false, eqb-true, lt-ltb, le-ltb, eq-eqb, ne-eqb}
-use lib.Dec.{T, ltb, eqb}
 use lib.Ieee.{Float, nan, inf, fin, up, down, lt, eq, le, ne, below, level}
 use lib.Ieee.Compare.{differs-from-itself}
 use lib.Ieee.Positive.{through, den-pos}
@@ -94,8 +90,7 @@ le-trans (fin s m e) (fin t n d) (inf false) h k = tt
 le-trans (fin s m e) (fin t n d) (fin u p g) h k =
     from s (m * up e * down g) u (p * up g * down e)
     (tri s t u (m * up e) (n * up d) (p * up g) (down e) (down d) (down g) (den-pos (fin s m e)) (den-pos (fin t n d)) (den-pos (fin u p g))
-    (to s (m * up e * down d) t (n * up d * down e) h)
-    (to t (n * up d * down g) u (p * up g * down d) k))
+    (to s (m * up e * down d) t (n * up d * down e) h) (to t (n * up d * down g) u (p * up g * down d) k))
 
 -- ---- `<=` and `<`
 

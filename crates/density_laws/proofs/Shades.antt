@@ -2,11 +2,7 @@
 --     shade-below    each shade is below k
 --     brighter       a brighter value never gets a lower shade: for any two floats, where x <= y
 --     same-value     two values that are not above each other, such as both zeros, have one shade
-use Prim.Native.Nat.{ℕ, zero, suc, _-_, _≤_, _<_, zero-le}
-use mathlib.Core.Path.{_≡_}
-use mathlib.Core.Bool.{Bool, true, false}
-use native.Mathlib.Omega.{arith}
-use lib.Dec.{T}
+use Rattle.words.proofs.Plain.{ℕ, zero, suc, _-_, _≤_, _<_, zero-le, arith, _≡_, Bool, true, false, T}
 use lib.Ieee.{Float, le}
 use Rattle.words.specs.Readings.{bit}
 use Rattle.density_spec.specs.declared.Card.{Card}

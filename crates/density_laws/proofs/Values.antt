@@ -2,10 +2,7 @@
 --     Kind, kind        a value is no number, out or in; only one of them: density_spec, Unique
 --     in-from, in-to    a value that is in is from 0 to 1: 0 <= x, x <= 1
 --     from-to-in        and each such value is in
-use mathlib.Core.Path.{_≡_, refl}
-use mathlib.Core.Bool.{true, false}
-use mathlib.Core.Logic.{inl, inr}
-use lib.Dec.{T}
+use Rattle.words.proofs.Plain.{_≡_, refl, inl, inr, true, false, T}
 use lib.Ieee.{Float, binary32, ofBits, ofFields, lt, le, ne}
 use Rattle.words.proofs.Split.{passes, fails, test}
 use Rattle.density_spec.specs.Cuts.{NoNumber, Out, In, zero32, one32}

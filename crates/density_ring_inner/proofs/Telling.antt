@@ -1,22 +1,14 @@
 -- What a sector's answer says to the loops over a ring's values.
 --     has-none      an answer that is no shade: the value has none
 --     has-one       an answer that is a shade: the value has one, and it is that
-use Prim.Native.Nat.{ℕ}
-use mathlib.Core.Path.{_≡_}
-use mathlib.Core.List.{[], _∷_}
-use mathlib.Core.Logic.{⊎-elim}
-use native.Mathlib.Omega.{arith}
+use Rattle.words.proofs.Plain.{ℕ, arith, _≡_, ⊎-elim, [], _∷_}
 use lib.Ieee.{Float, ne}
 use denote.Enum.Declared.{tagOf}
 use types.Run.{OneOf}
 use Rattle.words.proofs.Split.{clash}
-use Rattle.density_spec.specs.declared.Card.{Card}
-use Rattle.density_spec.specs.declared.Sector.{Sector}
+use Rattle.density_spec.specs.{declared.Card.Card, declared.Sector.Sector, Cuts.In, Cuts.shadeOf, Says.ShadeSays}
 use Rattle.density_spec.specs.declared.Sector.the-variants.{Shade, Outside, NotANumber}
-use Rattle.density_spec.proofs.Sector.{the-type}
-use Rattle.density_spec.specs.Cuts.{In, shadeOf}
-use Rattle.density_spec.specs.Says.{ShadeSays}
-use Rattle.density_spec.proofs.Unique.{in-out}
+use Rattle.density_spec.proofs.{Sector.the-type, Unique.in-out}
 
 pub has-none : (c : Card) (k : ℕ) (x : Float) (s : Sector) → OneOf (1 ∷ 2 ∷ []) (tagOf the-type s) → ShadeSays c k x s → In x → ⊥
 has-none c k x (Shade v) t w p = ⊎-elim (λ e. absurd (omega arith)) (λ e. absurd (omega arith)) t

@@ -4,24 +4,17 @@
 --     one-sector    one sector
 --     one-ring      a ring: one answer, and one output after it
 -- A value that is not a number is one value here: its sign and its payload are outside the floats of the logic, and no answer carries it.
-use Prim.Native.Nat.{ℕ}
-use mathlib.Core.Path.{_≡_, refl, sym, ap, _∙_}
-use mathlib.Core.Logic.{_⊎_, inl, inr}
-use mathlib.Core.List.{List}
-use lib.ListN.{length}
+use Rattle.words.proofs.Plain.{ℕ, _≡_, refl, sym, ap, _∙_, _⊎_, inl, inr, List, length}
 use lib.Ieee.{Float, ne}
 use lib.Ieee as I
 use Rattle.words.proofs.Split.{clash}
 use Rattle.refusal.proofs.Unique.{never-both, one-refusal}
-use Rattle.density_spec.specs.declared.Card.{Card}
-use Rattle.density_spec.specs.declared.Sector.{Sector}
+use Rattle.density_spec.specs.{declared.Card.Card, declared.Sector.Sector, declared.SectorRead.SectorRead}
 use Rattle.density_spec.specs.declared.Sector.the-variants.{Shade, Outside, NotANumber}
-use Rattle.density_spec.specs.declared.SectorRead.{SectorRead}
 use Rattle.density_spec.specs.declared.SectorRead.the-variants as S
-use Rattle.density_spec.specs.declared.RingRead.{RingRead}
+use Rattle.density_spec.specs.{declared.RingRead.RingRead, Order.sectorOrder, Order.ringOrder}
 use Rattle.density_spec.specs.declared.RingRead.the-variants as R
 use Rattle.density_spec.specs.Cuts.{In, Out, zero32, one32}
-use Rattle.density_spec.specs.Order.{sectorOrder, ringOrder}
 use Rattle.density_spec.specs.Says.{ShadeSays, SectorSays, RingSays}
 
 -- a value is not both in and out

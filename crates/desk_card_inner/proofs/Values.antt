@@ -1,18 +1,10 @@
 -- From an answer to what the values print.
 --     put-one, put-several    what one value, and several, print
-use Prim.Native.Nat.{ℕ, _-_, _<_}
-use mathlib.Core.Path.{_≡_, subst}
-use mathlib.Core.List.{List}
-use native.Mathlib.Omega.{arith}
-use lib.ListN.{length, getD, take, drop, length-drop}
-use lib.Seq.{take-all}
+use Rattle.words.proofs.Plain.{ℕ, _-_, _<_, arith, _≡_, subst, List, length, getD, take, drop, length-drop, take-all}
 use lib.Ieee.{Float, nan}
 use Rattle.stream_spec.specs.Blocks.{Puts}
-use Rattle.density_spec.specs.declared.SectorRead.{SectorRead}
-use Rattle.density_spec.specs.declared.RingRead.{RingRead}
-use Rattle.density_spec.specs.Says.{SectorSays, RingSays}
-use Rattle.desk_spec.specs.Floats.{firstCard}
-use Rattle.desk_spec.specs.Texts.{sectorText, shadesText}
+use Rattle.density_spec.specs.{declared.SectorRead.SectorRead, declared.RingRead.RingRead, Says.SectorSays, Says.RingSays}
+use Rattle.desk_spec.specs.{Floats.firstCard, Texts.sectorText, Texts.shadesText}
 use Rattle.desk_spec.specs.Answers.{AnswerShows, ShadesSays, oneValue, severalValues, blank}
 use Rattle.desk_texts_inner.specs.Says.{deskRoom, LinePrinted}
 use Rattle.desk_texts_inner.proofs.Putting.{put-shown, puts-on}
@@ -31,10 +23,8 @@ module _ (k : ℕ) (xs : List Float) where
       let v = subst (λ (w : List ℕ). RingSays (drop 2 xs) k (firstCard xs) w a d) e u in
       puts-on
       (AnswerShows {A = RingRead × List ℕ} (λ x. RingSays (drop 2 xs) k (firstCard xs) (blank (length (drop 2 xs))) (x .0) (x .1)) (λ x. shadesText (x .0) (x .1)))
-      (ShadesSays k xs)
-      (λ t z. severalValues l z)
+      (ShadesSays k xs) (λ t z. severalValues l z)
       b
       at
       r
-      b′
-      (put-shown _ _ (a, d) v b at r b′ p)
+      b′ (put-shown _ _ (a, d) v b at r b′ p)

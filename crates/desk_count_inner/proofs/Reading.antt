@@ -1,13 +1,9 @@
 -- A byte that a text asks for.
 --     byte, no-byte, great     a byte
-use Prim.Native.Nat.{ℕ, _<_}
-use mathlib.Core.Path.{_≡_, sym, _∙_}
-use mathlib.Core.List.{List}
-use native.Mathlib.Omega.{arith}
+use Rattle.words.proofs.Plain.{ℕ, _<_, arith, _≡_, sym, _∙_, List}
 use Rattle.text_spec.specs.Decimal.{decimal}
 use Rattle.text_spec.proofs.Digits.{decimal-one}
-use Rattle.line_spec.specs.declared.Numeral.the-variants.{Value, Malformed}
-use Rattle.line_spec.specs.Line.{NumberSays}
+use Rattle.line_spec.specs.{declared.Numeral.the-variants.Value, declared.Numeral.the-variants.Malformed, Line.NumberSays}
 use Rattle.desk_spec.specs.Questions.{ReadsByte}
 
 module _ (t : List ℕ) where

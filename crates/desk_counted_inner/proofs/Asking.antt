@@ -1,17 +1,13 @@
 -- From what stands behind k to what the question prints, whether a reading stands in front of the counts or not.
 --     no-counted      there is no k
 --     put-counted     there is
-use Prim.Native.Nat.{ℕ, _-_}
-use mathlib.Core.Bool.{Bool, true, false}
-use mathlib.Core.List.{List}
-use lib.ListN.{length, take, drop}
+use Rattle.words.proofs.Plain.{ℕ, _-_, Bool, true, false, List, length, take, drop}
 use Rattle.stream_spec.specs.Blocks.{Puts}
 use Rattle.desk_spec.specs.Texts.{malformedText}
 use Rattle.desk_spec.specs.Answers.{FirstPrints, AfterPrints, VerbSays}
 use Rattle.desk_texts_inner.specs.Says.{deskRoom, LinePrinted}
 use Rattle.desk_texts_inner.proofs.Putting.{put-bad}
-use Rattle.desk_words_inner.specs.declared.Head.the-variants.{Number, Malformed}
-use Rattle.desk_words_inner.specs.Says.{HeadSays}
+use Rattle.desk_words_inner.specs.{declared.Head.the-variants.Number, declared.Head.the-variants.Malformed, Says.HeadSays}
 use Rattle.desk_counts_inner.proofs.Asking.{no-counts, no-after, put-counts, put-after}
 use Rattle.desk_counted_inner.specs.Says.{countedVerb, CountedBehind}
 

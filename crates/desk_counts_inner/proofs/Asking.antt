@@ -2,23 +2,16 @@
 --     no-counts, no-after            there is no number in front
 --     put-counts                     a number and counts
 --     no-words, no-spelt, put-spelt, put-words, put-after    a number, a reading and counts
-use Prim.Native.Nat.{ℕ, _+_, _-_, _<_, _≤_}
-use mathlib.Core.Path.{_≡_, refl, sym, ap, _∙_}
-use mathlib.Core.List.{List, [], _∷_, map}
-use native.Mathlib.Omega.{arith}
-use lib.ListN.{length, take, drop}
-use Rattle.text_spec.specs.Decimal.{decimal}
-use Rattle.text_spec.specs.Text.{hexOf}
+use Rattle.words.proofs.Plain.{ℕ, _+_, _-_, _<_, _≤_, arith, _≡_, refl, sym, ap, _∙_, List, [], _∷_, map, length, take, drop}
+use Rattle.text_spec.specs.{Decimal.decimal, Text.hexOf}
 use Rattle.stream_spec.specs.Blocks.{Puts}
 use Rattle.text_words_spec.specs.Words.{pieces, PieceAt, Nibbles, Spelt}
 use Rattle.text_words_spec.proofs.Pieces.{pieces-more, pieces-single, more-two, more-first, more-rest}
 use Rattle.desk_spec.specs.Questions.{CountsSpelt, ReadsCounts, ReadsAfter, Replies}
 use Rattle.desk_texts_inner.specs.Says.{deskRoom}
 use Rattle.desk_texts_inner.proofs.Putting.{put-as}
-use Rattle.desk_words_inner.specs.declared.Head.the-variants.{Number, Malformed}
-use Rattle.desk_words_inner.specs.Says.{HeadSays}
-use Rattle.desk_words_inner.proofs.Heads.{rest-words}
-use Rattle.desk_words_inner.proofs.Shapes.{rest-all}
+use Rattle.desk_words_inner.specs.{declared.Head.the-variants.Number, declared.Head.the-variants.Malformed, Says.HeadSays}
+use Rattle.desk_words_inner.proofs.{Heads.rest-words, Shapes.rest-all}
 use Rattle.desk_counts_inner.specs.Says.{WordCounts, ReadsRing, AfterAsked}
 
 -- a text with one word is that word

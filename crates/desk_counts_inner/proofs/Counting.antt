@@ -3,14 +3,9 @@
 --     begun-none, begun-more     the loop: nothing is read, or one count more
 --     begun-last, begun-bad, begun-end    its end: the last count, or none there
 --     word-listed, word-bad      the counts of a text that is one word
-use Prim.Native.Nat.{ℕ, zero, suc, _+_, _-_, _<_, _≤_}
-use mathlib.Core.Path.{_≡_, refl, sym, ap, _∙_}
-use mathlib.Core.List.{List, [], _∷_, _++_, map}
-use native.Mathlib.Omega.{arith}
-use native.Mathlib.Decide.{decLt}
-use native.Mathlib.Numerals.{add-one}
-use lib.ListN.{length, getD, take, drop, set, length-take, length-set, length-map, length-drop}
-use lib.Seq.{take-suc-set, getD-take, getD-drop, getD-set-same, getD-set-other, drop-drop, drop-at, length-take-le}
+use Rattle.words.proofs.Plain.{ℕ, zero, suc, _+_, _-_, _<_, _≤_, add-one, arith, decLt, _≡_, refl, sym, ap, _∙_, List, [], _∷_, _++_, map, length, getD, take}
+use Rattle.words.proofs.Plain.{drop, set, length-take, length-set, length-map, length-drop, take-suc-set, getD-take, getD-drop, getD-set-same, getD-set-other}
+use Rattle.words.proofs.Plain.{drop-drop, drop-at, length-take-le}
 use Rattle.text_spec.specs.Decimal.{decimal}
 use Rattle.text_spec.proofs.Digits.{decimal-digits}
 use Rattle.text_words_spec.specs.Words.{pieces, PieceAt}

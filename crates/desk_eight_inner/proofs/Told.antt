@@ -1,8 +1,5 @@
 -- From what is told of each word to what is told of all.
-use Prim.Native.Nat.{ℕ, _-_, _≤_}
-use mathlib.Core.Path.{_≡_}
-use mathlib.Core.Bool.{Bool, true, false}
-use mathlib.Core.List.{List}
+use Rattle.words.proofs.Plain.{ℕ, _-_, _≤_, _≡_, Bool, true, false, List}
 use Rattle.desk_rings_inner.specs.Says.{EachSays}
 use Rattle.desk_eight_inner.specs.Says.{AllEight}
 

@@ -3,25 +3,15 @@
 --     summed-none, summed-more, summed-over, summed-all    the loop
 --     given-long, first-long          an output of more than 64 places is refused alike, whatever its length
 --     first-within                    what an output of SumWithin places prints
-use Prim.Native.Nat.{ℕ, _+_, _-_, _<_, _≤_}
-use mathlib.Core.Path.{_≡_, refl, sym, ap, _∙_}
-use mathlib.Core.Logic.{inl}
-use mathlib.Core.List.{List}
-use native.Mathlib.Omega.{arith}
-use native.Mathlib.Decide.{decLt}
-use lib.ListN.{length, getD, take, drop, length-replicate, drop-of-length-le}
+use Rattle.words.proofs.Plain.{ℕ, _+_, _-_, _<_, _≤_, arith, decLt, _≡_, refl, sym, ap, _∙_, inl, List, length, getD, take, drop, length-replicate}
+use Rattle.words.proofs.Plain.{drop-of-length-le}
 use Rattle.words.specs.Sum.{sumOf}
-use Rattle.refusal.specs.declared.Refusal.{Refusal}
-use Rattle.refusal.specs.declared.Refusal.the-variants.{Length}
-use Rattle.refusal.specs.Order.{Given}
-use Rattle.refusal.specs.Calls.{countedFirst}
+use Rattle.refusal.specs.{declared.Refusal.Refusal, declared.Refusal.the-variants.Length, Order.Given, Calls.countedFirst}
 use Rattle.refusal.proofs.Unique.{one-refusal}
 use Rattle.check_counts_inner.proofs.Sum.{sum-at}
-use Rattle.shades_spec.specs.declared.FirstAnswer.{FirstAnswer}
+use Rattle.shades_spec.specs.{declared.FirstAnswer.FirstAnswer, Answers.FirstSays}
 use Rattle.shades_spec.specs.declared.FirstAnswer.the-variants as F
-use Rattle.shades_spec.specs.Answers.{FirstSays}
-use Rattle.desk_spec.specs.Texts.{firstRingText}
-use Rattle.desk_spec.specs.Answers.{FirstPrints, blank}
+use Rattle.desk_spec.specs.{Texts.firstRingText, Answers.FirstPrints, Answers.blank}
 use Rattle.desk_words_inner.proofs.Shapes.{take-blank}
 use Rattle.desk_first_inner.specs.Says.{SumWithin, FirstIn}
 
@@ -42,11 +32,7 @@ module _ (cs : List ℕ) where
 
     pub summed-over : i < length cs → 64 - s < getD cs i 0 → SumWithin cs 65
     summed-over h l =
-        record {
-          small = λ g. absurd (omega (arith, g, sum-at cs i h, u .sums, u .small));
-          great = λ g. refl;
-          most = omega arith;
-        }
+        record { small = λ g. absurd (omega (arith, g, sum-at cs i h, u .sums, u .small)); great = λ g. refl; most = omega arith }
 
     pub summed-all : length cs ≤ i → SumWithin cs s
     unfolding sumOf

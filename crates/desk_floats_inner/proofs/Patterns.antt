@@ -5,15 +5,8 @@
 --     not-a-number                every other is what is not a number
 --     pattern-bytes               the pattern of digits by its four bytes
 --     floats-more                 one float more
-use Prim.Native.Nat.{ℕ, suc, _+_, _*_, _%_, _/_, _<_}
-use mathlib.Core.Path.{_≡_, refl, sym, ap, _∙_}
-use mathlib.Core.Bool.{Bool, true, false, not, _&&_}
-use mathlib.Core.List.{List}
-use native.Mathlib.Omega.{arith}
-use borrow.Author.Tests.{ne-eqb, eq-eqb}
-use lib.Dec.{T, eqb}
-use lib.ListN.{length, getD, set, take, drop}
-use lib.Seq.{getD-take, getD-drop, getD-set-same, getD-set-other}
+use Rattle.words.proofs.Plain.{ℕ, suc, _+_, _*_, _%_, _/_, _<_, arith, _≡_, refl, sym, ap, _∙_, Bool, true, false, not, _&&_, List, T, eqb, length, getD, set}
+use Rattle.words.proofs.Plain.{take, drop, getD-take, getD-drop, getD-set-same, getD-set-other, ne-eqb, eq-eqb}
 use lib.Ieee.{Float, nan, inf, fin, binary32, isNan, nanBits, ne, ofBits, ofFields, odd, div}
 use Rattle.words.proofs.Split.{clash, lt, eq, gt, tri}
 use Rattle.desk_spec.specs.Floats.{patternOf, floatOf}

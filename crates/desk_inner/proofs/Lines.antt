@@ -1,18 +1,11 @@
 -- What a line prints, by its first word.
 --     line-long, line-alone, line-unknown    a line that asks nothing
 --     put-line                               one that has a verb
-use Prim.Native.Nat.{ℕ, _+_, _-_, _<_, _≤_}
-use mathlib.Core.Path.{_≡_, refl, sym, ap, _∙_}
-use mathlib.Core.Bool.{true, false, false≢true}
-use mathlib.Core.List.{List}
-use native.Mathlib.Omega.{arith}
-use lib.ListN.{length, take, drop}
+use Rattle.words.proofs.Plain.{ℕ, _+_, _-_, _<_, _≤_, arith, _≡_, refl, sym, ap, _∙_, true, false, false≢true, List, length, take, drop}
 use Rattle.stream_spec.specs.Blocks.{Puts}
 use Rattle.text_words_spec.specs.Words.{PieceAt}
-use Rattle.desk_spec.specs.declared.Verb.{Verb}
-use Rattle.desk_spec.specs.declared.Found.{Found}
-use Rattle.desk_spec.specs.declared.Found.the-variants.{Known, Unknown}
-use Rattle.desk_spec.specs.Verbs.{isKnown, verbOf}
+use Rattle.desk_spec.specs.{declared.Verb.Verb, declared.Found.Found}
+use Rattle.desk_spec.specs.{declared.Found.the-variants.Known, declared.Found.the-variants.Unknown, Verbs.isKnown, Verbs.verbOf}
 use Rattle.desk_spec.specs.Answers.{VerbSays, LineReads, DeskAnswers}
 use Rattle.desk_spec.proofs.Questions.{place-one}
 use Rattle.desk_texts_inner.specs.Says.{deskRoom}

@@ -1,14 +1,7 @@
 -- Only the first 4096 bytes of a line tell what it prints: a longer line is malformed.
-use Prim.Native.Nat.{ℕ, _<_, _≤_}
-use mathlib.Core.Path.{_≡_, sym}
-use mathlib.Core.List.{List}
-use native.Mathlib.Omega.{arith}
-use native.Mathlib.Decide.{decLt}
-use lib.ListN.{length, take, length-take}
-use lib.Seq.{take-all}
+use Rattle.words.proofs.Plain.{ℕ, _<_, _≤_, arith, decLt, _≡_, sym, List, length, take, length-take, take-all}
 use Rattle.stream_spec.specs.Texts.{Tells}
-use Rattle.desk_spec.specs.Questions.{good, bad}
-use Rattle.desk_spec.specs.Answers.{DeskAnswers}
+use Rattle.desk_spec.specs.{Questions.good, Questions.bad, Answers.DeskAnswers}
 use Rattle.desk_spec.proofs.Unique.{one-answer}
 
 -- a line that is too long prints what any other does

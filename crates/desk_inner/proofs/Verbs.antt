@@ -1,7 +1,6 @@
 -- The verb of a word, group after group.
-use mathlib.Core.Path.{_≡_, ap, _∙_}
-use Rattle.desk_spec.specs.declared.Found.{Found}
-use Rattle.desk_spec.specs.Verbs.{orElse}
+use Rattle.words.proofs.Plain.{_≡_, ap, _∙_}
+use Rattle.desk_spec.specs.{declared.Found.Found, Verbs.orElse}
 
 -- a group, and what follows it, may be said otherwise
 pub group-then : (r f g x y : Found) → r ≡ orElse f x → f ≡ g → x ≡ y → r ≡ orElse g y

@@ -3,21 +3,12 @@
 --     long-digit, long-space, long-wrong    one character more
 --     on-digit, on-space, on-wrong, on-end  the same at a place of a text
 --     long-true, long-false                 what it says of rings that the words spell
-use Prim.Native.Nat.{ℕ, zero, suc, _+_, _<_, _≤_}
-use mathlib.Core.Path.{_≡_, refl, sym, ap, _∙_}
-use mathlib.Core.Bool.{Bool, true, false, false≢true}
-use mathlib.Core.List.{List, [], _∷_, _++_, map, append-assoc}
-use native.Mathlib.Omega.{arith}
-use lib.Dec.{eqb}
-use native.Mathlib.Numerals.{add-one}
-use lib.ListN.{length, getD, drop, length-map, drop-of-length-le}
-use lib.Seq.{drop-cons}
-use borrow.Author.Tests.{eq-eqb, ne-eqb, eqb-true, eqb-false}
+use Rattle.words.proofs.Plain.{ℕ, zero, suc, _+_, _<_, _≤_, add-one, arith, _≡_, refl, sym, ap, _∙_, Bool, true, false, false≢true, List, [], _∷_, _++_, map}
+use Rattle.words.proofs.Plain.{append-assoc, eqb, length, getD, drop, length-map, drop-of-length-le, drop-cons, eq-eqb, ne-eqb, eqb-true, eqb-false}
 use Rattle.words.proofs.Split.{passes, fails, test}
 use Rattle.text_spec.specs.Text.{hexOf}
 use Rattle.text_words_spec.specs.Words.{Nibbles}
-use Rattle.desk_spec.specs.Questions.{EachNibbles}
-use Rattle.desk_spec.specs.Sights.{AsLong}
+use Rattle.desk_spec.specs.{Questions.EachNibbles, Sights.AsLong}
 use Rattle.desk_rings_inner.specs.Says.{ReadsRings, EachSays}
 use Rattle.desk_rings_inner.proofs.Spaced.{spaced, digits-plain, pieces-spaced}
 

@@ -3,15 +3,8 @@
 --     spaced-pieces, pieces-spaced the words of a text are those of rings and a reading exactly where it is them, with spaces between
 --     words-cons                   there is a word
 --     Glyph, text-glyphs           each character of such a text is a space or a digit
-use Prim.Native.Nat.{ℕ, zero, suc, _+_, _<_}
-use mathlib.Core.Path.{_≡_, refl, sym, ap, _∙_}
-use mathlib.Core.Logic.{_⊎_, inl, inr}
-use mathlib.Core.List.{List, [], _∷_, _++_, map, append-assoc}
-use native.Mathlib.Omega.{arith}
-use native.Mathlib.Numerals.{add-one}
-use lib.ListN.{length, getD, take, drop}
-use lib.Seq.{split-at}
-use borrow.Author.Tests.{eq-eqb, ne-eqb}
+use Rattle.words.proofs.Plain.{ℕ, zero, suc, _+_, _<_, add-one, arith, _≡_, refl, sym, ap, _∙_, _⊎_, inl, inr, List, [], _∷_, _++_, map, append-assoc, length}
+use Rattle.words.proofs.Plain.{getD, take, drop, split-at, eq-eqb, ne-eqb}
 use Rattle.text_spec.specs.Text.{hexOf}
 use Rattle.text_words_spec.specs.Words.{onto, pieces, PieceAt, Nibbles}
 use Rattle.text_words_spec.proofs.Pieces.{pieces-single, piece-end, more-two, more-first, more-rest}

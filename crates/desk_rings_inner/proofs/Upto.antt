@@ -1,14 +1,9 @@
 -- The sectors of words that are spelt up to a place.
 --     Upto u out i m c             up to place i of the text u, m sectors are in out, and c of them belong to the word under way
 --     upto-start, upto-space, upto-digit, upto-end, upto-bad     place after place
-use Prim.Native.Nat.{ℕ, zero, suc, _+_, _-_, _<_, _≤_}
-use mathlib.Core.Path.{_≡_, refl, sym, ap, _∙_}
-use mathlib.Core.Logic.{inl, inr}
-use mathlib.Core.List.{List, [], _∷_, _++_, map, append-assoc, append-nil, append-cancel-left}
-use native.Mathlib.Omega.{arith}
-use native.Mathlib.Numerals.{add-one}
-use lib.ListN.{length, getD, set, take, drop, length-append}
-use lib.Seq.{take-all, take-suc, take-suc-set, take-take, take-add, take-at, length-take-le}
+use Rattle.words.proofs.Plain.{ℕ, zero, suc, _+_, _-_, _<_, _≤_, add-one, arith, _≡_, refl, sym, ap, _∙_, inl, inr, List, [], _∷_, _++_, map, append-assoc}
+use Rattle.words.proofs.Plain.{append-nil, append-cancel-left, length, getD, set, take, drop, length-append, take-all, take-suc, take-suc-set, take-take}
+use Rattle.words.proofs.Plain.{take-add, take-at, length-take-le}
 use Rattle.text_spec.specs.Text.{hexOf}
 use Rattle.text_words_spec.specs.Words.{Nibbles}
 use Rattle.strip_spec.specs.Strip.{joined}

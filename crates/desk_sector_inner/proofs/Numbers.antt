@@ -1,12 +1,10 @@
 -- What the calls tell has bits of its own.
 --     numbered-read   each value that `sector_shade` tells is a number or an infinity
-use Prim.Native.Nat.{ℕ}
+use Rattle.words.proofs.Plain.{ℕ}
 use lib.Ieee.{Float}
-use Rattle.density_spec.specs.declared.Card.{Card}
+use Rattle.density_spec.specs.{declared.Card.Card, declared.SectorRead.SectorRead}
 use Rattle.density_spec.specs.declared.Sector.the-variants.{Shade, Outside, NotANumber}
-use Rattle.density_spec.specs.declared.SectorRead.{SectorRead}
-use Rattle.density_spec.specs.declared.SectorRead.the-variants.{Is, Refused}
-use Rattle.density_spec.specs.Says.{SectorSays}
+use Rattle.density_spec.specs.{declared.SectorRead.the-variants.Is, declared.SectorRead.the-variants.Refused, Says.SectorSays}
 use Rattle.desk_sector_inner.specs.Says.{OwnBitsRead}
 
 pub numbered-read : (x : Float) (k : ℕ) (c : Card) (a : SectorRead) → SectorSays x k c a → OwnBitsRead a

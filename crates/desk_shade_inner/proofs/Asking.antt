@@ -2,32 +2,21 @@
 --     no-floats, no-eight            where they are none, or no such
 --     spelt-floats, put-floats       where they are such
 --     no-shade, put-shade            k stands in front of them
-use Prim.Native.Nat.{ℕ, _+_, _-_, _*_, _<_, _≤_}
-use mathlib.Core.Path.{_≡_, refl, sym, ap, subst, _∙_}
-use mathlib.Core.Bool.{true, false}
-use mathlib.Core.List.{List, [], _∷_, _++_, map, append-nil}
-use native.Mathlib.Omega.{arith}
-use lib.ListN.{length, take, drop, length-drop, length-append}
-use lib.Seq.{length-take-le, take-add}
-use Rattle.text_spec.specs.Decimal.{decimal}
-use Rattle.text_spec.specs.Text.{hexOf}
+use Rattle.words.proofs.Plain.{ℕ, _+_, _-_, _*_, _<_, _≤_, arith, _≡_, refl, sym, ap, subst, _∙_, true, false, List, [], _∷_, _++_, map, append-nil, length}
+use Rattle.words.proofs.Plain.{take, drop, length-drop, length-append, length-take-le, take-add}
+use Rattle.text_spec.specs.{Decimal.decimal, Text.hexOf}
 use Rattle.text_words_spec.specs.Words.{Nibbles}
 use Rattle.stream_spec.specs.Blocks.{Puts}
 use Rattle.strip_spec.specs.Strip.{joined}
 use Rattle.strip_spec.proofs.Joined.{joined-append}
 use Rattle.sight_spec.specs.Rings.{ringsIn}
-use Rattle.desk_spec.specs.Floats.{floatOf}
-use Rattle.desk_spec.specs.Sights.{AsLong}
+use Rattle.desk_spec.specs.{Floats.floatOf, Sights.AsLong, Answers.ShadesSays}
 use Rattle.desk_spec.specs.Questions.{EachNibbles, ReadsShade, Replies}
-use Rattle.desk_spec.specs.Answers.{ShadesSays}
-use Rattle.desk_spec.proofs.Sights.{length-alike, rings-joined}
-use Rattle.desk_spec.proofs.Questions.{words-one}
+use Rattle.desk_spec.proofs.{Sights.length-alike, Sights.rings-joined, Questions.words-one}
 use Rattle.desk_texts_inner.specs.Says.{deskRoom}
 use Rattle.desk_texts_inner.proofs.Putting.{puts-on, put-good, put-as}
-use Rattle.desk_words_inner.specs.declared.Head.the-variants.{Number, Malformed}
-use Rattle.desk_words_inner.specs.Says.{HeadSays}
-use Rattle.desk_words_inner.proofs.Heads.{rest-words}
-use Rattle.desk_words_inner.proofs.Shapes.{rest-all}
+use Rattle.desk_words_inner.specs.{declared.Head.the-variants.Number, declared.Head.the-variants.Malformed, Says.HeadSays}
+use Rattle.desk_words_inner.proofs.{Heads.rest-words, Shapes.rest-all}
 use Rattle.desk_rings_inner.specs.Says.{ReadsRings, EndToEnd}
 use Rattle.desk_eight_inner.specs.Says.{AllEight}
 use Rattle.desk_shade_inner.specs.Says.{ReadsFloats, ShadesAsked, FloatsTold}

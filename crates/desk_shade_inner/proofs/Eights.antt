@@ -3,19 +3,14 @@
 --     last-of                           some words have a last one
 --     nibbles-joined                    the digits of all words
 --     floats-all                        the floats are those of the words
-use Prim.Native.Nat.{ℕ, zero, suc, _*_, _/_, _<_, _≤_}
-use mathlib.Core.Path.{_≡_, refl, sym, ap, _∙_}
-use mathlib.Core.List.{List, [], _∷_, _++_, map}
-use native.Mathlib.Omega.{arith}
-use lib.ListN.{length, getD, take, length-map}
-use lib.Seq.{ext-getD, getD-take, length-take-le}
+use Rattle.words.proofs.Plain.{ℕ, zero, suc, _*_, _/_, _<_, _≤_, arith, _≡_, refl, sym, ap, _∙_, List, [], _∷_, _++_, map, length, getD, take, length-map}
+use Rattle.words.proofs.Plain.{ext-getD, getD-take, length-take-le}
 use lib.Ieee.{Float, nan}
 use Rattle.text_words_spec.specs.Words.{Nibbles}
 use Rattle.strip_spec.specs.Strip.{joined}
 use Rattle.sight_spec.specs.Rings.{ringsIn}
 use Rattle.sight_spec.proofs.Rings.{length-first, first-at}
-use Rattle.desk_spec.specs.Floats.{floatOf}
-use Rattle.desk_spec.specs.Questions.{EachNibbles}
+use Rattle.desk_spec.specs.{Floats.floatOf, Questions.EachNibbles}
 use Rattle.desk_floats_inner.specs.Says.{FloatsSay}
 
 -- ---- one word more

@@ -2,33 +2,23 @@
 --     put-spelt                 the rings and the reading lie end to end
 --     no-head, no-second, both-heads    two numbers in front, one after the other
 --     no-sight, put-sight       k, and how many sectors may be misread, stand in front of them
-use Prim.Native.Nat.{ℕ, _+_, _-_, _≤_}
-use mathlib.Core.Path.{_≡_, refl, sym, ap, _∙_}
-use mathlib.Core.Bool.{Bool, true, false}
-use mathlib.Core.Logic.{inl, inr}
-use mathlib.Core.List.{List, _∷_}
-use native.Mathlib.Omega.{arith}
-use lib.ListN.{length, take, drop, length-drop}
-use lib.Seq.{length-take-le, drop-drop}
+use Rattle.words.proofs.Plain.{ℕ, _+_, _-_, _≤_, arith, _≡_, refl, sym, ap, _∙_, inl, inr, Bool, true, false, List, _∷_, length, take, drop, length-drop}
+use Rattle.words.proofs.Plain.{length-take-le, drop-drop}
 use Rattle.text_spec.specs.Decimal.{decimal}
 use Rattle.text_words_spec.specs.Words.{pieces}
 use Rattle.text_words_spec.proofs.Pieces.{behind-same}
 use Rattle.stream_spec.specs.Blocks.{Puts}
 use Rattle.words.specs.Readings.{Sized}
-use Rattle.refusal.specs.declared.Refusal.{Refusal}
-use Rattle.refusal.specs.declared.Refusal.the-variants.{Length, Pair}
+use Rattle.refusal.specs.{declared.Refusal.Refusal, declared.Refusal.the-variants.Length, declared.Refusal.the-variants.Pair}
 use Rattle.refusal.specs.Order.{fact, _▸_, Given}
 use Rattle.sight_spec.specs.declared.Sighting.{Sighting}
-use Rattle.desk_spec.specs.Questions.{ReadsSight, Replies}
-use Rattle.desk_spec.specs.Texts.{sightText}
+use Rattle.desk_spec.specs.{Questions.ReadsSight, Questions.Replies, Texts.sightText, Answers.AnswerShows, Answers.SeenSays}
 use Rattle.desk_spec.specs.Sights.{AsLong, lengthsOrder, SightedSays, alike, unlike}
-use Rattle.desk_spec.specs.Answers.{AnswerShows, SeenSays}
 use Rattle.desk_texts_inner.specs.Says.{deskRoom}
 use Rattle.desk_texts_inner.proofs.Putting.{puts-on, put-good, put-as}
 use Rattle.desk_words_inner.specs.declared.Head.the-variants as W
 use Rattle.desk_words_inner.specs.Says.{HeadSays}
-use Rattle.desk_words_inner.proofs.Heads.{rest-words}
-use Rattle.desk_words_inner.proofs.Shapes.{rest-all}
+use Rattle.desk_words_inner.proofs.{Heads.rest-words, Shapes.rest-all}
 use Rattle.desk_rings_inner.specs.Says.{ReadsRings, EndToEnd, EachSays}
 use Rattle.desk_rings_inner.proofs.Spaced.{words-cons}
 use Rattle.desk_sight_inner.specs.declared.Heads.the-variants.{Numbers, Malformed}

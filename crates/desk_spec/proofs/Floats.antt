@@ -1,7 +1,5 @@
 -- Floats by their bits, worked out by hand.
-use mathlib.Core.Path.{_≡_, refl}
-use mathlib.Core.Bool.{true, false}
-use mathlib.Core.List.{List, [], _∷_}
+use Rattle.words.proofs.Plain.{_≡_, refl, true, false, List, [], _∷_}
 use lib.IntN.{pos, negsuc}
 use lib.Ieee.{fin, inf, ofBits, ofFields, odd, toBits, size, span, climb}
 use Rattle.desk_spec.specs.Floats.{patternOf, floatOf, digitsOf}

@@ -5,24 +5,17 @@
 --     one-reading, one-pair, one-numbers, one-byte, one-sight, one-counts, one-after, one-shade    a text asks one question of a shape
 --     known-one                      a word is one verb's name
 --     place-one, one-line            a line has one verb and one text behind it
-use Prim.Native.Nat.{ℕ, suc, _+_, _<_}
-use mathlib.Core.Path.{_≡_, refl, sym, ap, _∙_}
-use mathlib.Core.List.{List, [], _∷_, _++_, map}
-use native.Mathlib.Omega.{arith}
-use lib.ListN.{length, getD, take, drop}
-use Rattle.text_spec.specs.Decimal.{decimal}
-use Rattle.text_spec.specs.Text.{hexOf}
+use Rattle.words.proofs.Plain.{ℕ, suc, _+_, _<_, arith, _≡_, refl, sym, ap, _∙_, List, [], _∷_, _++_, map, length, getD, take, drop}
+use Rattle.text_spec.specs.{Decimal.decimal, Text.hexOf}
 use Rattle.text_spec.proofs.Digits.{decimal-one}
 use Rattle.words.proofs.Split.{lt, eq, gt, tri}
 use Rattle.text_words_spec.specs.Words.{pieces, PieceAt, Nibbles, Spelt}
 use Rattle.line_spec.proofs.Lines.{fields-one}
 use Rattle.text_words_spec.proofs.Pieces.{first-same, behind-same, none-some}
 use Rattle.text_words_spec.proofs.Spelling.{spelt-one}
-use Rattle.desk_spec.specs.declared.Verb.{Verb}
+use Rattle.desk_spec.specs.{declared.Verb.Verb, declared.Found.Found}
 use Rattle.desk_spec.specs.declared.Verb.the-variants as Asks
-use Rattle.desk_spec.specs.declared.Found.{Found}
-use Rattle.desk_spec.specs.declared.Found.the-variants.{Known, Unknown}
-use Rattle.desk_spec.specs.Verbs.{verbOf}
+use Rattle.desk_spec.specs.{declared.Found.the-variants.Known, declared.Found.the-variants.Unknown, Verbs.verbOf}
 use Rattle.desk_spec.specs.Answers.{LineReads}
 use Rattle.desk_spec.specs.Questions.{ReadsReading, ReadsPair, ReadsNumbers, ReadsByte, ReadsSight, EachNibbles, wordsOf, CountsSpelt, ReadsCounts, ReadsAfter, ReadsShade}
 

@@ -2,20 +2,13 @@
 --     one-sighted      the question has one answer
 --     length-alike     how many sectors rings of n sectors have, end to end
 --     rings-joined     where each ring has n sectors, the rings that are looked at end to end are the words: none is cut elsewhere
-use Prim.Native.Nat.{ℕ, zero, suc, _+_, _*_, _/_, _<_}
-use mathlib.Core.Path.{_≡_, refl, sym, ap, _∙_}
-use mathlib.Core.List.{List, [], _∷_, _++_}
-use native.Mathlib.Omega.{arith}
+use Rattle.words.proofs.Plain.{ℕ, zero, suc, _+_, _*_, _/_, _<_, arith, _≡_, refl, sym, ap, _∙_, List, [], _∷_, _++_, length, getD, drop, length-append}
+use Rattle.words.proofs.Plain.{take-at, drop-append-add, ext-getD}
 use native.Mathlib.Nat.{mul-suc, mul-zero, mul-div-cancel-left}
-use lib.ListN.{length, getD, drop, length-append}
-use lib.Seq.{take-at, drop-append-add, ext-getD}
 use Rattle.refusal.proofs.Unique.{one-refusal}
 use Rattle.strip_spec.specs.Strip.{joined}
-use Rattle.sight_spec.specs.declared.Sighting.{Sighting}
-use Rattle.sight_spec.specs.declared.Sighting.the-variants.{Refused}
-use Rattle.sight_spec.specs.Rings.{ringAt, ringsIn}
-use Rattle.sight_spec.proofs.Rings.{length-first, first-at}
-use Rattle.sight_spec.proofs.Unique.{one-sight}
+use Rattle.sight_spec.specs.{declared.Sighting.Sighting, declared.Sighting.the-variants.Refused, Rings.ringAt, Rings.ringsIn}
+use Rattle.sight_spec.proofs.{Rings.length-first, Rings.first-at, Unique.one-sight}
 use Rattle.desk_spec.specs.Sights.{AsLong, lengthsOrder, SightedSays, alike, unlike}
 
 -- the question has one answer

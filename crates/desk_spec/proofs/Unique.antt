@@ -4,12 +4,7 @@
 --     one-stepped, one-step, one-about, one-both, one-many, one-strip, one-seen, one-first, one-after-ring, one-shades    a question prints one text
 --     one-verb        and so does what stands behind a verb
 --     one-answer      and a line
-use Prim.Native.Nat.{ℕ, _^_}
-use mathlib.Core.Path.{_≡_, refl, sym, ap, _∙_}
-use mathlib.Core.Bool.{Bool}
-use mathlib.Core.List.{List}
-use native.Mathlib.Omega.{arith}
-use lib.ListN.{length}
+use Rattle.words.proofs.Plain.{ℕ, _^_, arith, _≡_, refl, sym, ap, _∙_, Bool, List, length}
 use lib.Ieee.{Float}
 use Rattle.rings.specs.Necklace.{necklace, lyndon}
 use Rattle.classify_spec.proofs.Unique.{one-answer as one-class}
@@ -22,19 +17,15 @@ use Rattle.how_many_spec.proofs.Unique.{one-count}
 use Rattle.walk_spec.specs.declared.Outcome.{Outcome}
 use Rattle.walk_bracelet_spec.specs.declared.Arrival.{Arrival}
 use Rattle.walk_reading_spec.proofs.Unique.{one-step-from, one-bracelet-from}
-use Rattle.shades_spec.specs.declared.FirstAnswer.{FirstAnswer}
-use Rattle.shades_spec.specs.declared.NextAnswer.{NextAnswer}
+use Rattle.shades_spec.specs.{declared.FirstAnswer.FirstAnswer, declared.NextAnswer.NextAnswer}
 use Rattle.shades_spec.proofs.Unique.{one-first as one-first-ring, one-next}
-use Rattle.desk_spec.specs.declared.Step.{Step}
+use Rattle.desk_spec.specs.{declared.Step.Step, declared.About.About, declared.Both.Both}
 use Rattle.desk_spec.specs.declared.Step.the-variants.{Necklace, Lyndon, Prenecklace, Bracelet}
 use Rattle.density_spec.specs.declared.RingRead.{RingRead}
 use Rattle.density_spec.proofs.Unique.{one-sector, one-ring}
-use Rattle.desk_spec.specs.declared.About.{About}
 use Rattle.desk_spec.specs.declared.About.the-variants.{Class, Home, Even, Place}
 use Rattle.desk_spec.specs.declared.About.the-variants as OfOne
-use Rattle.desk_spec.specs.declared.Both.{Both}
-use Rattle.desk_spec.specs.declared.Both.the-variants.{Same, Apart}
-use Rattle.desk_spec.specs.declared.Verb.{Verb}
+use Rattle.desk_spec.specs.{declared.Both.the-variants.Same, declared.Both.the-variants.Apart, declared.Verb.Verb}
 use Rattle.desk_spec.specs.declared.Verb.the-variants as Asks
 use Rattle.desk_spec.specs.Questions.{Replies, good, bad}
 use Rattle.desk_spec.specs.Answers.{AnswerShows, KindPrints, StepPrints, AboutSays, BothSays, ManySays, StripPrints, SeenSays, FirstPrints, AfterPrints, VerbSays}

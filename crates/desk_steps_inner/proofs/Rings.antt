@@ -1,9 +1,5 @@
 -- A ring that a step wrote has room in a line.
-use Prim.Native.Nat.{ℕ, _≤_}
-use mathlib.Core.Path.{_≡_, ap, _∙_}
-use mathlib.Core.List.{List}
-use native.Mathlib.Omega.{arith}
-use lib.ListN.{length, length-replicate}
+use Rattle.words.proofs.Plain.{ℕ, _≤_, arith, _≡_, ap, _∙_, List, length, length-replicate}
 use Rattle.desk_spec.specs.Answers.{blank}
 use Rattle.desk_texts_inner.specs.Says.{longestRing}
 

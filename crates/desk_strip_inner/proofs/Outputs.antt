@@ -1,8 +1,5 @@
 -- The output that a strip is written into.
-use Prim.Native.Nat.{ℕ, _^_, _≤_}
-use mathlib.Core.Path.{_≡_, ap, _∙_}
-use native.Mathlib.Omega.{arith}
-use lib.ListN.{length, take, length-take}
+use Rattle.words.proofs.Plain.{ℕ, _^_, _≤_, arith, _≡_, ap, _∙_, length, take, length-take}
 use Rattle.desk_spec.specs.Answers.{blank}
 use Rattle.desk_texts_inner.specs.Says.{longestRing}
 use Rattle.desk_words_inner.proofs.Shapes.{take-blank}

@@ -3,13 +3,10 @@
 --     put-good       what a question prints, where a text asks it
 --     put-bad        what a text prints that asks none
 --     puts-on        what one says of a text, the other says of it too
-use Prim.Native.Nat.{ℕ}
-use mathlib.Core.Path.{_≡_, refl}
-use mathlib.Core.List.{List}
+use Rattle.words.proofs.Plain.{ℕ, _≡_, refl, List}
 use Rattle.stream_spec.specs.Blocks.{Puts}
-use Rattle.desk_spec.specs.Texts.{malformedText}
+use Rattle.desk_spec.specs.{Texts.malformedText, Answers.AnswerShows}
 use Rattle.desk_spec.specs.Questions.{Replies, good, bad}
-use Rattle.desk_spec.specs.Answers.{AnswerShows}
 use Rattle.desk_texts_inner.specs.Says.{deskRoom, LinePrinted}
 
 -- a text of which P holds

@@ -1,11 +1,7 @@
 -- A number and what stands behind it.
 --     head-number, head-none, head-alone     by the first word
 --     rest-one                               where one word stands behind it, it is the rest of the text
-use Prim.Native.Nat.{ℕ, _+_, _<_, _≤_}
-use mathlib.Core.Path.{_≡_, refl, sym, ap, _∙_}
-use mathlib.Core.List.{List, [], _∷_}
-use native.Mathlib.Omega.{arith}
-use lib.ListN.{length, take, drop}
+use Rattle.words.proofs.Plain.{ℕ, _+_, _<_, _≤_, arith, _≡_, refl, sym, ap, _∙_, List, [], _∷_, length, take, drop}
 use Rattle.text_spec.specs.Decimal.{decimal}
 use Rattle.text_words_spec.specs.Words.{pieces, PieceAt}
 use Rattle.text_words_spec.proofs.Pieces.{pieces-more, more-two, more-first, behind-same}

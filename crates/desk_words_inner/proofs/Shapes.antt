@@ -4,23 +4,16 @@
 --     no-pair, no-both, put-both, put-pair    two readings stand there
 --     numbers, no-numbers             two numbers alone, as the listing's line has them
 --     take-blank, rest-long, ask-room what is lent for a reading, and for an output
-use Prim.Native.Nat.{ℕ, zero, suc, _+_, _-_, _<_, _≤_}
-use mathlib.Core.Path.{_≡_, refl, sym, ap, _∙_}
-use mathlib.Core.List.{List, [], _∷_, map}
-use native.Mathlib.Omega.{arith}
-use lib.ListN.{length, take, drop, length-replicate, length-drop}
-use lib.Seq.{take-all}
-use Rattle.text_spec.specs.Decimal.{decimal}
-use Rattle.text_spec.specs.Text.{hexOf}
+use Rattle.words.proofs.Plain.{ℕ, zero, suc, _+_, _-_, _<_, _≤_, arith, _≡_, refl, sym, ap, _∙_, List, [], _∷_, map, length, take, drop, length-replicate}
+use Rattle.words.proofs.Plain.{length-drop, take-all}
+use Rattle.text_spec.specs.{Decimal.decimal, Text.hexOf}
 use Rattle.stream_spec.specs.Blocks.{Puts}
 use Rattle.text_words_spec.specs.Words.{pieces, PieceAt, Spelt}
 use Rattle.text_words_spec.proofs.Pieces.{pieces-more, pieces-single, more-two, more-first, more-rest}
 use Rattle.text_words_spec.proofs.Spelling.{spelt-plain}
-use Rattle.line_spec.specs.declared.Parsed.the-variants.{Pair, Line}
-use Rattle.line_spec.specs.Line.{FieldsSays}
+use Rattle.line_spec.specs.{declared.Parsed.the-variants.Pair, declared.Parsed.the-variants.Line, Line.FieldsSays}
 use Rattle.desk_spec.specs.Questions.{ReadsReading, ReadsPair, ReadsNumbers, Replies}
-use Rattle.desk_spec.specs.declared.Both.{Both}
-use Rattle.desk_spec.specs.Answers.{BothSays, blank}
+use Rattle.desk_spec.specs.{declared.Both.Both, Answers.BothSays, Answers.blank}
 use Rattle.desk_texts_inner.specs.Says.{deskRoom}
 use Rattle.desk_texts_inner.proofs.Putting.{put-as}
 use Rattle.desk_words_inner.specs.declared.Head.the-variants.{Number, Malformed}

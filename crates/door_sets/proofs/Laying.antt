@@ -2,20 +2,11 @@
 --     laid-room       the output has another length
 --     laid-set        the places were copied to the output, which has as many bytes
 --     laid-refused    the output has its length, and the set was refused
-use Prim.Native.Nat.{ℕ}
-use mathlib.Core.Path.{_≡_, refl, sym, _∙_}
-use mathlib.Core.Bool.{Bool}
-use mathlib.Core.Logic.{inl, inr}
-use mathlib.Core.List.{List, _++_}
-use lib.ListN.{length, take, drop}
+use Rattle.words.proofs.Plain.{ℕ, _≡_, refl, sym, _∙_, inl, inr, Bool, List, _++_, length, take, drop}
 use Rattle.word_copy_laws.proofs.Copy.{copied}
-use Rattle.refusal.specs.declared.Refusal.{Refusal}
-use Rattle.refusal.specs.declared.Refusal.the-variants.{Room}
-use Rattle.refusal.specs.Order.{Given}
-use Rattle.set_pick_spec.specs.Order.{setOrder}
-use Rattle.set_pick_spec.specs.Says.{SetChosen}
-use Rattle.door_spec.specs.declared.SetLaid.the-variants.{Set, Refused}
-use Rattle.door_spec.specs.Sets.{LaidSays}
+use Rattle.refusal.specs.{declared.Refusal.Refusal, declared.Refusal.the-variants.Room, Order.Given}
+use Rattle.set_pick_spec.specs.{Order.setOrder, Says.SetChosen}
+use Rattle.door_spec.specs.{declared.SetLaid.the-variants.Set, declared.SetLaid.the-variants.Refused, Sets.LaidSays}
 
 -- the output has another length
 pub laid-room : (n k d want : ℕ) (ts : List (List ℕ)) (o : List ℕ) → (length o ≡ 768 → ⊥) → LaidSays n k d want ts o (Refused Room) o

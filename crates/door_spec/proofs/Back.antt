@@ -3,26 +3,17 @@
 --     good, goodClass, ..    the answer of a form that is no refusal
 --     back                   an answer of numbers read back: its refusal, or what it answers
 --     NAME-back              read back, the form of an answer is that answer
-use Prim.Native.Nat.{ℕ}
-use mathlib.Core.Path.{_≡_, refl}
-use mathlib.Core.Bool.{Bool, true, false}
-use mathlib.Core.List.{List, [], _∷_}
-use lib.ListN.{getD}
-use lib.Dec.{eqb}
-use Rattle.refusal.specs.declared.Refusal.{Refusal}
+use Rattle.words.proofs.Plain.{ℕ, _≡_, refl, Bool, true, false, List, [], _∷_, eqb, getD}
+use Rattle.refusal.specs.{declared.Refusal.Refusal, Numbers.numberOf, Numbers.placeOf}
 use Rattle.refusal.specs.declared.Refusal.the-variants.{Length, Shades, Sector, Room, OffWalk, Counts, Cut, Mark, NotHome, Pair, Line, TooMany, Set, Card, Unreadable, Retired, Padding}
-use Rattle.refusal.specs.Numbers.{numberOf, placeOf}
 use Rattle.rings.specs.declared.Class.{Class}
 use Rattle.rings.specs.declared.Class.the-variants.{Loose, Opening, Repeating, Single}
 use Rattle.classify_spec.specs.declared.Classified.{Classified}
 use Rattle.classify_spec.specs.declared.Classified.the-variants as K
-use Rattle.home_spec.specs.declared.Homed.{Homed}
+use Rattle.home_spec.specs.{declared.Homed.Homed, declared.Told.Told, declared.Distance.Distance, declared.Closest.Closest}
 use Rattle.home_spec.specs.declared.Homed.the-variants as H
-use Rattle.home_spec.specs.declared.Told.{Told}
 use Rattle.home_spec.specs.declared.Told.the-variants as T
-use Rattle.home_spec.specs.declared.Distance.{Distance}
 use Rattle.home_spec.specs.declared.Distance.the-variants as D
-use Rattle.home_spec.specs.declared.Closest.{Closest}
 use Rattle.home_spec.specs.declared.Closest.the-variants as M
 use Rattle.sight_spec.specs.declared.Sighting.{Sighting}
 use Rattle.sight_spec.specs.declared.Sighting.the-variants as Y
@@ -30,23 +21,19 @@ use Rattle.walk_spec.specs.declared.Outcome.{Outcome}
 use Rattle.walk_spec.specs.declared.Outcome.the-variants as O
 use Rattle.walk_bracelet_spec.specs.declared.Arrival.{Arrival}
 use Rattle.walk_bracelet_spec.specs.declared.Arrival.the-variants as B
-use Rattle.shades_spec.specs.declared.FirstAnswer.{FirstAnswer}
+use Rattle.shades_spec.specs.{declared.FirstAnswer.FirstAnswer, declared.NextAnswer.NextAnswer}
 use Rattle.shades_spec.specs.declared.FirstAnswer.the-variants as F
-use Rattle.shades_spec.specs.declared.NextAnswer.{NextAnswer}
 use Rattle.shades_spec.specs.declared.NextAnswer.the-variants as X
-use Rattle.record_spec.specs.declared.Kind.{Kind}
-use Rattle.record_spec.specs.declared.Kind.the-variants.{Front, Packed}
-use Rattle.record_spec.specs.declared.Entry.{Entry}
+use Rattle.record_spec.specs.{declared.Kind.Kind, declared.Kind.the-variants.Front, declared.Kind.the-variants.Packed}
+use Rattle.record_spec.specs.{declared.Entry.Entry, declared.Written.Written}
 use Rattle.record_spec.specs.declared.Entry.the-variants as E
-use Rattle.record_spec.specs.declared.Written.{Written}
 use Rattle.record_spec.specs.declared.Written.the-variants as W
 use Rattle.converter_spec.specs.declared.Conversion.{Conversion}
 use Rattle.converter_spec.specs.declared.Conversion.the-variants as C
 use Rattle.density_spec.specs.declared.Sector.{Sector as Reflectance}
 use Rattle.density_spec.specs.declared.Sector.the-variants.{Shade, Outside, NotANumber}
-use Rattle.density_spec.specs.declared.SectorRead.{SectorRead}
+use Rattle.density_spec.specs.{declared.SectorRead.SectorRead, declared.RingRead.RingRead}
 use Rattle.density_spec.specs.declared.SectorRead.the-variants as S
-use Rattle.density_spec.specs.declared.RingRead.{RingRead}
 use Rattle.density_spec.specs.declared.RingRead.the-variants as R
 use Rattle.strip_spec.specs.declared.Written.{Written as StripWritten}
 use Rattle.strip_spec.specs.declared.Written.the-variants as L
@@ -54,14 +41,9 @@ use Rattle.strip_spec.specs.declared.Position.{Position}
 use Rattle.strip_spec.specs.declared.Position.the-variants as P
 use Rattle.how_many_spec.specs.declared.Counted.{Counted}
 use Rattle.how_many_spec.specs.declared.Counted.the-variants as N
-use Rattle.door_spec.specs.declared.RingsAnswer.{RingsAnswer}
-use Rattle.door_spec.specs.declared.RingsClass.{RingsClass}
-use Rattle.door_spec.specs.declared.RingsHome.{RingsHome}
-use Rattle.door_spec.specs.declared.RingsSighting.{RingsSighting}
-use Rattle.door_spec.specs.declared.RingsStep.{RingsStep}
-use Rattle.door_spec.specs.declared.RingsRecord.{RingsRecord}
-use Rattle.door_spec.specs.declared.RingsSector.{RingsSector}
-use Rattle.door_spec.specs.declared.RingsSet.{RingsSet}
+use Rattle.door_spec.specs.{declared.RingsAnswer.RingsAnswer, declared.RingsClass.RingsClass, declared.RingsHome.RingsHome}
+use Rattle.door_spec.specs.{declared.RingsSighting.RingsSighting, declared.RingsStep.RingsStep}
+use Rattle.door_spec.specs.{declared.RingsRecord.RingsRecord, declared.RingsSector.RingsSector, declared.RingsSet.RingsSet}
 use Rattle.door_spec.specs.declared.SetLaid.{SetLaid}
 use Rattle.door_spec.specs.declared.SetLaid.the-variants as G
 use Rattle.door_spec.specs.Flat.{flatTold, flatDistance, flatArrival, flatFirst, flatNext, flatWritten, flatConversion, flatRingRead, flatStrip, flatPosition, flatCounted}

@@ -3,16 +3,10 @@
 --     one-flat-out      a call with one
 --     one-laid          a set that is written to an output
 --     one-c-NAME        the function rings_NAME
-use Prim.Native.Nat.{ℕ}
-use mathlib.Core.Path.{_≡_, refl, sym, ap, _∙_}
-use mathlib.Core.Bool.{Bool}
-use mathlib.Core.List.{List}
-use lib.ListN.{length}
+use Rattle.words.proofs.Plain.{ℕ, _≡_, refl, sym, ap, _∙_, Bool, List, length}
 use lib.Ieee.{Float}
 use Rattle.rings.specs.Alike.{evenHanded, sameRing}
-use Rattle.refusal.specs.declared.Refusal.{Refusal}
-use Rattle.refusal.specs.Order.{Given}
-use Rattle.refusal.specs.Calls.{oneReading, twoReadings}
+use Rattle.refusal.specs.{declared.Refusal.Refusal, Order.Given, Calls.oneReading, Calls.twoReadings}
 use Rattle.refusal.proofs.Unique.{one-refusal, never-both}
 use Rattle.classify_spec.specs.Says.{ClassifySays}
 use Rattle.classify_spec.proofs.Unique.{one-answer}
@@ -24,11 +18,8 @@ use Rattle.walk_reading_spec.specs.Says.{StepFromSays, BraceletFromSays}
 use Rattle.walk_reading_spec.proofs.Unique.{one-step-from, one-bracelet-from}
 use Rattle.shades_spec.specs.Answers.{FirstSays, NextSays}
 use Rattle.shades_spec.proofs.Unique.{one-first, one-next}
-use Rattle.record_spec.specs.declared.Kind.{Kind}
-use Rattle.record_spec.specs.Says.{ReadSays}
-use Rattle.record_spec.specs.Writes.{WriteSays}
-use Rattle.record_spec.proofs.Unique.{one-read}
-use Rattle.record_spec.proofs.Wrote.{one-write}
+use Rattle.record_spec.specs.{declared.Kind.Kind, Says.ReadSays, Writes.WriteSays}
+use Rattle.record_spec.proofs.{Unique.one-read, Wrote.one-write}
 use Rattle.converter_spec.specs.Converts.{ConvertSays}
 use Rattle.converter_spec.proofs.Unique.{one-convert}
 use Rattle.density_spec.specs.Says.{SectorSays, RingSays}
@@ -39,16 +30,10 @@ use Rattle.how_many_spec.specs.Says.{CountSays}
 use Rattle.how_many_spec.proofs.Unique.{one-count}
 use Rattle.set_pick_spec.specs.Order.{Askable, setOrder}
 use Rattle.set_pick_spec.proofs.Unique.{askable-passed}
-use Rattle.door_spec.specs.declared.RingsAnswer.{RingsAnswer}
-use Rattle.door_spec.specs.declared.RingsClass.{RingsClass}
-use Rattle.door_spec.specs.declared.RingsHome.{RingsHome}
-use Rattle.door_spec.specs.declared.RingsNearest.{RingsNearest}
-use Rattle.door_spec.specs.declared.RingsSighting.{RingsSighting}
-use Rattle.door_spec.specs.declared.RingsStep.{RingsStep}
-use Rattle.door_spec.specs.declared.RingsRecord.{RingsRecord}
-use Rattle.door_spec.specs.declared.RingsSector.{RingsSector}
-use Rattle.door_spec.specs.declared.RingsSet.{RingsSet}
-use Rattle.door_spec.specs.declared.SetLaid.{SetLaid}
+use Rattle.door_spec.specs.{declared.RingsAnswer.RingsAnswer, declared.RingsClass.RingsClass, declared.RingsHome.RingsHome}
+use Rattle.door_spec.specs.{declared.RingsNearest.RingsNearest, declared.RingsSighting.RingsSighting}
+use Rattle.door_spec.specs.{declared.RingsStep.RingsStep, declared.RingsRecord.RingsRecord}
+use Rattle.door_spec.specs.{declared.RingsSector.RingsSector, declared.RingsSet.RingsSet, declared.SetLaid.SetLaid}
 use Rattle.door_spec.specs.declared.SetLaid.the-variants.{Set, Refused}
 use Rattle.door_spec.specs.Flat.{Flat, flatTold, flatDistance, flatArrival, flatFirst, flatNext, flatWritten, flatConversion, flatRingRead, flatStrip, flatPosition, flatCounted}
 use Rattle.door_spec.specs.Flat.{flatClassified, flatHomed, flatClosest, flatSighting, flatOutcome, flatEntry, cardOf, flatSectorRead, flatLaid}

@@ -1,24 +1,14 @@
 -- What stands behind the last record, where it was placed.
 --     end-read, end-move                       of a good catalogue
 --     damage-short, damage-read, damage-move   of a damaged one
-use Prim.Native.Nat.{ℕ, _+_, _^_, _<_, _≤_}
-use mathlib.Core.Path.{_≡_, refl}
-use mathlib.Core.List.{List, []}
-use native.Mathlib.Omega.{arith}
-use lib.ListN.{length}
-use Rattle.text_spec.specs.Put.{Placed}
-use Rattle.text_spec.proofs.Put.{length-two}
-use Rattle.text_spec.proofs.Digits.{length-decimal}
-use Rattle.text_spec.specs.Ascii.{ascii}
-use Rattle.text_spec.specs.Text.{twoNumbers}
-use Rattle.refusal.specs.declared.Refusal.{Refusal}
-use Rattle.refusal.specs.declared.Checked.{Checked}
+use Rattle.words.proofs.Plain.{ℕ, _+_, _^_, _<_, _≤_, arith, _≡_, refl, List, [], length}
+use Rattle.text_spec.specs.{Put.Placed, Ascii.ascii, Text.twoNumbers}
+use Rattle.text_spec.proofs.{Put.length-two, Digits.length-decimal}
+use Rattle.refusal.specs.{declared.Refusal.Refusal, declared.Checked.Checked, Numbers.numberOf, Numbers.placeOf}
 use Rattle.refusal.specs.declared.Checked.the-variants as C
-use Rattle.refusal.specs.Numbers.{numberOf, placeOf}
 use Rattle.stream_spec.specs.Blocks.{Puts}
-use Rattle.files_spec.specs.declared.Job.{Job}
+use Rattle.files_spec.specs.{declared.Job.Job, Shows.lastText}
 use Rattle.files_spec.specs.declared.Job.the-variants as J
-use Rattle.files_spec.specs.Shows.{lastText}
 use Rattle.files_end_inner.specs.Room.{endRoom}
 
 pub damage-short : (x p : ℕ) → x < 10 ^ 20 → p < 10 ^ 20 → length (twoNumbers (ascii "refused ") x (ascii " at ") p) ≤ endRoom

@@ -1,26 +1,16 @@
 -- What becomes of a block.
 --     taken-room, taken-turn           a block that was gone through
 --     turn-is-on, turn-is-done, turn-is-stopped    what the code answers
-use Prim.Native.Nat.{ℕ, _+_, _*_, _≤_}
-use mathlib.Core.Path.{_≡_, refl, sym, ap, _∙_}
-use mathlib.Core.Bool.{Bool}
-use mathlib.Core.List.{List}
-use native.Mathlib.Omega.{arith}
-use lib.ListN.{length, take, drop}
-use lib.Seq.{sets-eq, take-at}
+use Rattle.words.proofs.Plain.{ℕ, _+_, _*_, _≤_, arith, _≡_, refl, sym, ap, _∙_, Bool, List, length, take, drop, sets-eq, take-at}
 use Rattle.refusal.specs.declared.Refusal.{Refusal}
 use Rattle.program_ending_inner.specs.declared.Ending.{Ending}
 use Rattle.program_passes_inner.specs.Passes.{Course}
 use Rattle.program_passes_inner.specs.Passes.Course.{On, Done, Stopped}
-use Rattle.files_spec.specs.declared.Job.{Job}
-use Rattle.files_spec.specs.declared.How.{How}
+use Rattle.files_spec.specs.{declared.Job.Job, declared.How.How, declared.Taken.Taken, Blocks.TakeSays}
 use Rattle.files_spec.specs.declared.How.the-variants as H
-use Rattle.files_spec.specs.declared.Taken.{Taken}
-use Rattle.files_spec.specs.Blocks.{TakeSays}
 use Rattle.files_text_inner.specs.Room.{recordRoom}
 use Rattle.files_records_inner.specs.Says.{share}
-use Rattle.files_time_inner.specs.declared.Time.{Time}
-use Rattle.files_time_inner.specs.Says.{refusedOf}
+use Rattle.files_time_inner.specs.{declared.Time.Time, Says.refusedOf}
 use Rattle.files_pass_inner.specs.Says.{SmallFile, turnOf, FileTurnSays}
 use Rattle.files_pass_inner.specs.Says.FileTurnSays.{gone}
 

@@ -3,34 +3,22 @@
 --     reached-none                     before the first block
 --     at-on, at-ends, at-within        behind a block: another is read, or none
 --     written-told, through-written    how both times ended
-use Prim.Native.Nat.{ℕ, _+_, _*_, _<_, _≤_}
-use mathlib.Core.Path.{_≡_, refl, sym, ap, _∙_}
-use mathlib.Core.Logic.{_⊎_, inl, inr}
-use mathlib.Core.Bool.{Bool, true, false, true≢false}
-use mathlib.Core.List.{List, [], _++_}
-use native.Mathlib.Omega.{arith}
-use lib.Dec.{eqb}
-use lib.ListN.{length, take, drop, length-append, length-take, length-drop}
-use borrow.Author.Tests.{eqb-true}
+use Rattle.words.proofs.Plain.{ℕ, _+_, _*_, _<_, _≤_, arith, _≡_, refl, sym, ap, _∙_, _⊎_, inl, inr, Bool, true, false, true≢false, List, [], _++_, eqb, length}
+use Rattle.words.proofs.Plain.{take, drop, length-append, length-take, length-drop, eqb-true}
 use Rattle.words.proofs.Split.{passes, fails, test}
-use Rattle.refusal.specs.declared.Refusal.{Refusal}
+use Rattle.refusal.specs.{declared.Refusal.Refusal, Numbers.numberOf, Numbers.placeOf}
 use Rattle.refusal.specs.declared.Checked.the-variants as C
-use Rattle.refusal.specs.Numbers.{numberOf, placeOf}
 use Rattle.program_ending_inner.specs.declared.Ending.{Ending}
 use Rattle.program_ending_inner.specs.declared.Ending.the-variants as E
 use Rattle.program_passes_inner.specs.Passes.{limit, sameEnd, Course, goesFurther, EndWithin, finishAt}
 use Rattle.program_passes_inner.specs.Passes.Course.{On, Done, Stopped}
 use Rattle.program_passes_inner.proofs.Courses.{too-far}
-use Rattle.files_spec.specs.declared.Job.{Job}
-use Rattle.files_spec.specs.declared.How.{How}
+use Rattle.files_spec.specs.{declared.Job.Job, declared.How.How, declared.Taken.Taken, Shows.lastText}
 use Rattle.files_spec.specs.declared.How.the-variants as H
-use Rattle.files_spec.specs.declared.Taken.{Taken}
-use Rattle.files_spec.specs.Shows.{lastText}
 use Rattle.files_spec.specs.Blocks.{Records, none, BadRecord, Left, TakenSays}
 use Rattle.files_spec.proofs.Cut.{records-joined, told-over, told-bad}
-use Rattle.files_time_inner.specs.declared.Time.{Time}
+use Rattle.files_time_inner.specs.{declared.Time.Time, Says.fileFailedOf, Says.refusedOf}
 use Rattle.files_time_inner.specs.declared.Time.the-variants.{Only, First, Second}
-use Rattle.files_time_inner.specs.Says.{fileFailedOf, refusedOf}
 use Rattle.files_pass_inner.specs.Says.{most, RoomyFile, turnOf, FileTurnSays, FileAtSays}
 use Rattle.files_pass_inner.specs.Says.FileTurnSays.{gone, unwritten}
 use Rattle.files_pass_inner.specs.Says.FileAtSays.{unread, read}

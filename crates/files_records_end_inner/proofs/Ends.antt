@@ -1,17 +1,11 @@
 -- Where a block is as far as it goes.
 --     enough-none, enough-last, enough-short, enough-long    is another record read?
 --     finish-over, finish-on     behind the last record
-use Prim.Native.Nat.{ℕ, zero, suc, _+_, _<_, _≤_}
-use mathlib.Core.Path.{_≡_, refl}
-use mathlib.Core.Bool.{Bool, true, false}
-use mathlib.Core.List.{List, []}
-use native.Mathlib.Omega.{arith}
+use Rattle.words.proofs.Plain.{ℕ, zero, suc, _+_, _<_, _≤_, arith, _≡_, refl, Bool, true, false, List, []}
 use Rattle.refusal.specs.declared.Checked.the-variants as C
 use Rattle.stream_spec.specs.Blocks.{Puts}
-use Rattle.files_spec.specs.declared.Job.{Job}
+use Rattle.files_spec.specs.{declared.Job.Job, declared.Taken.Taken, Shows.lastText}
 use Rattle.files_spec.specs.declared.How.the-variants as H
-use Rattle.files_spec.specs.declared.Taken.{Taken}
-use Rattle.files_spec.specs.Shows.{lastText}
 use Rattle.files_end_inner.specs.Room.{endRoom}
 use Rattle.files_records_end_inner.specs.Says.{EnoughSays, leftOf, RecordsStopSays}
 

@@ -6,40 +6,26 @@
 --     going-room, going-stop     there is room; and where no other is read
 --     left-over, left-bad        why no other is read
 --     turn-size, turn-on, turn-same, turn-stop, turn-over    a turn, by what it gave
-use Prim.Native.Nat.{ℕ, _+_, _-_, _*_, _<_, _≤_}
-use mathlib.Core.Path.{_≡_, refl, sym, ap, subst, _∙_}
-use mathlib.Core.Bool.{Bool, true, false}
-use mathlib.Core.List.{List, [], _∷_, _++_}
-use native.Mathlib.Omega.{arith}
-use lib.ListN.{length, take, drop, length-append, length-take, length-drop}
-use lib.Seq.{take-add, take-all}
+use Rattle.words.proofs.Plain.{ℕ, _+_, _-_, _*_, _<_, _≤_, arith, _≡_, refl, sym, ap, subst, _∙_, Bool, true, false, List, [], _∷_, _++_, length, take, drop}
+use Rattle.words.proofs.Plain.{length-append, length-take, length-drop, take-add, take-all}
 use Rattle.words.proofs.Split.{lt, eq, gt, tri}
 use Rattle.text_spec.specs.Put.{Placed}
 use Rattle.text_spec.proofs.Put.{placed-none, placed-append, placed-length}
-use Rattle.refusal.specs.declared.Refusal.{Refusal}
-use Rattle.refusal.specs.Order.{Given}
-use Rattle.record_spec.specs.declared.Kind.{Kind}
-use Rattle.record_spec.specs.declared.Entry.{Entry}
+use Rattle.refusal.specs.{declared.Refusal.Refusal, Order.Given}
+use Rattle.record_spec.specs.{declared.Kind.Kind, declared.Entry.Entry, Order.recordOrder, Says.Read, Says.ReadSays}
 use Rattle.record_spec.specs.declared.Entry.the-variants as E
 use Rattle.record_spec.specs.Layout.{bodyLength, nOf, kOf}
-use Rattle.record_spec.specs.Order.{recordOrder}
-use Rattle.record_spec.specs.Says.{Read, ReadSays}
 use Rattle.record_body_inner.specs.Steps.{RecordSays}
-use Rattle.record_spec.proofs.Forms.{some-bytes}
-use Rattle.record_spec.proofs.Rounds.{length-answer, answer-passes}
+use Rattle.record_spec.proofs.{Forms.some-bytes, Rounds.length-answer, Rounds.answer-passes}
 use Rattle.stream_spec.specs.Blocks.{Puts}
-use Rattle.files_spec.specs.declared.Job.{Job}
-use Rattle.files_spec.specs.declared.How.{How}
+use Rattle.files_spec.specs.{declared.Job.Job, declared.How.How, declared.Taken.Taken, Shows.Shows}
 use Rattle.files_spec.specs.declared.How.the-variants as H
-use Rattle.files_spec.specs.declared.Taken.{Taken}
-use Rattle.files_spec.specs.Shows.{Shows}
 use Rattle.files_spec.specs.Blocks.{One, Records, none, more, Enough, BadRecord, Left, TakenSays, TakeSays}
 use Rattle.files_spec.proofs.Joined.{read-own}
 use Rattle.files_text_inner.specs.Room.{recordRoom, Answered}
 use Rattle.files_records_end_inner.specs.Says.{EnoughSays, leftOf, BehindText, RecordsStopSays}
-use Rattle.files_records_inner.specs.declared.Step.{Step}
+use Rattle.files_records_inner.specs.{declared.Step.Step, Says.share, Says.RecordStepSays}
 use Rattle.files_records_inner.specs.declared.Step.the-variants as S
-use Rattle.files_records_inner.specs.Says.{share, RecordStepSays}
 
 -- ---- a record
 

@@ -5,31 +5,19 @@
 --     cut-anyhow           so two runs of one catalogue have one verdict and show one text
 --     records-joined       records of two blocks
 --     told-over, told-bad  a catalogue that is good records, and one in which bytes that are refused stand behind them
-use Prim.Native.Nat.{ℕ, _+_, _<_, _≤_}
-use mathlib.Core.Path.{_≡_, refl, sym, ap, subst, _∙_}
-use mathlib.Core.Bool.{Bool, true, false, true≢false}
-use mathlib.Core.Logic.{inl, inr}
-use mathlib.Core.List.{List, [], _++_, append-assoc, append-nil}
-use native.Mathlib.Omega.{arith}
-use lib.ListN.{length, take, drop, replicate, length-append, length-drop, length-take, take-append-drop, drop-of-length-le}
-use lib.Seq.{take-all, take-take, drop-drop, drop-at}
-use Rattle.refusal.specs.declared.Refusal.{Refusal}
-use Rattle.refusal.specs.declared.Checked.{Checked}
+use Rattle.words.proofs.Plain.{ℕ, _+_, _<_, _≤_, arith, _≡_, refl, sym, ap, subst, _∙_, inl, inr, Bool, true, false, true≢false, List, [], _++_, append-assoc}
+use Rattle.words.proofs.Plain.{append-nil, length, take, drop, replicate, length-append, length-drop, length-take, take-append-drop, drop-of-length-le}
+use Rattle.words.proofs.Plain.{take-all, take-take, drop-drop, drop-at}
+use Rattle.refusal.specs.{declared.Refusal.Refusal, declared.Checked.Checked, Order.Given}
 use Rattle.refusal.specs.declared.Checked.the-variants as C
-use Rattle.refusal.specs.Order.{Given}
 use Rattle.record_spec.specs.declared.Entry.the-variants as E
-use Rattle.record_spec.specs.Order.{recordOrder}
-use Rattle.record_spec.specs.Says.{ReadSays}
+use Rattle.record_spec.specs.{Order.recordOrder, Says.ReadSays}
 use Rattle.record_spec.proofs.Only.{drop-take}
-use Rattle.files_spec.specs.declared.Job.{Job}
-use Rattle.files_spec.specs.declared.How.{How}
+use Rattle.files_spec.specs.{declared.Job.Job, declared.How.How, declared.Taken.Taken, Shows.lastText}
 use Rattle.files_spec.specs.declared.How.the-variants.{On, Over, Refused}
-use Rattle.files_spec.specs.declared.Taken.{Taken}
-use Rattle.files_spec.specs.Shows.{lastText}
 use Rattle.files_spec.specs.Catalogues.{Through, over, bad, further, ShowsAll}
 use Rattle.files_spec.specs.Blocks.{One, Records, none, more, BadRecord, Left, TakenSays, fileBlock, FileReaches, verdictOf, Blockwise, part, rest}
-use Rattle.files_spec.proofs.Unique.{one-tells}
-use Rattle.files_spec.proofs.Joined.{read-joined, given-joined}
+use Rattle.files_spec.proofs.{Unique.one-tells, Joined.read-joined, Joined.given-joined}
 
 -- ---- good records
 
@@ -123,8 +111,7 @@ run-through j c p v t l (rest m last w x q s k) =
     let f = s .place in
     let i = inside c p m (w .used) (s .inside) l in
     let h = rw f at (s .left) in
-    rw (s .whole)
-    (taken-through c p m (w .used) (s .inside) j (s .shown) v (s .behind) (s .records)
+    rw (s .whole) (taken-through c p m (w .used) (s .inside) j (s .shown) v (s .behind) (s .records)
     (left-through j c (p + w .used) (drop (w .used) (fileBlock c p m)) (drop m (drop p c)) last (w .how) v (s .behind) i
     (behind c p m (w .used) (s .inside)) (nothing c p m (w .used) (s .inside) last q) h k))
 

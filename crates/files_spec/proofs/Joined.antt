@@ -2,24 +2,15 @@
 --     read-joined, read-parted    a record that bytes a hold is read as it is where bytes follow a, and the other way round
 --     read-own                    so the bytes that a record takes are read as it is
 --     given-joined                of 68 bytes or more a refusal does not depend on what follows
-use Prim.Native.Nat.{ℕ, _+_, _<_, _≤_}
-use mathlib.Core.Path.{_≡_, refl, sym, ap, _∙_}
-use mathlib.Core.Logic.{_⊎_, inl, inr}
-use mathlib.Core.Option.{Option, none, some}
-use mathlib.Core.List.{List, [], _++_}
-use native.Mathlib.Omega.{arith}
-use lib.ListN.{length, getD, take, drop, length-append, length-drop, length-take, take-append-drop, List·getD-append}
-use lib.Seq.{take-append-le, drop-append-le}
-use Rattle.refusal.specs.declared.Refusal.{Refusal}
-use Rattle.refusal.specs.Order.{Passed, Given}
+use Rattle.words.proofs.Plain.{ℕ, _+_, _<_, _≤_, arith, _≡_, refl, sym, ap, _∙_, _⊎_, inl, inr, Option, none, some, List, [], _++_, length, getD, take, drop}
+use Rattle.words.proofs.Plain.{length-append, length-drop, length-take, take-append-drop, List·getD-append, take-append-le, drop-append-le}
+use Rattle.refusal.specs.{declared.Refusal.Refusal, Order.Passed, Order.Given}
 use Rattle.refusal.proofs.Unique.{one-refusal, never-both}
 use Rattle.refusal.proofs.Tests.{Answers, answer, answered}
-use Rattle.record_spec.specs.declared.Kind.{Kind}
+use Rattle.record_spec.specs.{declared.Kind.Kind, Says.Read}
 use Rattle.record_spec.specs.Layout.{Marked, MarkedBack, kindByMark, bodyLength, nOf, kOf, bodyOf, storedRing}
 use Rattle.record_spec.specs.Order.{Known, recordOrder, GoodRecord}
-use Rattle.record_spec.specs.Says.{Read}
-use Rattle.record_spec.proofs.Forms.{kind-is, behind-passed}
-use Rattle.record_spec.proofs.Answer.{recordTests}
+use Rattle.record_spec.proofs.{Forms.kind-is, Forms.behind-passed, Answer.recordTests}
 use Rattle.record_spec.proofs.Only.{opening, opening-record, opening-given}
 
 module _ (a y : List ℕ) (x : Kind) (h : 4 + bodyLength x (nOf a) (kOf a) ≤ length a) where

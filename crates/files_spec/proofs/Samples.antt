@@ -1,13 +1,9 @@
 -- What records show, and what stands behind the last one, written out by hand: request k's ring 001011, as a front record 52 46 06 02 00 00 01 00 01 01 and as a packed one
 -- 52 50 06 02 2C.
-use Prim.Native.Nat.{ℕ}
-use mathlib.Core.Path.{_≡_, refl, _∙_}
-use mathlib.Core.List.{List, [], _∷_}
+use Rattle.words.proofs.Plain.{ℕ, _≡_, refl, _∙_, List, [], _∷_}
 use Rattle.rings.specs.Open.{open-all}
 use Rattle.packing_spec.specs.Open.{open-packing}
-use Rattle.text_spec.specs.Ascii.{ascii}
-use Rattle.text_spec.specs.Decimal.{decimalIn, decimal}
-use Rattle.text_spec.specs.Text.{twoNumbers}
+use Rattle.text_spec.specs.{Ascii.ascii, Decimal.decimalIn, Decimal.decimal, Text.twoNumbers}
 use Rattle.text_fill_spec.specs.Filled.{filledText}
 use Rattle.refusal.specs.declared.Refusal.the-variants.{NotHome}
 use Rattle.refusal.specs.declared.Checked.the-variants.{Good, Refused}

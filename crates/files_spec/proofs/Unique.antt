@@ -5,23 +5,12 @@
 --     same-entry        the reader has one answer, whatever its output held before
 --     one-through       so has what is left from a place on
 --     one-tells         and a whole catalogue
-use Prim.Native.Nat.{ℕ, _+_}
-use mathlib.Core.Path.{_≡_, refl, sym, ap, subst, _∙_}
-use mathlib.Core.List.{List, [], _++_, append-nil}
-use native.Mathlib.Omega.{arith}
-use lib.ListN.{length, take, drop, drop-of-length-le}
-use Rattle.refusal.specs.declared.Refusal.{Refusal}
-use Rattle.refusal.specs.declared.Checked.{Checked}
+use Rattle.words.proofs.Plain.{ℕ, _+_, arith, _≡_, refl, sym, ap, subst, _∙_, List, [], _++_, append-nil, length, take, drop, drop-of-length-le}
+use Rattle.refusal.specs.{declared.Refusal.Refusal, declared.Checked.Checked, Order.Passed, Calls.oneReading}
 use Rattle.refusal.specs.declared.Checked.the-variants as C
-use Rattle.refusal.specs.Order.{Passed}
-use Rattle.refusal.specs.Calls.{oneReading}
-use Rattle.record_spec.specs.declared.Kind.{Kind}
-use Rattle.record_spec.specs.declared.Entry.{Entry}
+use Rattle.record_spec.specs.{declared.Kind.Kind, declared.Entry.Entry, Layout.bodyLength, Says.ReadSays}
 use Rattle.record_spec.specs.declared.Entry.the-variants.{Record, End, Refused}
-use Rattle.record_spec.specs.Layout.{bodyLength}
-use Rattle.record_spec.specs.Says.{ReadSays}
-use Rattle.record_spec.proofs.Answer.{fixed}
-use Rattle.record_spec.proofs.Laws.{output-front}
+use Rattle.record_spec.proofs.{Answer.fixed, Laws.output-front}
 use Rattle.record_spec.proofs.Wrote.{recordBytes, length-record, bytes-placed, wrote-bytes}
 use Rattle.files_spec.specs.declared.Job.{Job}
 use Rattle.files_spec.specs.declared.Job.the-variants as J

@@ -2,23 +2,15 @@
 --     line-short, line-puts       a record's line has room, and is what a telling shows
 --     record-short, wrote-puts, bytes-puts    a record has room, what the writer wrote is its bytes, at their place, and that is what a move shows
 --     never-refused               a ring that passes the checks is not refused where there is room
-use Prim.Native.Nat.{ℕ, zero, suc, _+_, _^_, _<_, _≤_}
-use mathlib.Core.Path.{_≡_, refl, sym, ap, _∙_}
-use mathlib.Core.List.{List, [], _∷_, _++_, append-assoc}
-use native.Mathlib.Omega.{arith}
-use lib.ListN.{length, getD, take, drop, length-drop}
-use lib.Seq.{sets, sets-eq, drop-drop}
+use Rattle.words.proofs.Plain.{ℕ, zero, suc, _+_, _^_, _<_, _≤_, arith, _≡_, refl, sym, ap, _∙_, List, [], _∷_, _++_, append-assoc, length, getD, take, drop}
+use Rattle.words.proofs.Plain.{length-drop, sets, sets-eq, drop-drop}
 use Rattle.text_spec.specs.Put.{Placed}
 use Rattle.text_fill_spec.specs.Filled.{filledText, slots, longest}
 use Rattle.text_fill_spec.proofs.Laws.{filled-short}
-use Rattle.refusal.specs.declared.Refusal.{Refusal}
-use Rattle.refusal.specs.Order.{Passed, Given}
-use Rattle.refusal.specs.Calls.{oneReading}
+use Rattle.refusal.specs.{declared.Refusal.Refusal, Order.Passed, Order.Given, Calls.oneReading}
 use Rattle.refusal.proofs.Unique.{never-both}
-use Rattle.record_spec.specs.declared.Kind.{Kind}
-use Rattle.record_spec.specs.declared.Kind.the-variants.{Front, Packed}
-use Rattle.record_spec.specs.declared.Written.the-variants.{After, Refused}
-use Rattle.record_spec.specs.Layout.{bodyLength}
+use Rattle.record_spec.specs.{declared.Kind.Kind, declared.Kind.the-variants.Front, declared.Kind.the-variants.Packed}
+use Rattle.record_spec.specs.{declared.Written.the-variants.After, declared.Written.the-variants.Refused, Layout.bodyLength}
 use Rattle.record_spec.specs.Writes.{writeOrder, WriteSays}
 use Rattle.record_spec.proofs.Forms.{few-bytes}
 use Rattle.record_spec.proofs.Wrote.{recordBytes, length-record, wrote-bytes}

@@ -1,12 +1,8 @@
 -- What any program says of how its run ended has room.
 --     said-placed
-use Prim.Native.Nat.{ℕ, _≤_}
-use mathlib.Core.List.{List}
-use native.Mathlib.Omega.{arith}
-use lib.ListN.{length}
+use Rattle.words.proofs.Plain.{ℕ, _≤_, arith, List, length}
 use Rattle.text_spec.specs.Put.{Placed}
-use Rattle.program_ending_inner.specs.declared.Ending.{Ending}
-use Rattle.program_ending_inner.specs.Text.{endingText, SaySays}
+use Rattle.program_ending_inner.specs.{declared.Ending.Ending, Text.endingText, Text.SaySays}
 use Rattle.program_ending_inner.specs.Text.SaySays.{small, said}
 use Rattle.files_write_ending_inner.specs.Endings.{endedRoom}
 

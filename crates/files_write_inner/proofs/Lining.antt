@@ -1,15 +1,8 @@
 -- From byte to byte of a block.
 --     count-none, count-on, count-few, count-end    how many lines have ended
 --     block-refused                            the first refused line of a block
-use Prim.Native.Nat.{ℕ, _+_, _<_, _≤_}
-use mathlib.Core.Path.{_≡_}
-use mathlib.Core.Bool.{true, false}
-use mathlib.Core.List.{List, [], _∷_, _++_}
-use native.Mathlib.Omega.{arith}
-use native.Mathlib.Numerals.{add-one}
-use lib.Dec.{eqb}
-use lib.ListN.{length, getD, take, length-append}
-use lib.Seq.{take-suc, take-all}
+use Rattle.words.proofs.Plain.{ℕ, _+_, _<_, _≤_, add-one, arith, _≡_, true, false, List, [], _∷_, _++_, eqb, length, getD, take, length-append, take-suc}
+use Rattle.words.proofs.Plain.{take-all}
 use Rattle.words.proofs.Split.{passes, fails, test}
 use Rattle.text_spec.specs.Ascii.{newline}
 use Rattle.refusal.specs.declared.Refusal.{Refusal}

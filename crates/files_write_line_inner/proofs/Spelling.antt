@@ -1,26 +1,15 @@
 -- From a spelt reading to its line.
 --     no-spelt, spelt-answer                   by what the writer answered of a spelt reading
 --     line-long, line-headless, line-spelt     by what stands behind the number of shades
-use Prim.Native.Nat.{ℕ, _+_, _-_, _<_, _≤_}
-use mathlib.Core.Path.{_≡_, refl, ap, _∙_}
-use mathlib.Core.Logic.{inl, inr}
-use mathlib.Core.List.{List, [], _∷_, map}
-use native.Mathlib.Omega.{arith}
-use lib.ListN.{length, take, drop, length-drop}
-use Rattle.text_spec.specs.Decimal.{decimal}
-use Rattle.text_spec.specs.Text.{hexOf}
+use Rattle.words.proofs.Plain.{ℕ, _+_, _-_, _<_, _≤_, arith, _≡_, refl, ap, _∙_, inl, inr, List, [], _∷_, map, length, take, drop, length-drop}
+use Rattle.text_spec.specs.{Decimal.decimal, Text.hexOf}
 use Rattle.text_words_spec.specs.Words.{Spelt}
-use Rattle.text_words_spec.proofs.Pieces.{pieces-single}
-use Rattle.text_words_spec.proofs.Spelling.{spelt-plain}
+use Rattle.text_words_spec.proofs.{Pieces.pieces-single, Spelling.spelt-plain}
 use Rattle.refusal.specs.declared.Refusal.the-variants.{Line}
-use Rattle.record_spec.specs.declared.Kind.{Kind}
-use Rattle.record_spec.specs.declared.Written.{Written}
+use Rattle.record_spec.specs.{declared.Kind.Kind, declared.Written.Written, Writes.WriteSays}
 use Rattle.record_spec.specs.declared.Written.the-variants as W
-use Rattle.record_spec.specs.Writes.{WriteSays}
-use Rattle.desk_words_inner.specs.declared.Head.the-variants.{Number, Malformed}
-use Rattle.desk_words_inner.specs.Says.{HeadSays}
-use Rattle.desk_words_inner.proofs.Heads.{rest-words}
-use Rattle.desk_words_inner.proofs.Shapes.{rest-all, no-reading}
+use Rattle.desk_words_inner.specs.{declared.Head.the-variants.Number, declared.Head.the-variants.Malformed, Says.HeadSays}
+use Rattle.desk_words_inner.proofs.{Heads.rest-words, Shapes.rest-all, Shapes.no-reading}
 use Rattle.files_text_inner.specs.Room.{recordRoom}
 use Rattle.files_text_inner.proofs.Placing.{record-short, wrote-puts}
 use Rattle.files_write_spec.specs.RingLines.{RingLine, unread, given}

@@ -4,16 +4,9 @@
 --     line-on, line-done, line-stopped     behind a block
 --     through-once, stopped-once, written-through, both-through    how a time ended, and both
 --     handed-second                    only the second time a write can fail
-use Prim.Native.Nat.{ℕ, _+_, _*_, _<_, _≤_}
-use mathlib.Core.Path.{_≡_, refl, sym, ap, _∙_}
-use mathlib.Core.Logic.{_⊎_, inl, inr}
-use mathlib.Core.Bool.{Bool, true, false, true≢false}
-use mathlib.Core.List.{List, [], _∷_, _++_}
-use native.Mathlib.Omega.{arith}
+use Rattle.words.proofs.Plain.{ℕ, _+_, _*_, _<_, _≤_, arith, _≡_, refl, sym, ap, _∙_, _⊎_, inl, inr, Bool, true, false, true≢false, List, [], _∷_, _++_, eqb}
+use Rattle.words.proofs.Plain.{length, take, length-append, length-take, eqb-true}
 use native.Mathlib.Nat.{mul-le-mul-right}
-use lib.Dec.{eqb}
-use lib.ListN.{length, take, length-append, length-take}
-use borrow.Author.Tests.{eqb-true}
 use Rattle.words.proofs.Split.{passes, fails, test}
 use Rattle.text_spec.specs.Ascii.{newline}
 use Rattle.refusal.specs.declared.Refusal.{Refusal}
@@ -23,20 +16,17 @@ use Rattle.program_ending_inner.specs.declared.Ending.{Ending}
 use Rattle.program_ending_inner.specs.declared.Ending.the-variants as E
 use Rattle.program_passes_inner.specs.Passes.{sameEnd}
 use Rattle.files_text_inner.specs.Room.{recordRoom}
-use Rattle.files_write_spec.specs.Inputs.{LinesWrite, FirstRefused}
-use Rattle.files_write_spec.specs.RingLines.{mostKept}
+use Rattle.files_write_spec.specs.{Inputs.LinesWrite, Inputs.FirstRefused, RingLines.mostKept}
 use Rattle.files_write_spec.proofs.Cut.{Gone, gone-none, gone-on, gone-last, gone-refused, last-refused, gone-few}
 use Rattle.files_write_byte_inner.specs.declared.Lined.the-variants as L
 use Rattle.files_write_byte_inner.specs.Says.{LinedEnd}
 use Rattle.files_write_inner.specs.Says.{LinedSays}
 use Rattle.files_write_ending_inner.specs.declared.Time.{Time}
 use Rattle.files_write_ending_inner.specs.declared.Time.the-variants.{First, Second}
-use Rattle.files_write_ending_inner.specs.declared.Ended.{Ended}
-use Rattle.files_write_ending_inner.specs.declared.Ended.the-variants.{Line, As}
+use Rattle.files_write_ending_inner.specs.{declared.Ended.Ended, declared.Ended.the-variants.Line, declared.Ended.the-variants.As}
 use Rattle.files_write_ending_inner.specs.Endings.{lineRefusedOf, lineFailedOf, HandedOn}
-use Rattle.files_write_program_inner.specs.declared.Turn.{Turn}
+use Rattle.files_write_program_inner.specs.{declared.Turn.Turn, declared.Pass.Pass}
 use Rattle.files_write_program_inner.specs.declared.Turn.the-variants.{On, Done, Stopped}
-use Rattle.files_write_program_inner.specs.declared.Pass.{Pass}
 use Rattle.files_write_program_inner.specs.declared.Pass.the-variants as P
 use Rattle.files_write_program_inner.specs.Says.{RoomyLines, LinesThrough, LineStopSays, LinePassSays, LineWrittenSays}
 use Rattle.files_write_program_inner.specs.Says.{LineTurnSays, gone, bad, unwritten, LineLastSays, over, worse, unsaid}

@@ -6,16 +6,8 @@
 --     gone-none, gone-on, gone-few    no bytes yet, and a block more; no more lines end than there are bytes
 --     gone-last                       the end, where the line under way writes too, or there is none
 --     gone-refused, last-refused      a line that is refused: one that ends, and the last
-use Prim.Native.Nat.{ℕ, suc, _+_, _<_, _≤_}
-use mathlib.Core.Path.{_≡_, refl, sym, ap, subst, _∙_}
-use mathlib.Core.Bool.{true, false}
-use mathlib.Core.List.{List, [], _∷_, _++_, append-nil, append-assoc}
-use native.Mathlib.Omega.{arith}
-use native.Mathlib.Decide.{decLt}
-use lib.Dec.{eqb}
-use lib.ListN.{length, take, length-append, length-take}
-use lib.Seq.{take-all, take-take}
-use borrow.Author.Tests.{eq-eqb}
+use Rattle.words.proofs.Plain.{ℕ, suc, _+_, _<_, _≤_, arith, decLt, _≡_, refl, sym, ap, subst, _∙_, true, false, List, [], _∷_, _++_, append-nil, append-assoc}
+use Rattle.words.proofs.Plain.{eqb, length, take, length-append, length-take, take-all, take-take, eq-eqb}
 use Rattle.words.proofs.Split.{passes, fails, test}
 use Rattle.text_spec.specs.Ascii.{newline}
 use Rattle.refusal.specs.declared.Refusal.{Refusal}

@@ -2,17 +2,9 @@
 --     stands            a record that stands at a place of a catalogue might have been written there
 --     lines-homes       behind whatever stands in front
 --     written-homes     a whole input
-use Prim.Native.Nat.{ℕ, _+_, _≤_}
-use mathlib.Core.Path.{_≡_, refl, sym, ap, subst, _∙_}
-use mathlib.Core.List.{List, [], _∷_, _++_, append-assoc}
-use native.Mathlib.Omega.{arith}
-use lib.ListN.{length, drop, length-append}
-use lib.Seq.{drop-at}
-use Rattle.refusal.specs.Order.{Passed}
-use Rattle.refusal.specs.Calls.{oneReading}
-use Rattle.record_spec.specs.declared.Kind.{Kind}
-use Rattle.record_spec.specs.Layout.{bodyLength}
-use Rattle.record_spec.specs.Writes.{Wrote}
+use Rattle.words.proofs.Plain.{ℕ, _+_, _≤_, arith, _≡_, refl, sym, ap, subst, _∙_, List, [], _∷_, _++_, append-assoc, length, drop, length-append, drop-at}
+use Rattle.refusal.specs.{Order.Passed, Calls.oneReading}
+use Rattle.record_spec.specs.{declared.Kind.Kind, Layout.bodyLength, Writes.Wrote}
 use Rattle.record_spec.proofs.Wrote.{recordBytes, length-record, bytes-placed}
 use Rattle.record_spec.proofs.Rounds.{written-reads}
 use Rattle.stream_spec.specs.Lines.{lines}

@@ -6,15 +6,9 @@
 --     one-writes             an input writes one text
 --     one-refused-line       it has one first refused line, and one refusal of it
 --     never-both-input       and never both
-use Prim.Native.Nat.{ℕ, suc}
-use mathlib.Core.Path.{_≡_, refl, sym, ap, subst, _∙_}
-use mathlib.Core.List.{List, [], _∷_, _++_}
-use native.Mathlib.Omega.{arith}
-use lib.ListN.{length}
+use Rattle.words.proofs.Plain.{ℕ, suc, arith, _≡_, refl, sym, ap, subst, _∙_, List, [], _∷_, _++_, length}
 use Rattle.text_words_spec.proofs.Pieces.{first-same, behind-same}
-use Rattle.refusal.specs.declared.Refusal.{Refusal}
-use Rattle.refusal.specs.Order.{Given, Passed}
-use Rattle.refusal.specs.Calls.{oneReading}
+use Rattle.refusal.specs.{declared.Refusal.Refusal, Order.Given, Order.Passed, Calls.oneReading}
 use Rattle.refusal.proofs.Unique.{never-both, one-refusal}
 use Rattle.record_spec.specs.declared.Kind.{Kind}
 use Rattle.record_spec.proofs.Wrote.{recordBytes}

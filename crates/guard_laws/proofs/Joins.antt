@@ -2,25 +2,17 @@
 --     joins-clear, joins-behind, joins-steady    what the test says: w is clear of those taken, and its other side of those taken and of w, and w is steady
 --     joins-more                   one that may join leaves the set guarded
 --     joins-not                    there is a reason against one that may not
-use Prim.Native.Nat.{ℕ, suc, _<_, _≤_}
-use mathlib.Core.Path.{_≡_, sym, ap, subst, _∙_}
-use mathlib.Core.Bool.{Bool, true, false, _&&_}
-use mathlib.Core.List.{List, [], _∷_, _++_}
-use native.Mathlib.Omega.{arith}
-use lib.ListN.{length, getD}
-use Rattle.words.specs.Order.{before}
+use Rattle.words.proofs.Plain.{ℕ, suc, _<_, _≤_, arith, _≡_, sym, ap, subst, _∙_, Bool, true, false, _&&_, List, [], _∷_, _++_, length, getD}
+use Rattle.words.specs.{Order.before, Turn.turn}
 use Rattle.words.proofs.Split.{passes, fails, test, lt, eq, gt, tri, both, both-left, both-right, clash}
 use Rattle.words.proofs.Readings.{All}
-use Rattle.words.specs.Turn.{turn}
 use Rattle.rings.specs.Alike.{differing, apart, mirrored}
 use Rattle.home_spec.specs.Turns.{steady, Steady}
 use Rattle.home_turns_laws.proofs.Steady.{steady-each, not-steady}
-use Rattle.set_spec.specs.Greedy.{clear}
-use Rattle.set_spec.specs.Worth.{Spread}
+use Rattle.set_spec.specs.{Greedy.clear, Worth.Spread}
 use Rattle.set_laws.proofs.Lists.{length-more, at-old, at-new, all-place}
 use Rattle.set_laws.proofs.Worth.{clear-at, not-clear, spread-more, near-one}
-use Rattle.guard_spec.specs.Sides.{Guarded}
-use Rattle.guard_spec.specs.Choice.{joins}
+use Rattle.guard_spec.specs.{Sides.Guarded, Choice.joins}
 use Rattle.guard_spec.specs.Worth.{Crossed, near, behind, sided, unsteady}
 use Rattle.guard_laws.proofs.Sides.{Long, guarded-spread, guarded-cross, guarded-of}
 

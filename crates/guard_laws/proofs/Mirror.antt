@@ -5,11 +5,7 @@
 --     apart-mirrored                    seen from the other side two rings are as far apart
 --     other-side, other-front           which of the two is seen from the other side does not matter
 --     turn-near                         a reading that, turned, differs from w at no more than e places is at most e apart from it
-use Prim.Native.Nat.{ℕ, _-_, _<_, _≤_}
-use mathlib.Core.Path.{_≡_, refl, sym, ap, _∙_}
-use mathlib.Core.List.{List, [], _∷_, reverse, reverse-cons, reverse-reverse}
-use native.Mathlib.Omega.{arith}
-use lib.ListN.{length, length-reverse}
+use Rattle.words.proofs.Plain.{ℕ, _-_, _<_, _≤_, arith, _≡_, refl, sym, ap, _∙_, List, [], _∷_, reverse, reverse-cons, reverse-reverse, length, length-reverse}
 use Rattle.words.specs.Turn.{turn}
 use Rattle.words.proofs.Split.{lt, eq, gt, tri}
 use Rattle.words.proofs.Turn.{length-turn, turn-zero, reverse-turn}

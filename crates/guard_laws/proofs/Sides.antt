@@ -7,13 +7,8 @@
 --     none-mirrored, none-even           of a set that is guarded at 1 or more no ring is the other side of one, and none is even-handed
 --     alone                              of readings at least d apart, one that is seen with at most x sectors misread is further than e from all others, where x + e is below d
 --     front-seen, back-seen              so a ring of a guarded set, seen from either side with at most e misread, is told from all others and their other sides, where 2 e is below d
-use Prim.Native.Nat.{ℕ, zero, suc, _+_, _-_, _*_, _<_, _≤_}
-use mathlib.Core.Path.{_≡_, refl, sym, ap, _∙_}
-use mathlib.Core.Bool.{true, false}
-use mathlib.Core.List.{List, [], _∷_, map}
-use native.Mathlib.Omega.{arith}
-use lib.ListN.{length, getD, length-append, length-map, List·getD-append}
-use lib.Seq.{getD-append-add}
+use Rattle.words.proofs.Plain.{ℕ, zero, suc, _+_, _-_, _*_, _<_, _≤_, arith, _≡_, refl, sym, ap, _∙_, true, false, List, [], _∷_, map, length, getD}
+use Rattle.words.proofs.Plain.{length-append, length-map, List·getD-append, getD-append-add}
 use Rattle.words.proofs.Split.{lt, eq, gt, tri, refuted}
 use Rattle.rings.specs.Alike.{evenHanded, sameRing, apart, mirrored}
 use Rattle.ring_home_laws.proofs.Alike.{same-ring-refl, apart-sym, apart-triangle, zero-apart, length-mirrored, even-mirrored}

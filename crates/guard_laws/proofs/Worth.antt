@@ -1,23 +1,14 @@
 -- The guarded choice is worth what is asked of a guarded set.
 --     guarded-most      it takes at most the wanted number
 --     guarded-worth     every sentence of `GuardedWorth`, where `full` says whether the wanted number was taken
-use Prim.Native.Nat.{ℕ, _<_, _≤_}
-use mathlib.Core.Path.{_≡_, sym, _∙_}
-use mathlib.Core.Bool.{Bool, true}
-use mathlib.Core.List.{List, []}
-use native.Mathlib.Omega.{arith}
-use lib.ListN.{length}
-use lib.Dec.{eqb}
-use borrow.Author.Tests.{eqb-true}
+use Rattle.words.proofs.Plain.{ℕ, _<_, _≤_, arith, _≡_, sym, _∙_, Bool, true, List, [], eqb, length, eqb-true}
 use Rattle.set_spec.specs.Worth.{Spread}
-use Rattle.set_laws.proofs.Choice.{Extends, Settling}
+use Rattle.set_laws.proofs.{Choice.Extends, Choice.Settling, Worth.near-stays}
 use Rattle.set_laws.proofs.Chosen.{chosen-most, chosen-members, chosen-rising, chosen-looked, chosen-last, chosen-keeps, chosen-fewer, chosen-settled, chosen-all}
-use Rattle.set_laws.proofs.Worth.{near-stays}
 use Rattle.guard_spec.specs.Sides.{sides, Guarded}
 use Rattle.guard_spec.specs.Choice.{joins, guarded, guardedLooked}
 use Rattle.guard_spec.specs.Worth.{Crossed, near, behind, sided, unsteady, Decided, took, left-out, GuardedWorth}
-use Rattle.guard_laws.proofs.Sides.{Long}
-use Rattle.guard_laws.proofs.Joins.{joins-more, joins-not}
+use Rattle.guard_laws.proofs.{Sides.Long, Joins.joins-more, Joins.joins-not}
 
 -- taken, or there is a reason against it
 settling : (d : ℕ) → Settling (joins d) (Decided d)

@@ -1,6 +1,5 @@
 -- Guarded sets worked out by hand, and computed from the definitions.
-use mathlib.Core.Path.{_≡_, refl}
-use mathlib.Core.List.{[], _∷_}
+use Rattle.words.proofs.Plain.{_≡_, refl, [], _∷_}
 use Rattle.rings.specs.Open.{open-all}
 use Rattle.home_spec.specs.Turns.{turnFar, steady}
 use Rattle.set_spec.specs.Greedy.{greedyBy, lookedBy, farFrom, clear, kept, lyndons}

@@ -3,15 +3,9 @@
 --     shift-fits                                     the reading can be turned by its shift
 --     turned-home, same-turned                       turned by their shifts, readings are home, and of the same ring
 --     home-back                                      the output, turned back by the shift that is answered, is the reading
-use Prim.Native.Nat.{ℕ, _-_, _<_, _≤_}
-use mathlib.Core.Path.{_≡_, sym}
-use mathlib.Core.List.{List}
-use native.Mathlib.Omega.{arith}
-use lib.ListN.{length}
-use Rattle.words.specs.Order.{same}
-use Rattle.words.specs.Turn.{turn}
-use Rattle.rings.specs.Home.{home, shift}
-use Rattle.rings.specs.Alike.{sameRing}
+use Rattle.words.proofs.Plain.{ℕ, _-_, _<_, _≤_, arith, _≡_, sym, List, length}
+use Rattle.words.specs.{Order.same, Turn.turn}
+use Rattle.rings.specs.{Home.home, Home.shift, Alike.sameRing}
 use Rattle.ring_home_laws.proofs.Home.{shift-lt, turn-back-home}
 use Rattle.refusal.specs.Order.{Passed}
 use Rattle.refusal.specs.Calls.{Asked, general, askRoom, twoReadings, withRoom}

@@ -5,27 +5,17 @@
 --     zero-same                    `apart` answers 0 exactly where `same_ring` answers Yes, and both give the same refusal
 --     triangle                     of three answers: where two are distances the third is one, and no more than both together
 --     apart-most                   no answer is more than n
-use Prim.Native.Nat.{ℕ, zero, suc, _-_, _≤_, _<_}
-use mathlib.Core.Path.{_≡_, refl, sym, subst, _∙_}
-use mathlib.Core.Bool.{true}
-use mathlib.Core.List.{List}
-use native.Mathlib.Omega.{arith}
-use lib.ListN.{length}
+use Rattle.words.proofs.Plain.{ℕ, zero, suc, _-_, _≤_, _<_, arith, _≡_, refl, sym, subst, _∙_, true, List, length}
 use Rattle.words.specs.Turn.{turn}
-use Rattle.words.proofs.Split.{clash}
-use Rattle.words.proofs.Turn.{length-turn, turn-back}
+use Rattle.words.proofs.{Split.clash, Turn.length-turn, Turn.turn-back}
 use Rattle.rings.specs.Alike.{apart, sameRing}
 use Rattle.ring_home_laws.proofs.Alike.{apart-le, apart-sym, apart-of-turn, apart-of-turn-right, apart-triangle, apart-zero, zero-apart, same-ring-sym}
 use Rattle.ring_home_laws.proofs.Home.{home-of-turn}
-use Rattle.refusal.specs.declared.Refusal.{Refusal}
-use Rattle.refusal.specs.Order.{Passed}
-use Rattle.refusal.specs.Calls.{twoReadings}
+use Rattle.refusal.specs.{declared.Refusal.Refusal, Order.Passed, Calls.twoReadings}
 use Rattle.refusal.proofs.Unique.{one-refusal, never-both}
-use Rattle.home_spec.specs.declared.Told.{Told}
+use Rattle.home_spec.specs.{declared.Told.Told, declared.Distance.Distance, Says.ToldSays, Says.DistanceSays}
 use Rattle.home_spec.specs.declared.Told.the-variants as T
-use Rattle.home_spec.specs.declared.Distance.{Distance}
 use Rattle.home_spec.specs.declared.Distance.the-variants as D
-use Rattle.home_spec.specs.Says.{ToldSays, DistanceSays}
 use Rattle.home_apart_laws.specs.Agree.{SameSays, Alike, distance, both-refused, AlikeTold, both-yes, both-no, neither-told, Zero, same, other, refused, Within, within}
 use Rattle.home_apart_laws.proofs.Pairs.{passed-long, passed-pair, pair-passed, pair-swap, pair-turn, pair-turn-right, pair-ends}
 

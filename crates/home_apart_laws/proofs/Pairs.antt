@@ -3,18 +3,12 @@
 --     passed-pair, pair-passed    that is what the checks ask, no less and no more
 --     passed-long                 they are of one length
 --     pair-swap, pair-turn, pair-turn-right, pair-ends    exchanged, one of them turned, or from two pairs with one in common: still such a pair
-use Prim.Native.Nat.{ℕ, _+_, _-_, _<_, _≤_}
-use mathlib.Core.Path.{_≡_, refl, sym, ap, _∙_}
-use mathlib.Core.List.{List, _++_}
-use native.Mathlib.Omega.{arith}
-use lib.ListN.{length, getD, length-append, List·getD-append}
-use lib.Seq.{getD-append-add}
+use Rattle.words.proofs.Plain.{ℕ, _+_, _-_, _<_, _≤_, arith, _≡_, refl, sym, ap, _∙_, List, _++_, length, getD, length-append, List·getD-append}
+use Rattle.words.proofs.{Plain.getD-append-add, Turn.reading-turn}
 use Rattle.words.specs.Turn.{turn}
 use Rattle.words.specs.Readings.{Sized, Shaded, Reading}
 use Rattle.words.proofs.Split.{lt, eq, gt, tri}
-use Rattle.words.proofs.Turn.{reading-turn}
-use Rattle.refusal.specs.Order.{Passed}
-use Rattle.refusal.specs.Calls.{twoReadings}
+use Rattle.refusal.specs.{Order.Passed, Calls.twoReadings}
 
 pub record Pair (n k : ℕ) (v w : List ℕ) : Type 0 where
   pub sized : Sized n

@@ -2,20 +2,10 @@
 --     Mirrors w t m, mirrors-start, mirrors-more    in its first m sectors, the turn by t of the reversed reading is the reading
 --     mirrors-yes, mirrors-no                       in all of them: w is even-handed; in one not: it is not this turn
 --     Unmirrored w t, unmirrored-start, unmirrored-more, unmirrored-end    no turn by less than t is the reading
-use Prim.Native.Nat.{ℕ, _+_, _-_, _<_, _≤_}
-use mathlib.Core.Path.{_≡_, sym, ap, _∙_}
-use mathlib.Core.Bool.{true, false}
-use mathlib.Core.List.{List, reverse}
-use native.Mathlib.Omega.{arith}
-use lib.ListN.{length, getD, length-reverse}
-use lib.Seq.{ext-getD}
-use Rattle.words.specs.Search.{someBelow}
-use Rattle.words.specs.Order.{same}
-use Rattle.words.specs.Turn.{turn}
+use Rattle.words.proofs.Plain.{ℕ, _+_, _-_, _<_, _≤_, arith, _≡_, sym, ap, _∙_, true, false, List, reverse, length, getD, length-reverse, ext-getD}
+use Rattle.words.specs.{Search.someBelow, Order.same, Turn.turn}
 use Rattle.words.proofs.Split.{lt, eq, gt, tri, clash, refuted}
-use Rattle.words.proofs.Search.{some-of, some-at}
-use Rattle.words.proofs.Lex.{true-same, same-false}
-use Rattle.words.proofs.Turn.{length-turn, getD-reverse}
+use Rattle.words.proofs.{Search.some-of, Search.some-at, Lex.true-same, Lex.same-false, Turn.length-turn, Turn.getD-reverse}
 use Rattle.rings.specs.Alike.{evenHanded}
 use Rattle.home_turns_inner.specs.Around.{Around}
 use Rattle.home_turns_inner.proofs.Places.{sector-around}

@@ -1,11 +1,7 @@
 -- The search for the turn of v that differs from w at the fewest places.
 --     Nearest v w i b    the two are at most b apart, b is at most their length, and no turn by less than i differs at fewer places than b
 --     nearest-start, nearest-more, nearest-none, nearest-end    from the first turn on, until one differs nowhere or all are passed
-use Prim.Native.Nat.{ℕ, _+_, _<_, _≤_, min}
-use mathlib.Core.Path.{_≡_}
-use mathlib.Core.List.{List}
-use native.Mathlib.Omega.{arith}
-use lib.ListN.{length}
+use Rattle.words.proofs.Plain.{ℕ, _+_, _<_, _≤_, min, arith, _≡_, List, length}
 use Rattle.words.specs.Turn.{turn}
 use Rattle.words.proofs.Split.{lt, eq, gt, tri}
 use Rattle.rings.specs.Alike.{differing, apart}

@@ -1,14 +1,7 @@
 -- The search for a turn of v that differs from w at fewer than d places.
 --     NoneNearer v w d i    no turn by less than i does
 --     turns-start, turns-more, turns-found, turns-end    from the first turn on, until one does or all are passed
-use Prim.Native.Nat.{ℕ, _+_, _<_, _≤_, min}
-use mathlib.Core.Path.{_≡_, sym}
-use mathlib.Core.Bool.{true, false}
-use mathlib.Core.List.{List}
-use native.Mathlib.Omega.{arith}
-use lib.ListN.{length}
-use lib.Dec.{ltb}
-use borrow.Author.Tests.{lt-ltb, le-ltb}
+use Rattle.words.proofs.Plain.{ℕ, _+_, _<_, _≤_, min, arith, _≡_, sym, true, false, List, ltb, length, lt-ltb, le-ltb}
 use Rattle.words.specs.Turn.{turn}
 use Rattle.words.proofs.Split.{lt, eq, gt, tri}
 use Rattle.rings.specs.Alike.{differing, apart}

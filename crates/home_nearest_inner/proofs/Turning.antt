@@ -3,13 +3,7 @@
 --     not-yet-start, not-yet-on, not-yet-found, not-yet-never    from the first turn on, until one does; one does
 --     FarTurns d w j                                             no turn by 1 up to j comes nearer than d
 --     turned-start, turned-on, turned-near, turned-all           from the first turn on, until one does or half are passed
-use Prim.Native.Nat.{ℕ, _+_, _-_, _<_, _≤_, min}
-use mathlib.Core.Path.{_≡_, sym, ap}
-use mathlib.Core.Bool.{true, false}
-use mathlib.Core.List.{List}
-use native.Mathlib.Omega.{arith}
-use lib.ListN.{length}
-use borrow.Author.Tests.{eq-eqb, ne-eqb}
+use Rattle.words.proofs.Plain.{ℕ, _+_, _-_, _<_, _≤_, min, arith, _≡_, sym, ap, true, false, List, length, eq-eqb, ne-eqb}
 use Rattle.words.specs.Turn.{turn}
 use Rattle.words.proofs.Split.{lt, eq, gt, tri, refuted}
 use Rattle.words.proofs.Search.{least-is}

@@ -2,15 +2,8 @@
 --     Unrepeated w p, unrepeated-start, unrepeated-more            nothing below p repeats w
 --     unrepeated-found, unrepeated-end                             then what repeats w is its period, and so is the length
 --     repeats-not, repeats-same                                    whether p repeats w, by its two tests
-use Prim.Native.Nat.{ℕ, _+_, _%_, _<_, _≤_}
-use mathlib.Core.Path.{_≡_, sym}
-use mathlib.Core.Bool.{true, false}
-use mathlib.Core.List.{List}
-use native.Mathlib.Omega.{arith}
-use lib.ListN.{length}
-use borrow.Author.Tests.{eq-eqb, ne-eqb}
-use Rattle.words.specs.Order.{same}
-use Rattle.words.specs.Turn.{turn}
+use Rattle.words.proofs.Plain.{ℕ, _+_, _%_, _<_, _≤_, arith, _≡_, sym, true, false, List, length, eq-eqb, ne-eqb}
+use Rattle.words.specs.{Order.same, Turn.turn}
 use Rattle.words.proofs.Split.{lt, eq, gt, tri, clash}
 use Rattle.words.proofs.Turn.{turn-zero}
 use Rattle.rings.specs.Necklace.{repeatsBy, period}

@@ -4,12 +4,7 @@
 --     seeks-smaller                the sector of the turn by i is smaller: j goes on behind the place of the difference
 --     seeks-greater                it is greater: i goes on behind it, and at least to j
 --     seeks-on, seeks-alike        it is equal: one place on, and at the last place the shift is i
-use Prim.Native.Nat.{ℕ, _+_, _-_, _<_, _≤_}
-use mathlib.Core.Path.{_≡_, sym, _∙_}
-use mathlib.Core.List.{List}
-use native.Mathlib.Omega.{arith}
-use lib.ListN.{length, getD}
-use lib.Seq.{ext-getD}
+use Rattle.words.proofs.Plain.{ℕ, _+_, _-_, _<_, _≤_, arith, _≡_, sym, _∙_, List, length, getD, ext-getD}
 use Rattle.words.specs.Turn.{turn}
 use Rattle.words.proofs.Split.{Tri, lt, eq, gt, tri}
 use Rattle.words.proofs.Turn.{length-turn}

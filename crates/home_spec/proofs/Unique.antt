@@ -3,22 +3,14 @@
 --     one-told        same ring, even-handed, nearer and steady
 --     one-distance    apart
 --     one-closest     nearest
-use Prim.Native.Nat.{ℕ}
-use mathlib.Core.Path.{_≡_, refl, sym, ap, _∙_}
-use mathlib.Core.Bool.{Bool}
-use mathlib.Core.List.{List}
-use lib.ListN.{length}
+use Rattle.words.proofs.Plain.{ℕ, _≡_, refl, sym, ap, _∙_, Bool, List, length}
 use Rattle.words.proofs.Split.{clash}
-use Rattle.refusal.specs.Order.{Checks}
-use Rattle.refusal.specs.Calls.{twoReadings, withRoom}
+use Rattle.refusal.specs.{Order.Checks, Calls.twoReadings, Calls.withRoom}
 use Rattle.refusal.proofs.Unique.{one-refusal, never-both}
-use Rattle.home_spec.specs.declared.Homed.{Homed}
+use Rattle.home_spec.specs.{declared.Homed.Homed, declared.Told.Told, declared.Distance.Distance, declared.Closest.Closest}
 use Rattle.home_spec.specs.declared.Homed.the-variants as H
-use Rattle.home_spec.specs.declared.Told.{Told}
 use Rattle.home_spec.specs.declared.Told.the-variants as T
-use Rattle.home_spec.specs.declared.Distance.{Distance}
 use Rattle.home_spec.specs.declared.Distance.the-variants as D
-use Rattle.home_spec.specs.declared.Closest.{Closest}
 use Rattle.home_spec.specs.declared.Closest.the-variants as C
 use Rattle.home_spec.specs.Says.{HomeSays, ToldSays, DistanceSays, ClosestSays}
 

@@ -1,10 +1,6 @@
 -- Turns, place by place.
 --     sector-around                                     a turn's sector stands in the reading at the place around
-use Prim.Native.Nat.{ℕ, _+_, _<_, _≤_}
-use mathlib.Core.Path.{_≡_, sym}
-use mathlib.Core.List.{List}
-use native.Mathlib.Omega.{arith}
-use lib.ListN.{length, getD}
+use Rattle.words.proofs.Plain.{ℕ, _+_, _<_, _≤_, arith, _≡_, sym, List, length, getD}
 use Rattle.words.specs.Turn.{turn}
 use Rattle.words.proofs.Split.{lt, eq, gt, tri}
 use Rattle.words.proofs.Turn.{turn-low, turn-high}

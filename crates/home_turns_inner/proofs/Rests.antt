@@ -2,15 +2,8 @@
 -- x is that of v and y that of w.
 --     same-no, same-on, same-end                      whether v is w
 --     differing-one, differing-on, differing-end      at how many places they differ
-use Prim.Native.Nat.{ℕ, _+_, _<_, _≤_}
-use mathlib.Core.Path.{_≡_}
-use mathlib.Core.Bool.{true, false}
-use mathlib.Core.List.{List, [], _∷_}
-use native.Mathlib.Omega.{arith}
-use native.Mathlib.Numerals.{add-one}
-use lib.ListN.{length, getD, drop, drop-of-length-le}
-use lib.Seq.{drop-cons}
-use borrow.Author.Tests.{eq-eqb, ne-eqb}
+use Rattle.words.proofs.Plain.{ℕ, _+_, _<_, _≤_, add-one, arith, _≡_, true, false, List, [], _∷_, length, getD, drop, drop-of-length-le, drop-cons, eq-eqb}
+use Rattle.words.proofs.Plain.{ne-eqb}
 use Rattle.words.specs.Order.{same}
 use Rattle.rings.specs.Alike.{differing}
 

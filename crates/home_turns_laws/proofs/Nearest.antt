@@ -1,12 +1,7 @@
 -- The turn of v that comes nearest to w.
 --     nearest-lt, nearest-at    it is one by less than n, and after it as many sectors differ as the two are apart
 --     nearest-is                of a steady ring it is the turn by which it was turned, where x sectors are misread, and x and those at which it comes nearest are together below d
-use Prim.Native.Nat.{ℕ, _+_, _<_, _≤_}
-use mathlib.Core.Path.{_≡_}
-use mathlib.Core.List.{List}
-use native.Mathlib.Omega.{arith}
-use lib.ListN.{length}
-use borrow.Author.Tests.{eqb-true, eq-eqb}
+use Rattle.words.proofs.Plain.{ℕ, _+_, _<_, _≤_, arith, _≡_, List, length, eqb-true, eq-eqb}
 use Rattle.words.specs.Turn.{turn}
 use Rattle.words.proofs.Split.{lt, eq, gt, tri}
 use Rattle.words.proofs.Search.{least-lt, least-at}

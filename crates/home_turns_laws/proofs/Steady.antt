@@ -4,14 +4,8 @@
 --     turn-other-way               turned by i and by n - i, a reading differs from itself at as many places
 --     half-steady                  so half of the turns tell
 --     one-turn                     at most one turn of r differs from a steady v at no more than e places, where 2 e is below d
-use Prim.Native.Nat.{ℕ, zero, suc, _+_, _-_, _*_, _<_, _≤_}
-use mathlib.Core.Path.{_≡_, refl, sym, ap, _∙_}
-use mathlib.Core.Bool.{true, false, not}
-use mathlib.Core.List.{List}
-use native.Mathlib.Omega.{arith}
-use lib.ListN.{length}
-use lib.Dec.{ltb}
-use borrow.Author.Tests.{ltb-true, ltb-false, le-ltb}
+use Rattle.words.proofs.Plain.{ℕ, zero, suc, _+_, _-_, _*_, _<_, _≤_, arith, _≡_, refl, sym, ap, _∙_, true, false, not, List, ltb, length, ltb-true, ltb-false}
+use Rattle.words.proofs.Plain.{le-ltb}
 use Rattle.words.specs.Turn.{turn}
 use Rattle.words.proofs.Split.{passes, fails, test, lt, eq, gt, tri, clash}
 use Rattle.words.proofs.Search.{all-at, all-of, not-all}

@@ -8,23 +8,15 @@
 --     lyndon-exact        what Moebius's sum adds is what it takes away and n times the Lyndon words: nothing is cut off at 0, and the division leaves nothing over
 -- k ^ d is the sum of e times the Lyndon words of e over the divisors e of d (`how_many_period_laws`, readings-grouped); weighted with phi, each Lyndon word of e comes out
 -- n times, as phi adds up to the number whose divisors are taken; weighted with mu, it comes out where e is n and nowhere else.
-use Prim.Native.Nat.{ℕ, _+_, _*_, _/_, _^_, _<_, _≤_, _∣_}
-use mathlib.Core.Path.{_≡_, sym, ap, _∙_}
-use native.Mathlib.Omega.{arith}
+use Rattle.words.proofs.Plain.{ℕ, _+_, _*_, _/_, _^_, _<_, _≤_, _∣_, arith, _≡_, sym, ap, _∙_, eqb, ne-eqb}
 use native.Mathlib.Nat.{mul-assoc, mul-comm, add-mul, zero-mul, one-mul, mul-one, div-self, dvd-refl, mul-div-cancel-left}
-use lib.Dec.{eqb}
-use borrow.Author.Tests.{ne-eqb}
 use Rattle.words.specs.Readings.{bit}
 use Rattle.words.proofs.Split.{passes, fails, test}
-use Rattle.rings.specs.Necklace.{necklace, lyndon}
-use Rattle.rings.specs.Steps.{howMany}
+use Rattle.rings.specs.{Necklace.necklace, Necklace.lyndon, Steps.howMany}
 use Rattle.how_many_number_spec.specs.Divisors.{when, sumTo, divides, overDivisors}
-use Rattle.how_many_number_spec.specs.Phi.{gcd, phi}
-use Rattle.how_many_number_spec.specs.Mu.{muPlus, muMinus}
-use Rattle.how_many_number_laws.proofs.Sums.{sum-one}
+use Rattle.how_many_number_spec.specs.{Phi.gcd, Phi.phi, Mu.muPlus, Mu.muMinus}
+use Rattle.how_many_number_laws.proofs.{Sums.sum-one, Phi.gcd-sum, Phi.phi-total, Mu.mu-total}
 use Rattle.how_many_number_laws.proofs.Divide.{divides-of, of-divides, quotient, quotient-pos, over-cong, over-scale, over-add, other-way, convolve}
-use Rattle.how_many_number_laws.proofs.Phi.{gcd-sum, phi-total}
-use Rattle.how_many_number_laws.proofs.Mu.{mu-total}
 use Rattle.how_many_laws.specs.Formulas.{necklaceSum, necklaceFormula, plusSum, minusSum, lyndonFormula}
 use Rattle.how_many_period_laws.proofs.Grouped.{necklaces-grouped, readings-grouped}
 

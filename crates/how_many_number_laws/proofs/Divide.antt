@@ -6,11 +6,8 @@
 --     reindex                                the sum of g (m / d) over the divisors d of m is that of g d
 --     quotient-twice, other-way              the same of a product of values at d and at m / d
 --     convolve                               a sum over divisors of sums over divisors, in the other order
-use Prim.Native.Nat.{ℕ, zero, suc, _+_, _*_, _/_, _%_, _<_, _≤_, _∣_}
-use mathlib.Core.Path.{_≡_, refl, sym, ap, subst, _∙_}
-use mathlib.Core.Logic.{⊎-elim}
-use mathlib.Core.Bool.{Bool, true, false, _&&_}
-use native.Mathlib.Omega.{arith}
+use Rattle.words.proofs.Plain.{ℕ, zero, suc, _+_, _*_, _/_, _%_, _<_, _≤_, _∣_, arith, _≡_, refl, sym, ap, subst, _∙_, ⊎-elim, Bool, true, false, _&&_, eqb}
+use Rattle.words.proofs.Plain.{eq-eqb, ne-eqb, eqb-true}
 use native.Mathlib.Nat.{
   mul-zero,
   mul-suc,
@@ -31,8 +28,6 @@ use native.Mathlib.Nat.{
   mul-div-mul-left,
   div-eq-of-eq-mul-left,
 }
-use lib.Dec.{eqb}
-use borrow.Author.Tests.{eq-eqb, ne-eqb, eqb-true}
 use Rattle.words.proofs.Split.{passes, fails, test, refuted, clash, agree, not-right, both-left, both-right}
 use Rattle.how_many_number_spec.specs.Divisors.{when, sumTo, divides, overDivisors}
 use Rattle.how_many_number_laws.proofs.Sums.{sum-cong, sum-zero, sum-one, sum-add, sum-scale, sum-swap, sum-append, sum-wider, scale-when}
@@ -175,8 +170,7 @@ module _ (n : ℕ) (g h : ℕ → ℕ) (pos : 0 < n) where
     where
       none : divides e n ≡ false → sumTo n (λ d. pair d e) ≡ 0
       none q =
-          sum-zero n (λ d. pair d e)
-          (λ d a b. rw (refuted (divides d n && divides e d) (λ y. not-divides e n q
+          sum-zero n (λ d. pair d e) (λ d a b. rw (refuted (divides d n && divides e d) (λ y. not-divides e n q
           (dvd-trans e (of-divides e d (both-right (divides d n) (divides e d) y)) (of-divides d n (both-left (divides d n) (divides e d) y))))))
 
       at : (m j : ℕ) → e * m ≡ n → pair (e * j) e ≡ h e * when (divides j m) (g (m / j))

@@ -4,9 +4,7 @@
 --     gcd-is, gcd-common     it is gcd a b
 --     gcd-scale              gcd (d a) (d b) = d gcd a b
 --     gauss                  what divides p x and has no divisor in common with p but 1 divides x
-use Prim.Native.Nat.{ℕ, zero, suc, _+_, _-_, _*_, _/_, _<_, _≤_, _∣_}
-use mathlib.Core.Path.{_≡_, sym, ap, subst, _∙_}
-use native.Mathlib.Omega.{arith}
+use Rattle.words.proofs.Plain.{ℕ, zero, suc, _+_, _-_, _*_, _/_, _<_, _≤_, _∣_, arith, _≡_, sym, ap, subst, _∙_}
 use native.Mathlib.Nat.{
   mul-one,
   mul-comm,
@@ -24,8 +22,7 @@ use native.Mathlib.Nat.{
 }
 use Rattle.words.proofs.Split.{lt, eq, gt, tri, refuted, both, both-left, both-right}
 use Rattle.words.proofs.Search.{greatest-is}
-use Rattle.how_many_number_spec.specs.Divisors.{divides}
-use Rattle.how_many_number_spec.specs.Phi.{dividesBoth, gcd}
+use Rattle.how_many_number_spec.specs.{Divisors.divides, Phi.dividesBoth, Phi.gcd}
 use Rattle.how_many_number_laws.proofs.Divide.{divides-of, of-divides, quotient}
 
 -- g divides a and b, and each number that does divides g

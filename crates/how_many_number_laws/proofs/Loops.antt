@@ -7,20 +7,13 @@
 --     prime-small, prime-no, prime-yes           by it, a prime
 --     square-no, square-yes                      and a square-free number
 --     square-fits, square-pos                    the square of a number up to 64
-use Prim.Native.Nat.{ℕ, zero, suc, _+_, _-_, _*_, _%_, _<_, _≤_}
-use mathlib.Core.Path.{_≡_, refl, sym, _∙_}
-use mathlib.Core.Bool.{Bool, true, false, not, _&&_}
-use native.Mathlib.Omega.{arith}
+use Rattle.words.proofs.Plain.{ℕ, zero, suc, _+_, _-_, _*_, _%_, _<_, _≤_, add-one, arith, _≡_, refl, sym, _∙_, Bool, true, false, not, _&&_, eqb, ltb, lt-ltb}
+use Rattle.words.proofs.Plain.{le-ltb, eq-eqb, ne-eqb, not-true}
 use native.Mathlib.Nat.{mul-le-mul}
-use native.Mathlib.Numerals.{add-one}
-use lib.Dec.{eqb, ltb}
-use borrow.Author.Tests.{lt-ltb, le-ltb, eq-eqb, ne-eqb, not-true}
-use Rattle.words.specs.Search.{allBelow, greatest}
-use Rattle.words.specs.Readings.{bit}
+use Rattle.words.specs.{Search.allBelow, Search.greatest, Readings.bit}
 use Rattle.words.proofs.Split.{both, not-right, refuted, clash}
 use Rattle.words.proofs.Search.{all-at}
-use Rattle.how_many_number_spec.specs.Divisors.{sumTo, divides}
-use Rattle.how_many_number_spec.specs.Phi.{dividesBoth, gcd}
+use Rattle.how_many_number_spec.specs.{Divisors.sumTo, Divisors.divides, Phi.dividesBoth, Phi.gcd}
 use Rattle.how_many_number_spec.specs.Mu.{divisorFromTwo, prime, squareFromTwo, squareFree}
 
 -- ---- the greatest common divisor

@@ -1,15 +1,10 @@
 -- mu (specs/Mu).
 --     plus-signs, minus-signs    mu of p j is the opposite of mu of j, and 0 where p divides j, for a prime p
 --     mu-total                   over the divisors of m, mu is as often 1 as -1, but for m = 1, where it is 1 once more
-use Prim.Native.Nat.{ℕ, zero, suc, _+_, _*_, _/_, _%_, _<_, _∣_}
-use mathlib.Core.Path.{_≡_, refl, ap, subst, _∙_}
-use mathlib.Core.Bool.{Bool, true, false, not, _&&_}
-use native.Mathlib.Omega.{arith}
+use Rattle.words.proofs.Plain.{ℕ, zero, suc, _+_, _*_, _/_, _%_, _<_, _∣_, arith, _≡_, refl, ap, subst, _∙_, Bool, true, false, not, _&&_, eqb, eq-eqb, ne-eqb}
+use Rattle.words.proofs.Plain.{eqb-true}
 use native.Mathlib.Nat.{mul-comm, le-mul-of-pos-right, dvd-mul-right, dvd-mul-left-of-dvd, le-of-dvd}
-use lib.Dec.{eqb}
-use borrow.Author.Tests.{eq-eqb, ne-eqb, eqb-true}
-use Rattle.words.specs.Search.{allBelow}
-use Rattle.words.specs.Readings.{bit}
+use Rattle.words.specs.{Search.allBelow, Readings.bit}
 use Rattle.words.proofs.Split.{Test, passes, fails, test, not-left, not-right, agree}
 use Rattle.how_many_number_spec.specs.Divisors.{when, sumTo, divides, overDivisors}
 use Rattle.how_many_number_spec.specs.Mu.{divisorFromTwo, prime, squareFromTwo, squareFree, primesOf, muPlus, muMinus}

@@ -2,12 +2,8 @@
 --     gcd-class    as many of the numbers 1 to n have the greatest common divisor d with n as phi (n / d) says
 --     gcd-sum      so a sum over the numbers 1 to n of a value of their greatest common divisor with n is a sum over the divisors of n
 --     phi-total    the sum of phi over the divisors of n is n
-use Prim.Native.Nat.{ℕ, _*_, _/_, _<_, _≤_, _∣_}
-use mathlib.Core.Path.{_≡_, refl, sym, ap, subst, _∙_}
-use mathlib.Core.Bool.{false}
+use Rattle.words.proofs.Plain.{ℕ, _*_, _/_, _<_, _≤_, _∣_, _≡_, refl, sym, ap, subst, _∙_, false, eqb, eq-eqb, ne-eqb, eqb-true}
 use native.Mathlib.Nat.{mul-zero, mul-one, mul-comm, eq-of-mul-eq-mul-left}
-use lib.Dec.{eqb}
-use borrow.Author.Tests.{eq-eqb, ne-eqb, eqb-true}
 use Rattle.words.specs.Readings.{bit}
 use Rattle.words.proofs.Split.{passes, fails, test, agree}
 use Rattle.how_many_number_spec.specs.Divisors.{when, sumTo, divides, overDivisors}

@@ -4,20 +4,14 @@
 --     has-prime                    each number from 2 on is divided by some prime
 --     free-square, free-more       p j is square-free exactly where j is and p does not divide j
 --     primes-more                  one prime more divides p j than j, where p does not divide j
-use Prim.Native.Nat.{ℕ, zero, suc, _+_, _*_, _/_, _<_, _∣_}
-use mathlib.Core.Path.{_≡_, refl, sym, ap, subst, _∙_}
-use mathlib.Core.Bool.{true, false, not, _&&_}
-use native.Mathlib.Omega.{arith}
+use Rattle.words.proofs.Plain.{ℕ, zero, suc, _+_, _*_, _/_, _<_, _∣_, arith, _≡_, refl, sym, ap, subst, _∙_, true, false, not, _&&_, eqb, ltb, lt-ltb, ltb-true}
+use Rattle.words.proofs.Plain.{eq-eqb, ne-eqb, eqb-true, not-true, not-false}
 use native.Mathlib.Nat.{mul-pos, mul-left-comm, mul-comm, le-mul-of-pos-right}
 use native.Mathlib.Nat.{dvd-refl, dvd-trans, dvd-mul-right, dvd-mul-left-of-dvd, le-of-dvd, pos-of-dvd-of-pos, mul-dvd-mul, mul-dvd-mul-left, dvd-of-mul-dvd-mul-left}
-use lib.Dec.{eqb, ltb}
-use borrow.Author.Tests.{lt-ltb, ltb-true, eq-eqb, ne-eqb, eqb-true, not-true, not-false}
-use Rattle.words.specs.Search.{allBelow}
-use Rattle.words.specs.Readings.{bit}
+use Rattle.words.specs.{Search.allBelow, Readings.bit}
 use Rattle.words.proofs.Split.{Test, passes, fails, test, lt, eq, gt, tri, both, both-left, both-right, not-right, refuted, agree, clash}
 use Rattle.words.proofs.Search.{all-at, all-of, not-all}
-use Rattle.how_many_number_spec.specs.Divisors.{sumTo, divides}
-use Rattle.how_many_number_spec.specs.Phi.{gcd}
+use Rattle.how_many_number_spec.specs.{Divisors.sumTo, Divisors.divides, Phi.gcd}
 use Rattle.how_many_number_spec.specs.Mu.{divisorFromTwo, prime, squareFromTwo, squareFree, primesOf}
 use Rattle.how_many_number_laws.proofs.Sums.{sum-cong, sum-one, sum-add, sum-wider}
 use Rattle.how_many_number_laws.proofs.Divide.{divides-of, of-divides, divides-not, not-divides, quotient, quotient-pos}

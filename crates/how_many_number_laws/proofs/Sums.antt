@@ -3,10 +3,7 @@
 --     sum-add, sum-scale, sum-swap              sums of sums, of multiples, and a double sum in the other order
 --     sum-append, sum-wider                     a sum in two parts, and a sum with nothing past m
 --     scale-when                                a multiple of a value under a test
-use Prim.Native.Nat.{ℕ, zero, suc, _+_, _-_, _*_, _<_, _≤_}
-use mathlib.Core.Path.{_≡_, refl, sym, ap, _∙_}
-use mathlib.Core.Bool.{Bool, true, false}
-use native.Mathlib.Omega.{arith}
+use Rattle.words.proofs.Plain.{ℕ, zero, suc, _+_, _-_, _*_, _<_, _≤_, arith, _≡_, refl, sym, ap, _∙_, Bool, true, false}
 use native.Mathlib.Nat.{mul-zero, mul-add, suc-mul, zero-mul, add-zero, add-suc}
 use Rattle.words.proofs.Split.{lt, eq, gt, tri}
 use Rattle.how_many_number_spec.specs.Divisors.{when, sumTo}

@@ -1,12 +1,7 @@
 -- Values of the definitions, computed: phi and mu from 1 to 30, and the greatest common divisors of 1 to 12 with 12.
-use Prim.Native.Nat.{suc, _+_, _*_}
-use mathlib.Core.Path.{_≡_, refl}
-use mathlib.Core.List.{[], _∷_}
-use Rattle.words.specs.Search.{tab}
-use Rattle.words.specs.Readings.{bit}
-use Rattle.how_many_number_spec.specs.Phi.{gcd, phi}
-use Rattle.how_many_number_spec.specs.Mu.{muPlus, muMinus}
-use Rattle.how_many_number_spec.specs.Open.{open-numbers}
+use Rattle.words.proofs.Plain.{suc, _+_, _*_, _≡_, refl, [], _∷_}
+use Rattle.words.specs.{Search.tab, Readings.bit}
+use Rattle.how_many_number_spec.specs.{Phi.gcd, Phi.phi, Mu.muPlus, Mu.muMinus, Open.open-numbers}
 
 pub gcds : tab 12 (λ i. gcd (suc i) 12) ≡ (1 ∷ 2 ∷ 3 ∷ 4 ∷ 1 ∷ 6 ∷ 1 ∷ 4 ∷ 3 ∷ 2 ∷ 1 ∷ 12 ∷ [])
 unfolding open-numbers

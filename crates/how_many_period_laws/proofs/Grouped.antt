@@ -3,23 +3,14 @@
 --     total-grouped         so a total over the necklaces of values of their periods is a sum over the divisors of n
 --     necklaces-grouped     the necklaces of n are the Lyndon words of all divisors of n together
 --     readings-grouped      k ^ n is the sum of d times the Lyndon words of d, over the divisors d of n
-use Prim.Native.Nat.{ℕ, zero, suc, _*_, _%_, _^_, _<_, _≤_, _∣_}
-use mathlib.Core.Path.{_≡_, refl, sym, ap, subst, _∙_}
-use mathlib.Core.Bool.{Bool, true, false}
-use mathlib.Core.List.{List}
-use native.Mathlib.Omega.{arith}
+use Rattle.words.proofs.Plain.{ℕ, zero, suc, _*_, _%_, _^_, _<_, _≤_, _∣_, arith, decLt, _≡_, refl, sym, ap, subst, _∙_, Bool, true, false, List, eqb, take}
+use Rattle.words.proofs.Plain.{eq-eqb, ne-eqb, eqb-true}
 use native.Mathlib.Nat.{one-mul, mul-one, mul-zero, zero-mul, pow-succ', dvd-of-mod-eq-zero}
-use lib.ListN.{take}
-use lib.Dec.{eqb}
-use native.Mathlib.Decide.{decLt}
-use borrow.Author.Tests.{eq-eqb, ne-eqb, eqb-true}
 use Rattle.words.specs.Readings.{Reading, fan, readings, bit, total, count}
 use Rattle.words.proofs.Split.{passes, fails, test, both-right, refuted}
-use Rattle.words.proofs.Readings.{readings-all}
-use Rattle.words.proofs.Count.{total-cong, count-zero}
+use Rattle.words.proofs.{Readings.readings-all, Count.total-cong, Count.count-zero}
 use Rattle.rings.specs.Necklace.{necklace, period, lyndon}
-use Rattle.rings.specs.Next.{repeated}
-use Rattle.rings.specs.Steps.{FullWalk, howMany}
+use Rattle.rings.specs.{Next.repeated, Steps.FullWalk, Steps.howMany}
 use Rattle.ring_laws.proofs.FullWalk.{walk-exists, zeros}
 use Rattle.ring_home_laws.proofs.Period.{period-pos, period-le, period-divides}
 use Rattle.how_many_number_spec.specs.Divisors.{when, sumTo, divides, overDivisors}
@@ -52,8 +43,7 @@ module _ (n k : ℕ) (z : 0 < n) where
 
       none : divides d n ≡ false → (w : List ℕ) → Reading n k w → necklaceBy d w ≡ false
       none e w r =
-          refuted (necklaceBy d w)
-          (λ h.
+          refuted (necklaceBy d w) (λ h.
           let t : period w ≡ d = eqb-true (period w) d (both-right (necklace w) (eqb (period w) d) h) in
           not-divides d n e (dvd-of-mod-eq-zero d (subst (λ (x : ℕ). n % x ≡ 0) t (subst (λ (x : ℕ). x % period w ≡ 0) (r .long) (period-divides w (omega (arith, r .long)))))))
 
@@ -104,8 +94,7 @@ module _ (n k : ℕ) (z : 0 < n) where
       -- without shades there is nothing on either side
       without : k ≡ 0 → k ^ n ≡ overDivisors n (λ d. d * howMany lyndon d k)
       without e =
-          rw e
-          (
+          rw e (
           zero-pow n z
           ∙ sym (over-cong n (λ d. d * howMany lyndon d 0) (λ d. 0 * 0) (λ d a b q. ap (λ (x : ℕ). d * x) (no-shades lyndon d a) ∙ mul-zero d) ∙
           over-scale n 0 (λ d. 0) ∙ zero-mul (overDivisors n (λ d. 0)))

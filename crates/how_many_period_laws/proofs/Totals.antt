@@ -3,17 +3,12 @@
 --     total-to       a total of sums over the numbers 1 to m is the sum of the totals
 --     total-one      the total of values at one reading only
 --     count-pair     readings that stand for one another are as many
-use Prim.Native.Nat.{ℕ, zero, suc, _*_}
-use mathlib.Core.Path.{_≡_, sym, ap, _∙_}
-use mathlib.Core.Bool.{Bool, true, false, _&&_}
-use mathlib.Core.List.{List, [], _∷_}
-use native.Mathlib.Omega.{arith}
+use Rattle.words.proofs.Plain.{ℕ, zero, suc, _*_, arith, _≡_, sym, ap, _∙_, Bool, true, false, _&&_, List, [], _∷_}
 use native.Mathlib.Nat.{mul-zero, mul-one, mul-add}
 use Rattle.words.specs.Order.{same}
 use Rattle.words.specs.Readings.{Reading, readings, bit, total, count}
 use Rattle.words.proofs.Split.{passes, fails, test, both, both-left, both-right, agree}
-use Rattle.words.proofs.Lex.{same-true, true-same}
-use Rattle.words.proofs.Readings.{readings-all}
+use Rattle.words.proofs.{Lex.same-true, Lex.true-same, Readings.readings-all}
 use Rattle.words.proofs.Count.{total-cong, total-add, count-one, count-cong}
 use Rattle.ring_total_laws.proofs.Totals.{total-nothing, total-swap}
 use Rattle.how_many_number_spec.specs.Divisors.{when, sumTo}
@@ -65,12 +60,10 @@ count-pair n m k f g to back there here =
   where
     pairs : (w u : List ℕ) → Reading n k w → Reading m k u → (f w && same (to w) u) ≡ (g u && same (back u) w)
     pairs w u r q =
-        agree (f w && same (to w) u) (g u && same (back u) w)
-        (λ h.
+        agree (f w && same (to w) u) (g u && same (back u) w) (λ h.
         let a = both-left (f w) (same (to w) u) h in
         let b = same-true (to w) u (both-right (f w) (same (to w) u) h) in
-        both (g u) (same (back u) w) (rw (← b) (there w r a .1)) (true-same (back u) w (rw (← b) (there w r a .2))))
-        (λ h.
+        both (g u) (same (back u) w) (rw (← b) (there w r a .1)) (true-same (back u) w (rw (← b) (there w r a .2)))) (λ h.
         let a = both-left (g u) (same (back u) w) h in
         let b = same-true (back u) w (both-right (g u) (same (back u) w) h) in
         both (f w) (same (to w) u) (rw (← b) (here u q a .1)) (true-same (to w) u (rw (← b) (here u q a .2))))

@@ -1,19 +1,14 @@
 -- Totals over the full walk by necklaces from the all-zero ring, that ring included (the walk itself: `ring_total_laws`, proofs/OneRing).
 --     walk-total    a total over the walk is a total over the necklaces among all readings
 --     walk-count    the walk comes to as many rings as there are necklaces
-use Prim.Native.Nat.{ℕ, _*_, _<_}
-use mathlib.Core.Path.{_≡_, refl, sym, _∙_}
-use mathlib.Core.Bool.{Bool, true, false}
-use mathlib.Core.List.{List, _∷_}
+use Rattle.words.proofs.Plain.{ℕ, _*_, _<_, _≡_, refl, sym, _∙_, Bool, true, false, List, _∷_}
 use native.Mathlib.Nat.{mul-one, mul-zero}
 use Rattle.words.specs.Order.{same}
 use Rattle.words.specs.Readings.{Reading, readings, bit, total, count}
 use Rattle.words.proofs.Split.{passes, fails, test, clash}
 use Rattle.words.proofs.Lex.{same-true, same-refl, same-false}
-use Rattle.words.proofs.Readings.{readings-all}
-use Rattle.words.proofs.Count.{total-cong}
-use Rattle.rings.specs.Necklace.{necklace}
-use Rattle.rings.specs.Steps.{FullWalk, howMany}
+use Rattle.words.proofs.{Readings.readings-all, Count.total-cong}
+use Rattle.rings.specs.{Necklace.necklace, Steps.FullWalk, Steps.howMany}
 use Rattle.ring_laws.proofs.FullWalk.{zeros}
 use Rattle.ring_total_laws.proofs.Totals.{total-swap}
 use Rattle.ring_total_laws.proofs.OneRing.{walk-rings, walk-all, walk-no}

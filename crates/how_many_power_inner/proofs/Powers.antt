@@ -1,10 +1,7 @@
 -- A power that is at most a limit, factor after factor: no product on the way is above it.
 --     power-step    one factor more
-use Prim.Native.Nat.{ℕ, suc, _+_, _*_, _^_, _<_, _≤_}
-use mathlib.Core.Path.{_≡_, ap}
-use native.Mathlib.Omega.{arith}
+use Rattle.words.proofs.Plain.{ℕ, suc, _+_, _*_, _^_, _<_, _≤_, add-one, arith, _≡_, ap}
 use native.Mathlib.Nat.{pow-suc, pow-le-pow-right}
-use native.Mathlib.Numerals.{add-one}
 
 pub power-step : (k e limit i p : ℕ) → 0 < k → k ^ e ≤ limit → i < e → p ≡ k ^ i → (p * k ≡ k ^ (i + 1)) × (p * k ≤ limit)
 power-step k e limit i p z h l q =

@@ -1,9 +1,6 @@
 -- No numbers have two answers to how many rings of a kind there are.
 -- The order of the refusals is that of `limits` (numbersOrder there).
-use Prim.Native.Nat.{ℕ}
-use mathlib.Core.Path.{_≡_, sym, ap, _∙_}
-use mathlib.Core.Bool.{Bool}
-use mathlib.Core.List.{List}
+use Rattle.words.proofs.Plain.{ℕ, _≡_, sym, ap, _∙_, Bool, List}
 use Rattle.refusal.proofs.Unique.{one-refusal, never-both}
 use Rattle.limits_spec.specs.Limits.{numbersOrder}
 use Rattle.limits_spec.proofs.Unique.{listable-passed}

@@ -1,8 +1,7 @@
 -- Powers of k that are at most 2 to the power 32.
 --     power-fits      a power of a divisor of n
 --     product-fits    a weight times a power
-use Prim.Native.Nat.{ℕ, _*_, _/_, _^_, _<_, _≤_}
-use native.Mathlib.Omega.{arith}
+use Rattle.words.proofs.Plain.{ℕ, _*_, _/_, _^_, _<_, _≤_, arith}
 use native.Mathlib.Nat.{pow-le-pow-right, div-le-self, mul-le-mul}
 
 abbrev pub limit : ℕ

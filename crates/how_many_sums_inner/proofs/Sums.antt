@@ -2,12 +2,8 @@
 --     summand-none, summand-some     what d adds
 --     necklaces-are                  the sum with phi, divided by n
 --     minus-fits, lyndon-are         the sum where mu is 1, less that where it is -1, divided by n
-use Prim.Native.Nat.{ℕ, _-_, _*_, _/_, _%_, _^_, _≤_}
-use mathlib.Core.Path.{_≡_, sym, ap, _∙_}
-use native.Mathlib.Omega.{arith}
-use borrow.Author.Tests.{eq-eqb, ne-eqb}
-use Rattle.rings.specs.Necklace.{necklace, lyndon}
-use Rattle.rings.specs.Steps.{howMany}
+use Rattle.words.proofs.Plain.{ℕ, _-_, _*_, _/_, _%_, _^_, _≤_, arith, _≡_, sym, ap, _∙_, eq-eqb, ne-eqb}
+use Rattle.rings.specs.{Necklace.necklace, Necklace.lyndon, Steps.howMany}
 use Rattle.how_many_number_spec.specs.Divisors.{when, divides, overDivisors}
 use Rattle.how_many_laws.specs.Formulas.{necklaceSum, necklaceFormula, plusSum, minusSum, lyndonFormula}
 use Rattle.how_many_laws.proofs.Formulas.{necklace-formula, lyndon-exact, lyndon-formula}

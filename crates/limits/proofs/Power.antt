@@ -1,12 +1,6 @@
 -- Whether k to the power n is above a limit. While p is k to the power i and within the limit, p times k is above it exactly where limit / k is below p.
-use Prim.Native.Nat.{ℕ, zero, suc, _+_, _*_, _/_, _^_, _<_, _≤_}
-use mathlib.Core.Path.{_≡_, refl, sym, _∙_}
-use mathlib.Core.Bool.{true, false}
-use native.Mathlib.Omega.{arith}
+use Rattle.words.proofs.Plain.{ℕ, zero, suc, _+_, _*_, _/_, _^_, _<_, _≤_, add-one, arith, _≡_, refl, sym, _∙_, true, false, ltb, lt-ltb, le-ltb}
 use native.Mathlib.Nat.{pow-zero, pow-suc, pow-le-pow-right, div-lt-iff-lt-mul, le-div-iff-mul-le, one-le-pow, mul-zero, mul-one}
-use native.Mathlib.Numerals.{add-one}
-use lib.Dec.{ltb}
-use borrow.Author.Tests.{lt-ltb, le-ltb}
 
 -- a power of 1 is 1
 ones : (n : ℕ) → suc zero ^ n ≡ suc zero

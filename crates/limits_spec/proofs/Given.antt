@@ -2,15 +2,9 @@
 --     accepted-listable    numbers that are accepted passed 1, 2 and 12
 --     listable-within      numbers that pass one limit pass every higher one
 --     given-number         the number of their refusal is at most 12
-use Prim.Native.Nat.{ℕ, _≤_}
-use mathlib.Core.Path.{_≡_}
-use mathlib.Core.Logic.{inl, inr}
-use native.Mathlib.Omega.{arith}
-use Rattle.refusal.specs.declared.Refusal.{Refusal}
-use Rattle.refusal.specs.Numbers.{numberOf}
-use Rattle.refusal.specs.Order.{Given}
-use Rattle.limits_spec.specs.declared.Planned.{Planned}
-use Rattle.limits_spec.specs.declared.Planned.the-variants.{Accepted}
+use Rattle.words.proofs.Plain.{ℕ, _≤_, arith, _≡_, inl, inr}
+use Rattle.refusal.specs.{declared.Refusal.Refusal, Numbers.numberOf, Order.Given}
+use Rattle.limits_spec.specs.{declared.Planned.Planned, declared.Planned.the-variants.Accepted}
 use Rattle.limits_spec.specs.Limits.{Listable, numbersOrder, NumbersSay}
 
 -- numbers that are accepted

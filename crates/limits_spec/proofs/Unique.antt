@@ -2,8 +2,7 @@
 --     listable-passed     numbers that can be listed pass every check
 --     passed-listable     and the other way round
 --     one-numbers         no two plans satisfy what is promised of the numbers
-use Prim.Native.Nat.{ℕ}
-use mathlib.Core.Path.{_≡_, ap}
+use Rattle.words.proofs.Plain.{ℕ, _≡_, ap}
 use Rattle.refusal.specs.Order.{Passed}
 use Rattle.refusal.proofs.Unique.{one-refusal, never-both}
 use Rattle.limits_spec.specs.declared.Planned.{Planned}

@@ -2,16 +2,9 @@
 --     spelling-start, spelling-on, spelling-small, spelling-end     the loop over the digits
 --     too-short, too-long, zero-first, no-digit                     what is no number of one to three digits
 --     zero-text                                                     0 alone
-use Prim.Native.Nat.{ℕ, _+_, _-_, _*_, _^_, _<_, _≤_}
-use mathlib.Core.Path.{_≡_, refl, sym, ap, _∙_}
-use mathlib.Core.List.{List, [], _∷_}
-use native.Mathlib.Omega.{arith}
+use Rattle.words.proofs.Plain.{ℕ, _+_, _-_, _*_, _^_, _<_, _≤_, add-one, arith, decLt, _≡_, refl, sym, ap, _∙_, List, [], _∷_, length, getD, drop}
+use Rattle.words.proofs.{Plain.drop-of-length-le, Plain.drop-cons, Sequence.one-more}
 use native.Mathlib.Nat.{pow-succ', pow-le-pow-right}
-use native.Mathlib.Numerals.{add-one}
-use native.Mathlib.Decide.{decLt}
-use lib.ListN.{length, getD, drop, drop-of-length-le}
-use lib.Seq.{drop-cons}
-use Rattle.words.proofs.Sequence.{one-more}
 use Rattle.text_spec.specs.Decimal.{decimal}
 use Rattle.text_spec.proofs.Digits.{valueFrom, numeral, decimal-short, decimal-digits, decimal-some, decimal-lead, length-decimal}
 
@@ -30,8 +23,7 @@ module _ (s : List ℕ) (x i : ℕ) (p : Spelling s x i) where
   pub spelling-on : i < length s → 48 ≤ getD s i 0 → getD s i 0 ≤ 57 → Spelling s (x * 10 + (getD s i 0 - 48)) (i + 1)
   unfolding valueFrom
   spelling-on h lo hi =
-      rw (add-one i)
-      (record {
+      rw (add-one i) (record {
         inside = omega arith;
         digits = one-more (λ j. (48 ≤ getD s j 0) × (getD s j 0 ≤ 57)) i (p .digits) (lo, hi);
         value = p .value ∙ ap (valueFrom x) (drop-cons s i 0 h);

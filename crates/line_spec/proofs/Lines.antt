@@ -10,19 +10,11 @@
 --     one-line               a line spells at most one pair
 --     line-short             a line has at most 8 characters
 --     one-parse              no line has two answers
-use Prim.Native.Nat.{ℕ, suc, _+_, _-_, _<_, _≤_}
-use mathlib.Core.Path.{_≡_, refl, sym, ap, _∙_}
-use mathlib.Core.Logic.{_⊎_, inl, inr, ⊎-elim}
-use mathlib.Core.List.{List, [], _∷_, _++_}
-use native.Mathlib.Omega.{arith}
-use native.Mathlib.Numerals.{add-one}
-use lib.ListN.{length, getD, take, drop, length-append, List·getD-append, drop-of-length-le}
-use lib.Seq.{take-append-seam, drop-append-add, getD-append-seam, getD-append-add, split-at, take-at}
+use Rattle.words.proofs.Plain.{ℕ, suc, _+_, _-_, _<_, _≤_, add-one, arith, _≡_, refl, sym, ap, _∙_, _⊎_, inl, inr, ⊎-elim, List, [], _∷_, _++_, eqb, length}
+use Rattle.words.proofs.Plain.{getD, take, drop, length-append, List·getD-append, drop-of-length-le, take-append-seam, drop-append-add, getD-append-seam}
+use Rattle.words.proofs.Plain.{getD-append-add, split-at, take-at, eqb-true, eqb-false}
 use Rattle.words.proofs.Split.{lt, eq, gt, tri, passes, fails, test}
-use borrow.Author.Tests.{eqb-true, eqb-false}
-use lib.Dec.{eqb}
-use Rattle.line_spec.specs.declared.Parsed.{Parsed}
-use Rattle.line_spec.specs.declared.Parsed.the-variants.{Pair, Line}
+use Rattle.line_spec.specs.{declared.Parsed.Parsed, declared.Parsed.the-variants.Pair, declared.Parsed.the-variants.Line}
 use Rattle.text_spec.specs.Decimal.{decimal}
 use Rattle.line_spec.specs.Line.{fields, Spells, ParseSays, FieldsSays, TwoSays, SpaceAt}
 use Rattle.text_spec.proofs.Digits.{decimal-digits, decimal-one, length-decimal}

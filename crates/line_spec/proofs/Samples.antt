@@ -1,7 +1,6 @@
 -- Lines computed from the definition: one table, one claim.
-use mathlib.Core.Path.{_≡_, refl}
-use Rattle.text_spec.specs.Ascii.{ascii}
-use Rattle.text_spec.specs.Decimal.{decimalIn, decimal}
+use Rattle.words.proofs.Plain.{_≡_, refl}
+use Rattle.text_spec.specs.{Ascii.ascii, Decimal.decimalIn, Decimal.decimal}
 use Rattle.line_spec.specs.Line.{fields}
 
 -- the page's own line, and one with a 0 and three digits

@@ -4,25 +4,14 @@
 --     refused-room, refused-says        a refusal's line
 --     first-small, first-refused, first-listed    the first page: no room for a line, a refusal, a listing
 --     next-none, next-filled            any other page: from a state that is not good, and from one that is
-use Prim.Native.Nat.{ℕ, _+_, _^_, _<_, _≤_}
-use mathlib.Core.Path.{_≡_, refl, sym, ap, _∙_}
-use mathlib.Core.List.{List, [], _++_}
-use native.Mathlib.Omega.{arith}
-use lib.ListN.{length}
-use lib.Seq.{sets-eq}
-use Rattle.refusal.specs.declared.Refusal.{Refusal}
-use Rattle.refusal.specs.Numbers.{numberOf}
-use Rattle.text_spec.specs.Text.{refusedLine}
-use Rattle.text_spec.specs.Put.{Placed}
-use Rattle.text_spec.proofs.Digits.{length-decimal}
-use Rattle.text_spec.proofs.Put.{length-refused}
+use Rattle.words.proofs.Plain.{ℕ, _+_, _^_, _<_, _≤_, arith, _≡_, refl, sym, ap, _∙_, List, [], _++_, length, sets-eq}
+use Rattle.refusal.specs.{declared.Refusal.Refusal, Numbers.numberOf}
+use Rattle.text_spec.specs.{Text.refusedLine, Put.Placed}
+use Rattle.text_spec.proofs.{Digits.length-decimal, Put.length-refused}
 use Rattle.limits_spec.specs.declared.Planned.the-variants.{Accepted, Refused}
 use Rattle.plan_spec.specs.Plan.{PlanSays}
 use Rattle.plan_spec.proofs.Numbers.{plan-number}
-use Rattle.listing_spec.specs.declared.State.{State}
-use Rattle.listing_spec.specs.declared.Page.{Page}
-use Rattle.listing_spec.specs.Listing.{opening}
-use Rattle.listing_spec.specs.Prints.{mostPrinted}
+use Rattle.listing_spec.specs.{declared.State.State, declared.Page.Page, Listing.opening, Prints.mostPrinted}
 use Rattle.listing_spec.specs.State.{GoodState, emptyState}
 use Rattle.listing_spec.specs.Paging.{rowRoom, FirstPage, small, refused, listed, Next, bad, good, Paged}
 use Rattle.listing_pages_inner.specs.Says.{FillSays, OpenSays}

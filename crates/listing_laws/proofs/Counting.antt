@@ -6,29 +6,19 @@
 --     rings-bound, moves-bound              never more than k to the power n
 --     moves-begin, moves-next               no moves at the all-zero ring, and the moves of each step more
 --     last-low, last-moves, moves-end       the last ring has only k - 1, no moves are left there, and all prenecklaces but one were moved to
-use Prim.Native.Nat.{ℕ, zero, suc, _+_, _-_, _*_, _^_, _<_, _≤_}
-use mathlib.Core.Path.{_≡_, refl, sym, ap, _∙_}
-use mathlib.Core.Bool.{Bool, true, false, _&&_}
-use mathlib.Core.Option.{none, some}
-use mathlib.Core.List.{List}
-use native.Mathlib.Omega.{arith}
+use Rattle.words.proofs.Plain.{ℕ, zero, suc, _+_, _-_, _*_, _^_, _<_, _≤_, arith, _≡_, refl, sym, ap, _∙_, Bool, true, false, _&&_, none, some, List, length}
+use Rattle.words.proofs.Plain.{getD, replicate, length-replicate, getD-replicate}
 use native.Mathlib.Nat.{pow-zero, pow-succ', suc-mul, zero-mul}
-use lib.ListN.{length, getD, replicate, length-replicate, getD-replicate}
 use Rattle.words.specs.Order.{before, upTo, same}
 use Rattle.words.specs.Readings.{Reading, readings, bit, total, count}
 use Rattle.words.proofs.Split.{lt, eq, gt, tri, Test, passes, fails, test, both, not-right, refuted, clash}
-use Rattle.words.proofs.Sequence.{sec, Less}
+use Rattle.words.proofs.{Sequence.sec, Sequence.Less, Readings.readings-all, Readings.nothing-first}
 use Rattle.words.proofs.Lex.{Lex, ahead, equal, behind, lex, same-refl, same-false, before-irrefl, before-trans, before-asym, before-upTo, before-not-upTo}
 use Rattle.words.proofs.Lex.{upTo-refl, upTo-split, upTo-before-trans, not-before, not-less-upTo}
-use Rattle.words.proofs.Readings.{readings-all, nothing-first}
 use Rattle.words.proofs.Count.{sumBelow, sum-cong, total-cons, total-le, count-split, count-cong, count-one}
-use Rattle.rings.specs.Necklace.{necklace}
-use Rattle.rings.specs.Prenecklace.{prenecklace}
-use Rattle.rings.specs.Next.{lastLow}
+use Rattle.rings.specs.{Necklace.necklace, Prenecklace.prenecklace, Next.lastLow}
 use Rattle.rings.specs.Steps.{aboveOf, nextOf, passed, moves, howMany}
-use Rattle.ring_laws.proofs.Repeat.{Turned}
-use Rattle.ring_laws.proofs.Words.{of-neck}
-use Rattle.ring_laws.proofs.Next.{low-or-full, none-before}
+use Rattle.ring_laws.proofs.{Repeat.Turned, Words.of-neck, Next.low-or-full, Next.none-before}
 use Rattle.ring_laws.proofs.Moves.{before-not-same, after-not-same, moves-start, moves-full, moves-join}
 use Rattle.ring_laws.proofs.FullWalk.{next-facts, length-zeros, zeros-at, zeros-reading, zeros-necklace, walk-sum, walk-exists, walk-moves}
 use Rattle.listing_spec.specs.Listing.{zeroRing}
@@ -110,8 +100,7 @@ module _ (k : ℕ) (v x : List ℕ) (next : nextOf necklace k v ≡ some x) wher
   unfolding ringsTo
   rings-next =
       let f = next-facts necklace k v x next in
-      rw (f .0 .long)
-      (omega (
+      rw (f .0 .long) (omega (
         arith,
         count-split (λ u. necklace u && upTo u x) (λ u. necklace u && upTo u v) (same x) (readings (length v) k) split-ring (readings-all (length v) k),
         count-one (length v) k x (f .0),

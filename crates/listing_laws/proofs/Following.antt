@@ -2,13 +2,7 @@
 --     Follows k v rings sum t    t is all that follows the ring v, where so many rings and moves are behind: a line for each ring, and the last line
 --     follows-walk               it is the text of a full walk from v
 --     Behind, goes-follows       the lines of a page, and all that follows what it leaves, are all that follows its start
-use Prim.Native.Nat.{ℕ, suc, _+_, _<_}
-use mathlib.Core.Path.{_≡_, refl, sym, ap, _∙_}
-use mathlib.Core.Bool.{true}
-use mathlib.Core.Option.{none, some}
-use mathlib.Core.List.{List, [], _∷_, _++_, append-nil, append-assoc}
-use native.Mathlib.Omega.{arith}
-use lib.ListN.{length}
+use Rattle.words.proofs.Plain.{ℕ, suc, _+_, _<_, arith, _≡_, refl, sym, ap, _∙_, true, none, some, List, [], _∷_, _++_, append-nil, append-assoc, length}
 use Rattle.words.specs.Readings.{Reading}
 use Rattle.rings.specs.Necklace.{necklace}
 use Rattle.rings.specs.Steps.{nextOf, moves, FullWalk, done, step}

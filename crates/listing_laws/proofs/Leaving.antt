@@ -5,25 +5,15 @@
 --     goes-least, goes-some             where there is room for a line a page has one, and counts one ring more unless it is the last
 --     stands-good                       a state that stands is good
 --     stands-behind, empty-bad          the state that a page leaves stands, or is the empty one, which is not good
-use Prim.Native.Nat.{ℕ, suc, _+_, _^_, _<_, _≤_}
-use mathlib.Core.Path.{_≡_, refl, sym, ap, _∙_}
-use mathlib.Core.Logic.{_⊎_, inl, inr, ⊎-elim}
-use mathlib.Core.Bool.{true}
-use mathlib.Core.Option.{some}
-use mathlib.Core.List.{List, _++_}
-use native.Mathlib.Omega.{arith}
-use lib.ListN.{length, take, drop, length-append}
-use lib.Seq.{take-at, length-take-le}
+use Rattle.words.proofs.Plain.{ℕ, suc, _+_, _^_, _<_, _≤_, arith, _≡_, refl, sym, ap, _∙_, _⊎_, inl, inr, ⊎-elim, true, some, List, _++_, length, take, drop}
+use Rattle.words.proofs.Plain.{length-append, take-at, length-take-le}
 use Rattle.words.specs.Readings.{Reading}
-use Rattle.rings.specs.Necklace.{necklace, period}
-use Rattle.rings.specs.Steps.{nextOf, moves}
+use Rattle.rings.specs.{Necklace.necklace, Necklace.period, Steps.nextOf, Steps.moves}
 use Rattle.ring_laws.proofs.FullWalk.{next-facts, length-zeros, zeros-reading, zeros-necklace}
 use Rattle.text_spec.specs.Text.{lastLine}
 use Rattle.text_spec.proofs.Put.{length-last, length-ring}
 use Rattle.limits_spec.specs.Limits.{Listable}
-use Rattle.listing_spec.specs.declared.State.{State}
-use Rattle.listing_spec.specs.Listing.{row, zeroRing}
-use Rattle.listing_spec.specs.Prints.{mostPrinted}
+use Rattle.listing_spec.specs.{declared.State.State, Listing.row, Listing.zeroRing, Prints.mostPrinted}
 use Rattle.listing_spec.specs.State.{stateRing, GoodState, emptyState, startState, Rest, over, on, stateBehind}
 use Rattle.listing_spec.specs.Paging.{rowRoom, Goes, full, total, line, Next, bad, good}
 pub use Rattle.listing_laws.specs.Standing.{CountedSoFar, Stands}

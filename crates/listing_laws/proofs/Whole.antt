@@ -4,24 +4,16 @@
 --     paged-take                    what stands in the buffer is the page's text
 --     pages-follow                  the pages from a state that stands are all that follows its ring
 --     pages-whole                   the first page and the pages that follow are the whole output for the input
-use Prim.Native.Nat.{ℕ, suc, _+_, _<_, _≤_}
-use mathlib.Core.Path.{_≡_, refl, sym, ap, _∙_}
-use mathlib.Core.Logic.{_⊎_, inl, inr, ⊎-elim}
-use mathlib.Core.List.{List, [], _++_, append-nil, append-assoc}
-use native.Mathlib.Omega.{arith}
-use lib.ListN.{length, take, drop}
-use lib.Seq.{take-at}
+use Rattle.words.proofs.Plain.{ℕ, suc, _+_, _<_, _≤_, arith, _≡_, refl, sym, ap, _∙_, _⊎_, inl, inr, ⊎-elim, List, [], _++_, append-nil, append-assoc, length}
+use Rattle.words.proofs.Plain.{take, drop, take-at}
 use Rattle.words.specs.Readings.{Reading}
-use Rattle.rings.specs.Necklace.{necklace}
-use Rattle.rings.specs.Prenecklace.{prenecklace}
+use Rattle.rings.specs.{Necklace.necklace, Prenecklace.prenecklace}
 use Rattle.rings.specs.Steps.{howMany, FullWalk, done, step}
 use Rattle.ring_laws.proofs.FullWalk.{next-facts, length-zeros, zeros-reading, zeros-necklace, walk-sum, walk-exists}
 use Rattle.text_spec.specs.Text.{lastLine}
 use Rattle.limits_spec.specs.Limits.{Listable}
-use Rattle.listing_spec.specs.declared.State.{State}
-use Rattle.listing_spec.specs.declared.Page.{Page}
+use Rattle.listing_spec.specs.{declared.State.State, declared.Page.Page, Prints.mostPrinted, Prints.ListPrints}
 use Rattle.listing_spec.specs.Listing.{rows, zeroRing, opening, listingText, Listing}
-use Rattle.listing_spec.specs.Prints.{mostPrinted, ListPrints}
 use Rattle.listing_spec.specs.Prints as prints
 use Rattle.listing_spec.specs.State.{stateRing, GoodState, emptyState, startState, Rest, over, on, stateBehind}
 use Rattle.listing_spec.specs.Paging.{rowRoom, Goes, FirstPage, small, refused, listed, Next, bad, good, Paged, Pages, last, page}

@@ -2,33 +2,22 @@
 --     rows-length, page-full, page-last        what the loop promises, with nothing or the last line behind it, is what a page promises
 --     zeros-part, zeros-period, start-good     the all-zero ring: its sectors, its period, its state
 --     open-*, opened                           the first two lines have room, and what is placed behind them is the first page
-use Prim.Native.Nat.{ℕ, _+_, _<_, _≤_}
-use mathlib.Core.Path.{_≡_, refl, sym, ap, _∙_}
-use mathlib.Core.Bool.{true, false}
-use mathlib.Core.List.{List, _++_, append-assoc}
-use native.Mathlib.Omega.{arith}
+use Rattle.words.proofs.Plain.{ℕ, _+_, _<_, _≤_, arith, _≡_, refl, sym, ap, _∙_, true, false, List, _++_, append-assoc, length, take, drop, length-append}
+use Rattle.words.proofs.Plain.{length-replicate, ext-getD, getD-take, length-take-le}
 use native.Mathlib.Nat.{mod-one}
-use lib.ListN.{length, take, drop, length-append, length-replicate}
-use lib.Seq.{ext-getD, getD-take, length-take-le}
 use Rattle.words.proofs.Sequence.{sec}
 use Rattle.rings.specs.Necklace.{period}
-use Rattle.ring_laws.proofs.Run.{Run, lyn-one}
-use Rattle.ring_laws.proofs.Lyndon.{period-run}
-use Rattle.ring_laws.proofs.FullWalk.{length-zeros, zeros-at}
+use Rattle.ring_laws.proofs.{Run.Run, Run.lyn-one, Lyndon.period-run, FullWalk.length-zeros, FullWalk.zeros-at}
 use Rattle.text_spec.specs.Text.{firstLine, ringLine, lastLine}
 use Rattle.text_spec.specs.Put.{Placed}
 use Rattle.text_spec.proofs.Digits.{length-decimal}
 use Rattle.text_spec.proofs.Put.{placed-append, placed-length, length-first, length-ring}
 use Rattle.limits_spec.specs.Limits.{Listable}
-use Rattle.listing_spec.specs.declared.State.{State}
-use Rattle.listing_spec.specs.declared.Page.{Page}
-use Rattle.listing_spec.specs.Listing.{zeroRing, opening}
-use Rattle.listing_spec.specs.Prints.{mostPrinted}
+use Rattle.listing_spec.specs.{declared.State.State, declared.Page.Page, Listing.zeroRing, Listing.opening, Prints.mostPrinted}
 use Rattle.listing_spec.specs.State.{stateRing, GoodState, emptyState, startState, over, on}
 use Rattle.listing_spec.specs.Paging.{rowRoom}
 use Rattle.listing_laws.proofs.Leaving.{counted-start, Stands, stands-good}
-use Rattle.listing_rows_inner.specs.declared.Rows.{Rows}
-use Rattle.listing_rows_inner.specs.Says.{RowsSay}
+use Rattle.listing_rows_inner.specs.{declared.Rows.Rows, Says.RowsSay}
 use Rattle.listing_pages_inner.specs.Says.{FillSays, OpenSays}
 
 -- ---- a page's end

@@ -1,15 +1,10 @@
 -- What the program reads: the first page for what was read is that for the whole input.
 --     input-full    where the buffer is full
 --     input-by      by what was read
-use Prim.Native.Nat.{ℕ, _≤_}
-use mathlib.Core.Path.{_≡_}
-use mathlib.Core.List.{List}
-use lib.ListN.{length, take}
+use Rattle.words.proofs.Plain.{ℕ, _≤_, _≡_, List, length, take}
 use Rattle.limits_spec.specs.declared.Planned.the-variants.{Accepted, Refused}
 use Rattle.plan_spec.proofs.First.{plan-first}
-use Rattle.listing_spec.specs.declared.State.{State}
-use Rattle.listing_spec.specs.declared.Page.{Page}
-use Rattle.listing_spec.specs.Prints.{mostPrinted}
+use Rattle.listing_spec.specs.{declared.State.State, declared.Page.Page, Prints.mostPrinted}
 use Rattle.listing_spec.specs.Paging.{FirstPage, small, refused, listed, Paged}
 use Rattle.program_reading_inner.specs.declared.Most.{Most}
 use Rattle.program_reading_inner.specs.declared.Most.the-variants as M

@@ -2,17 +2,10 @@
 --     paged-length                              a page keeps the buffer's length
 --     turning-first, input-turning, turning-next    behind the first page, and behind the next, the listing stands or nothing follows
 --     pagesLeft, pages-fall                     a bound on the pages that follow, which falls
-use Prim.Native.Nat.{ℕ, zero, suc, _+_, _-_, _<_, _≤_}
-use mathlib.Core.Path.{_≡_, refl, sym, ap, _∙_}
-use mathlib.Core.Logic.{_⊎_, inl, inr}
-use mathlib.Core.List.{List, [], _++_}
-use native.Mathlib.Omega.{arith}
-use lib.ListN.{length, take, drop, length-append, length-take, length-drop}
-use lib.Seq.{take-all}
+use Rattle.words.proofs.Plain.{ℕ, zero, suc, _+_, _-_, _<_, _≤_, arith, _≡_, refl, sym, ap, _∙_, _⊎_, inl, inr, List, [], _++_, length, take, drop}
+use Rattle.words.proofs.Plain.{length-append, length-take, length-drop, take-all}
 use Rattle.limits_spec.specs.Limits.{Listable}
-use Rattle.listing_spec.specs.declared.State.{State}
-use Rattle.listing_spec.specs.declared.Page.{Page}
-use Rattle.listing_spec.specs.Prints.{mostPrinted}
+use Rattle.listing_spec.specs.{declared.State.State, declared.Page.Page, Prints.mostPrinted}
 use Rattle.listing_spec.specs.State.{emptyState, startState, Rest, over, on, stateBehind}
 use Rattle.listing_spec.specs.Paging.{rowRoom, FirstPage, small, refused, listed, Next, bad, good, Paged}
 use Rattle.listing_laws.proofs.Leaving.{counted-start, goes-true, goes-some, AtLeast, Stands, stands-good, stands-behind, empty-bad}

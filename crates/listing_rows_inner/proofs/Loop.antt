@@ -7,39 +7,24 @@
 --     came-size, came-moves           that ring's sectors, and its counts
 --     along-on                        with that line, and no other, one ring more
 --     says-full, says-ended           what the loop promises where it ends
-use Prim.Native.Nat.{ℕ, suc, _+_, _*_, _^_, _<_, _≤_}
-use mathlib.Core.Path.{_≡_, refl, sym, ap, _∙_}
-use mathlib.Core.Logic.{⊎-elim}
-use mathlib.Core.Bool.{Bool, true, false}
-use mathlib.Core.Option.{none, some}
-use mathlib.Core.List.{List, [], _∷_, _++_, append-assoc, append-nil}
-use native.Mathlib.Omega.{arith}
-use native.Mathlib.Numerals.{add-one}
-use lib.ListN.{length, take, drop, length-append, length-drop, take-append-drop}
-use lib.Seq.{take-at, drop-at}
-use Rattle.words.specs.Order.{before, upTo}
-use Rattle.words.specs.Readings.{Reading}
-use Rattle.words.proofs.Split.{clash}
-use Rattle.words.proofs.Search.{least-le}
+use Rattle.words.proofs.Plain.{ℕ, suc, _+_, _*_, _^_, _<_, _≤_, add-one, arith, _≡_, refl, sym, ap, _∙_, ⊎-elim, Bool, true, false, none, some, List, [], _∷_}
+use Rattle.words.proofs.Plain.{_++_, append-assoc, append-nil, length, take, drop, length-append, length-drop, take-append-drop, take-at, drop-at}
+use Rattle.words.specs.{Order.before, Order.upTo, Readings.Reading}
+use Rattle.words.proofs.{Split.clash, Search.least-le}
 use Rattle.rings.specs.Necklace.{necklace, period, repeatsBy}
 use Rattle.rings.specs.Steps.{nextOf, moves}
-use Rattle.ring_laws.proofs.Words.{necklace-prenecklace}
-use Rattle.ring_laws.proofs.FullWalk.{next-facts}
+use Rattle.ring_laws.proofs.{Words.necklace-prenecklace, FullWalk.next-facts}
 use Rattle.walk_kind_laws.specs.Kinds.{ReadyToStep}
 use types.Run.{OneOf}
 use denote.Enum.Declared.{tagOf}
 use Rattle.walk_spec.proofs.Outcome.{the-type}
-use Rattle.walk_spec.specs.declared.Outcome.{Outcome}
+use Rattle.walk_spec.specs.{declared.Outcome.Outcome, Says.WentSays}
 use Rattle.walk_spec.specs.declared.Outcome.the-variants.{Moved, Done, Refused}
-use Rattle.walk_spec.specs.Says.{WentSays}
-use Rattle.text_spec.specs.Text.{ringLine, lastLine}
-use Rattle.text_spec.specs.Put.{Placed}
+use Rattle.text_spec.specs.{Text.ringLine, Text.lastLine, Put.Placed}
 use Rattle.text_spec.proofs.Digits.{length-decimal}
 use Rattle.text_spec.proofs.Put.{placed-append, placed-length, length-ring, length-last}
 use Rattle.limits_spec.specs.Limits.{Listable}
-use Rattle.listing_spec.specs.declared.State.{State}
-use Rattle.listing_spec.specs.Listing.{row}
-use Rattle.listing_spec.specs.Prints.{mostPrinted}
+use Rattle.listing_spec.specs.{declared.State.State, Listing.row, Prints.mostPrinted}
 use Rattle.listing_spec.specs.State.{stateRing, GoodState, Rest, over, on, stateBehind}
 use Rattle.listing_spec.specs.Paging.{rowRoom, Goes, full, total, line}
 use Rattle.listing_laws.proofs.Counting.{ringsTo, movesTo, rings-next, rings-bound, moves-next, moves-bound}
@@ -125,8 +110,7 @@ module _ {n k : ℕ} {v tail : List ℕ} {rings₀ sum₀ : ℕ} {b : List ℕ} 
   -- a step may be made
   pub along-ready : ReadyToStep k (take n ring)
   along-ready =
-      rw taken
-      (record {
+      rw taken (record {
         pos = omega (arith, a .reading .long, a .numbers .sized);
         fits = omega (arith, a .reading .long, a .numbers .sized);
         shades = a .numbers .shaded .0;

@@ -1,10 +1,7 @@
 -- Document 01's own listing, of 2 and 4, computed from the definition (01, 'The listing program').
-use mathlib.Core.Path.{refl}
-use mathlib.Core.List.{[], _∷_}
-use Rattle.rings.specs.Open.{open-all}
-use Rattle.rings.specs.Steps.{done, step}
-use Rattle.text_spec.specs.Ascii.{ascii}
-use Rattle.text_spec.specs.Decimal.{decimalIn, decimal}
+use Rattle.words.proofs.Plain.{refl, [], _∷_}
+use Rattle.rings.specs.{Open.open-all, Steps.done, Steps.step}
+use Rattle.text_spec.specs.{Ascii.ascii, Decimal.decimalIn, Decimal.decimal}
 use Rattle.text_spec.specs.Text.{firstLine, ringLine, lastLine}
 use Rattle.listing_spec.specs.Listing.{row, rows, opening, listingText, Listing}
 

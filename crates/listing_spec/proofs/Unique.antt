@@ -3,26 +3,18 @@
 --     goes-one                             the lines that follow a ring are determined, and what they leave
 --     first-one, next-one                  so are the first page's text and state, and any other's
 --     one-page, one-first, one-next        and so are the answer and the buffer afterwards
-use Prim.Native.Nat.{ℕ, suc, _+_}
-use mathlib.Core.Path.{_≡_, refl, sym, ap, _∙_}
-use mathlib.Core.Bool.{Bool}
-use mathlib.Core.List.{List, _∷_, _++_}
-use native.Mathlib.Omega.{arith}
-use lib.ListN.{length, drop}
+use Rattle.words.proofs.Plain.{ℕ, suc, _+_, arith, _≡_, refl, sym, ap, _∙_, Bool, List, _∷_, _++_, length, drop}
 use Rattle.rings.specs.Necklace.{necklace}
 use Rattle.rings.specs.Steps.{FullWalk, done, step}
 use Rattle.ring_laws.proofs.FullWalk.{walk-moves}
-use Rattle.refusal.specs.declared.Refusal.{Refusal}
-use Rattle.refusal.specs.Numbers.{numberOf}
+use Rattle.refusal.specs.{declared.Refusal.Refusal, Numbers.numberOf}
 use Rattle.text_spec.specs.Text.{refusedLine}
 use Rattle.limits_spec.specs.declared.Planned.{Planned}
 use Rattle.limits_spec.specs.declared.Planned.the-variants.{Accepted, Refused}
 use Rattle.plan_spec.specs.Plan.{PlanSays}
 use Rattle.plan_spec.proofs.Unique.{one-plan}
-use Rattle.listing_spec.specs.declared.State.{State}
-use Rattle.listing_spec.specs.declared.Page.{Page}
+use Rattle.listing_spec.specs.{declared.State.State, declared.Page.Page, Prints.mostPrinted, Prints.ListPrints}
 use Rattle.listing_spec.specs.Listing.{row, opening, zeroRing, listingText, Listing}
-use Rattle.listing_spec.specs.Prints.{mostPrinted, ListPrints}
 use Rattle.listing_spec.specs.Prints as prints
 use Rattle.listing_spec.specs.State.{Rest, startState, stateBehind}
 use Rattle.listing_spec.specs.Paging.{Goes, full, total, line, FirstPage, small, refused, listed, Next, bad, good, Paged}

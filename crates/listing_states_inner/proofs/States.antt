@@ -1,26 +1,15 @@
 -- From which states a listing goes on.
 --     ring-refused, ring-decided          whether sectors are a necklace of k shades, by what classifying them says
 --     good-numbers, good-decided          whether a state is good, by its numbers and its ring
-use Prim.Native.Nat.{ℕ, _<_, _≤_}
-use mathlib.Core.Path.{_≡_, refl, sym, _∙_}
-use mathlib.Core.Bool.{Bool, true, false}
-use mathlib.Core.List.{List}
-use native.Mathlib.Omega.{arith}
-use lib.ListN.{length, take}
-use lib.Seq.{length-take-le}
+use Rattle.words.proofs.Plain.{ℕ, _<_, _≤_, arith, _≡_, refl, sym, _∙_, Bool, true, false, List, length, take, length-take-le}
 use Rattle.words.proofs.Split.{clash}
-use Rattle.rings.specs.declared.Class.{Class}
-use Rattle.rings.specs.Class.{classOf, isNecklace}
+use Rattle.rings.specs.{declared.Class.Class, Class.classOf, Class.isNecklace}
 use Rattle.ring_laws.proofs.Classes.{necklace-class}
-use Rattle.refusal.specs.declared.Refusal.{Refusal}
-use Rattle.refusal.specs.Order.{Given, Passed}
-use Rattle.refusal.specs.Calls.{oneReading}
+use Rattle.refusal.specs.{declared.Refusal.Refusal, Order.Given, Order.Passed, Calls.oneReading}
 use Rattle.refusal.proofs.Unique.{never-both}
 use Rattle.limits_spec.specs.Limits.{Listable, numbersOrder}
 use Rattle.limits_spec.proofs.Unique.{listable-passed}
-use Rattle.listing_spec.specs.declared.State.{State}
-use Rattle.listing_spec.specs.Prints.{mostPrinted}
-use Rattle.listing_spec.specs.State.{stateRing, GoodState}
+use Rattle.listing_spec.specs.{declared.State.State, Prints.mostPrinted, State.stateRing, State.GoodState}
 use Rattle.listing_states_inner.specs.Says.{NecklaceOf, TellsWhether}
 
 module _ (w : List ℕ) (k : ℕ) where

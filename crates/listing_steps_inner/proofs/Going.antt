@@ -1,11 +1,7 @@
 -- Whether another page follows.
 --     goes-unwritten, goes-written    by whether the page could be written
 --     goes-bytes                      where another follows, this one has bytes
-use Prim.Native.Nat.{ℕ, _<_}
-use mathlib.Core.Path.{_≡_, refl}
-use mathlib.Core.Bool.{Bool, true, false, false≢true}
-use lib.Dec.{ltb}
-use borrow.Author.Tests.{ltb-true}
+use Rattle.words.proofs.Plain.{ℕ, _<_, _≡_, refl, Bool, true, false, false≢true, ltb, ltb-true}
 use Rattle.listing_steps_inner.specs.Says.{goesOn}
 
 pub goes-unwritten : (wrote : Bool) (m : ℕ) → wrote ≡ false → false ≡ goesOn wrote m

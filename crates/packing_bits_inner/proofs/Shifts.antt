@@ -1,9 +1,7 @@
 -- What shifts of bytes need, over plain numbers.
 --     shifted, shifted-lt    a shift of a byte by up to 8 loses nothing, and how far it goes
 --     raised-lt              a number of h bits, raised by those that are missing, is a byte
-use Prim.Native.Nat.{ℕ, _+_, _-_, _*_, _%_, _^_, _<_, _≤_}
-use mathlib.Core.Path.{_≡_}
-use native.Mathlib.Omega.{arith}
+use Rattle.words.proofs.Plain.{ℕ, _+_, _-_, _*_, _%_, _^_, _<_, _≤_, arith, _≡_}
 use lib.Pow.{pow-mono, shl-lt, shl-exact}
 
 pub shifted : (x h : ℕ) → x < 256 → h ≤ 8 → x * 2 ^ h % 18446744073709551616 ≡ x * 2 ^ h

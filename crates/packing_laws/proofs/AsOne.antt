@@ -4,14 +4,10 @@
 --     parts-of-one               parts of b bits are kept by their number
 --     one-of-parts               and the number by its parts
 --     as-one-snoc                one more part behind
-use Prim.Native.Nat.{ℕ, zero, suc, _+_, _*_, _%_, _^_, _<_}
-use mathlib.Core.Path.{_≡_, refl, ap, sym, _∙_}
-use mathlib.Core.List.{List, [], _∷_, _++_}
-use native.Mathlib.Omega.{arith}
+use Rattle.words.proofs.Plain.{ℕ, zero, suc, _+_, _*_, _%_, _^_, _<_, arith, _≡_, refl, ap, sym, _∙_, List, [], _∷_, _++_, length, length-append}
 use native.Mathlib.Nat.{mod-lt, mul-zero, mul-suc, mul-comm, mul-assoc, add-mul}
 use lib.Pow.{pow-pos, pow-add, split, high, low, shr-lt}
 use lib.Arith.{digits-lt}
-use lib.ListN.{length, length-append}
 use Rattle.packing_spec.specs.Packing.{BitsFit, asOne, partsOf}
 
 -- one part more is b bits more

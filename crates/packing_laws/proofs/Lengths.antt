@@ -4,9 +4,7 @@
 --     packed-some, packed-le    at least one byte, and no more than there are sectors
 --     few-bits                  at most 512 bits, for up to 64 sectors of up to 8 bits
 --     bits-within, byte-of-lt   each bit of a sector is one of the sectors' bits, so its first bit lies in one of the bytes
-use Prim.Native.Nat.{ℕ, suc, _+_, _*_, _<_, _≤_}
-use mathlib.Core.Path.{_≡_}
-use native.Mathlib.Omega.{arith}
+use Rattle.words.proofs.Plain.{ℕ, suc, _+_, _*_, _<_, _≤_, arith, _≡_}
 use native.Mathlib.Nat.{mul-suc, mul-le-mul, mul-le-mul-left}
 use Rattle.packing_spec.specs.Packing.{packedLength, spare, byteOf}
 

@@ -4,16 +4,11 @@
 --     moved-take                 one more is taken
 --     moved-give, give-fits      one more is written; it has b bits
 --     grown, fits-set, held-lt   what the loops need too
-use Prim.Native.Nat.{ℕ, suc, _+_, _-_, _*_, _/_, _%_, _^_, _<_, _≤_}
-use mathlib.Core.Path.{_≡_, refl, sym}
-use mathlib.Core.List.{List}
-use native.Mathlib.Omega.{arith}
-use native.Mathlib.Numerals.{add-one}
+use Rattle.words.proofs.Plain.{ℕ, suc, _+_, _-_, _*_, _/_, _%_, _^_, _<_, _≤_, add-one, arith, _≡_, refl, sym, List, length, getD, take, set, take-suc}
+use Rattle.words.proofs.Plain.{take-suc-set, getD-set-same, getD-set-other}
 use native.Mathlib.Nat.{mod-lt, mul-zero, mul-suc, mul-assoc, add-mul}
 use lib.Pow.{pow-pos, pow-add, pow-mono, split, shr-lt}
 use lib.Arith.{digits-lt}
-use lib.ListN.{length, getD, take, set}
-use lib.Seq.{take-suc, take-suc-set, getD-set-same, getD-set-other}
 use Rattle.words.proofs.Split.{lt, eq, gt, tri}
 use Rattle.packing_spec.specs.Packing.{asOne}
 use Rattle.packing_laws.proofs.AsOne.{as-one-snoc}

@@ -8,16 +8,10 @@
 --     packed-holds, holds-packed         so bytes are the packed sectors exactly where they hold those sectors and their padding is clear
 --     packed-injective                   no two readings of one length are packed to the same bytes
 --     packed-is, unpacked-is             for the code: parts that make the right number are the packed ones, the unpacked ones
-use Prim.Native.Nat.{ℕ, zero, suc, _+_, _-_, _*_, _/_, _%_, _^_, _<_, _≤_}
-use mathlib.Core.Path.{_≡_, refl, ap, sym, _∙_}
-use mathlib.Core.Bool.{true}
-use mathlib.Core.List.{List, [], _∷_, _++_}
-use native.Mathlib.Omega.{arith}
+use Rattle.words.proofs.Plain.{ℕ, zero, suc, _+_, _-_, _*_, _/_, _%_, _^_, _<_, _≤_, arith, _≡_, refl, ap, sym, _∙_, true, List, [], _∷_, _++_, length, getD}
+use Rattle.words.proofs.Plain.{take, take-suc, take-all, eqb-true, eq-eqb}
 use native.Mathlib.Nat.{mul-assoc, mul-mod-left, mod-one, mul-add-mod-self-right}
 use lib.Pow.{pow-add, split, high, shr-lt, shl-lt, shl-shr}
-use lib.ListN.{length, getD, take}
-use lib.Seq.{take-suc, take-all}
-use borrow.Author.Tests.{eqb-true, eq-eqb}
 use Rattle.packing_spec.specs.Packing.{BitsFit, Bytes, asOne, packedLength, spare, packed, unpacked, clearPadding}
 use Rattle.packing_laws.proofs.AsOne.{length-parts, parts-fit, as-one-lt, parts-of-one, one-of-parts, as-one-snoc}
 use Rattle.packing_laws.proofs.Lengths.{bits-bytes, spare-lt}

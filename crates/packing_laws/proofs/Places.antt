@@ -2,16 +2,11 @@
 --     one-bit        the bit m of the part i is the bit b * i + m, from the highest, of the one number
 --     bit-packed     so it is that bit of the packed bytes: in the byte (b * i + m) / 8, at (b * i + m) % 8
 --     first-bit      the first bit of the sector i lies in the byte `byteOf b i`
-use Prim.Native.Nat.{ℕ, zero, suc, _+_, _-_, _*_, _/_, _%_, _^_, _<_}
-use mathlib.Core.Path.{_≡_, ap, sym, _∙_}
-use mathlib.Core.List.{List, [], _∷_}
-use native.Mathlib.Omega.{arith}
+use Rattle.words.proofs.Plain.{ℕ, zero, suc, _+_, _-_, _*_, _/_, _%_, _^_, _<_, arith, _≡_, ap, sym, _∙_, List, [], _∷_, length, getD}
 use native.Mathlib.Nat.{mul-zero, mul-suc, mul-assoc, pow-suc, add-zero, mul-add-div-right, mul-add-mod-self-right}
 use lib.Pow.{pow-pos, pow-add, high, shr-shr, shl-shr}
-use lib.ListN.{length, getD}
 use Rattle.packing_spec.specs.Packing.{BitsFit, asOne, packedLength, spare, packed, bitAt, byteOf}
-use Rattle.packing_laws.proofs.AsOne.{as-one-lt}
-use Rattle.packing_laws.proofs.Lengths.{bits-bytes, bits-within}
+use Rattle.packing_laws.proofs.{AsOne.as-one-lt, Lengths.bits-bytes, Lengths.bits-within}
 use Rattle.packing_laws.proofs.Packing.{length-packed, packed-bytes, one-packed}
 
 -- a bit that lies below the first part

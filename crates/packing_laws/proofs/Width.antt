@@ -4,22 +4,14 @@
 --     width-is                              nothing else is so
 --     width-pos, width-le, narrow           at least 1; at most b where k is up to 2 to the power b; so 1 to 4 for 2 to 16 shades
 --     width-leading                         eight less the leading zeros of k - 1 as a byte
-use Prim.Native.Nat.{ℕ, zero, suc, _+_, _-_, _*_, _^_, _<_, _≤_}
-use mathlib.Core.Path.{_≡_}
-use mathlib.Core.Bool.{Bool}
-use mathlib.Core.List.{List}
-use native.Mathlib.Omega.{arith}
+use Rattle.words.proofs.Plain.{ℕ, zero, suc, _+_, _-_, _*_, _^_, _<_, _≤_, arith, _≡_, Bool, List, ltb, length, getD, ltb-true, ltb-false, lt-ltb}
 use native.Mathlib.Nat.{pow-suc}
-use lib.Dec.{ltb}
-use lib.ListN.{length, getD}
 use lib.Pow.{pow-mono}
 use lib.Count.{leadingZeros, leading-length}
-use borrow.Author.Tests.{ltb-true, ltb-false, lt-ltb}
 use Rattle.words.specs.Readings.{Shaded}
 use Rattle.words.proofs.Search.{least-at, least-lt, least-none}
 use Rattle.words.proofs.Split.{lt, eq, gt, tri}
-use Rattle.packing_spec.specs.Width.{width}
-use Rattle.packing_spec.specs.Packing.{BitsFit}
+use Rattle.packing_spec.specs.{Width.width, Packing.BitsFit}
 
 -- a number is below 2 to its own power
 pow-above : (n : ℕ) → n < 2 ^ n

@@ -6,18 +6,12 @@
 --     packs-given                         it is written
 --     packs-end                           all are taken and no bits are left: the bytes are packed
 --     last-room, packs-last               some are left: they are the highest of one more byte, and with it the bytes are packed
-use Prim.Native.Nat.{ℕ, suc, _+_, _-_, _*_, _/_, _%_, _^_, _<_, _≤_}
-use mathlib.Core.Path.{_≡_, sym, _∙_}
-use mathlib.Core.List.{List, [], _∷_, _++_}
-use native.Mathlib.Omega.{arith}
+use Rattle.words.proofs.Plain.{ℕ, suc, _+_, _-_, _*_, _/_, _%_, _^_, _<_, _≤_, arith, _≡_, sym, _∙_, List, [], _∷_, _++_, length, getD, take, set, length-set}
+use Rattle.words.proofs.Plain.{take-suc-set, take-all}
 use native.Mathlib.Nat.{mul-le-mul-left}
 use lib.Pow.{shl-lt}
-use lib.ListN.{length, getD, take, set, length-set}
-use lib.Seq.{take-suc-set, take-all}
 use Rattle.packing_spec.specs.Packing.{BitsFit, asOne, packedLength, packed}
-use Rattle.packing_laws.proofs.AsOne.{as-one-snoc}
-use Rattle.packing_laws.proofs.Lengths.{bits-bytes, bytes-is}
-use Rattle.packing_laws.proofs.Packing.{packed-is}
+use Rattle.packing_laws.proofs.{AsOne.as-one-snoc, Lengths.bits-bytes, Lengths.bytes-is, Packing.packed-is}
 use Rattle.packing_laws.proofs.Moving.{Moved, moved-start, moved-take, moved-give, give-fits, grown, fits-set}
 
 pub record Packs (b : ℕ) (w : List ℕ) (i : ℕ) (c : List ℕ) (j h r : ℕ) : Type 0 where

@@ -1,14 +1,9 @@
 -- Sectors packed by hand (02, request k), of the definitions themselves: one table, one claim. The last claim computes it.
 -- The request's own rows come first. Where a row's bits are not plain to see they stand beside it, a space between two sectors and a bar between two bytes.
-use Prim.Native.Nat.{ℕ}
-use mathlib.Core.Path.{_≡_, refl}
-use mathlib.Core.Bool.{Bool, true, false}
-use mathlib.Core.List.{List, [], _∷_}
-use lib.ListN.{length}
+use Rattle.words.proofs.Plain.{ℕ, _≡_, refl, Bool, true, false, List, [], _∷_, length}
 use Rattle.words.specs.Table.{Hold}
-use Rattle.packing_spec.specs.Width.{width}
+use Rattle.packing_spec.specs.{Width.width, Open.open-packing}
 use Rattle.packing_spec.specs.Packing.{packedLength, packed, unpacked, clearPadding, byteOf, bitAt}
-use Rattle.packing_spec.specs.Open.{open-packing}
 
 -- the shapes of a row
 pub data Case : Type 0 where

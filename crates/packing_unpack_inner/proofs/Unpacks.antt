@@ -6,17 +6,10 @@
 --     unpacks-end                     all are written: the sectors are unpacked
 -- And of `padding_clear`:
 --     clear-is                        the unused low bits of the last byte, as a remainder
-use Prim.Native.Nat.{ℕ, _+_, _-_, _*_, _/_, _%_, _^_, _<_, _≤_}
-use mathlib.Core.Path.{_≡_}
-use mathlib.Core.List.{List}
-use native.Mathlib.Omega.{arith}
+use Rattle.words.proofs.Plain.{ℕ, _+_, _-_, _*_, _/_, _%_, _^_, _<_, _≤_, arith, _≡_, List, eqb, length, getD, take, set, length-set, take-all}
 use native.Mathlib.Nat.{mul-suc, mul-le-mul-left}
-use lib.Dec.{eqb}
-use lib.ListN.{length, getD, take, set, length-set}
-use lib.Seq.{take-all}
 use Rattle.packing_spec.specs.Packing.{packedLength, spare, unpacked, clearPadding}
-use Rattle.packing_laws.proofs.Lengths.{bits-bytes, bytes-is}
-use Rattle.packing_laws.proofs.Packing.{unpacked-is}
+use Rattle.packing_laws.proofs.{Lengths.bits-bytes, Lengths.bytes-is, Packing.unpacked-is}
 use Rattle.packing_laws.proofs.Moving.{held-lt, Moved, moved-start, moved-take, moved-give, give-fits}
 
 pub record Unpacks (b : ℕ) (c : List ℕ) (n i : ℕ) (w : List ℕ) (j h r : ℕ) : Type 0 where

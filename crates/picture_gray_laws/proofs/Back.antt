@@ -1,25 +1,16 @@
 -- A picture is read back as its ring, of whatever answers the contracts of `density::sector_shade` and `density::ring_shades` admit.
 --     sector-back       a value near the reflectance of shade s: `sector_shade` answers s, and nothing else
 --     picture-back      a ring measured from its picture: `ring_shades` writes the ring, and nothing else
-use Prim.Native.Nat.{ℕ, zero, suc, _+_, _*_, _<_, _≤_}
-use mathlib.Core.Path.{_≡_, refl, sym, ap, _∙_}
-use mathlib.Core.List.{List, [], _∷_, map}
-use native.Mathlib.Omega.{arith}
-use lib.ListN.{length, getD, length-map}
-use lib.Seq.{ext-getD}
+use Rattle.words.proofs.Plain.{ℕ, zero, suc, _+_, _*_, _<_, _≤_, arith, _≡_, refl, sym, ap, _∙_, true, List, [], _∷_, map, length, getD, length-map, ext-getD}
 use lib.Ieee.{Float, nan, binary32, ofBits, ofFields, lt, eq, le, ne}
-use mathlib.Core.Bool.{true}
 use Rattle.words.specs.Readings.{Sized, Shaded}
 use Rattle.refusal.specs.Calls.{Below}
-use Rattle.density_spec.specs.declared.SectorRead.{SectorRead}
+use Rattle.density_spec.specs.{declared.SectorRead.SectorRead, declared.Sector.the-variants.Shade, declared.RingRead.RingRead}
 use Rattle.density_spec.specs.declared.SectorRead.the-variants as S
-use Rattle.density_spec.specs.declared.Sector.the-variants.{Shade}
-use Rattle.density_spec.specs.declared.RingRead.{RingRead}
 use Rattle.density_spec.specs.declared.RingRead.the-variants as R
 use Rattle.density_spec.specs.Cuts.{goodCard, shadeOf, In}
 use Rattle.density_spec.specs.Says.{SectorSays, RingSays}
-use Rattle.density_spec.proofs.Unique.{one-sector, one-ring}
-use Rattle.density_spec.proofs.Places.{shade-at}
+use Rattle.density_spec.proofs.{Unique.one-sector, Unique.one-ring, Places.shade-at}
 use Rattle.picture_spec.specs.declared.Tone.{Tone}
 use Rattle.picture_laws.proofs.Seen.{shown-sector}
 use Rattle.picture_gray_laws.specs.Shown.{fullCard, NearShade, Measured}

@@ -2,21 +2,13 @@
 --     shades-told       for both tones, all k from 2 to 16 and each of its shades: 270 cases, computed
 --     ideal-in, ideal-shade    the reflectance of a shade lies from 0 to 1, and its shade is that shade
 --     near-shade        so is every value within the tolerance
-use Prim.Native.Nat.{ℕ, suc, zero, _+_, _-_, _<_, _≤_}
-use mathlib.Core.Path.{_≡_, refl, sym, ap, _∙_}
-use mathlib.Core.Bool.{Bool, true, false, not, _&&_}
-use native.Mathlib.Omega.{arith}
-use lib.Dec.{T, eqb}
+use Rattle.words.proofs.Plain.{ℕ, suc, zero, _+_, _-_, _<_, _≤_, arith, _≡_, refl, sym, ap, _∙_, Bool, true, false, not, _&&_, T, eqb, eqb-true}
 use lib.Ieee.{Float, binary32, ofBits, ofFields, add, sub, mul, div, neg, sum, round, units, odd, size, climb, span, ofInt, lt, eq, le, ne}
-use borrow.Author.Tests.{eqb-true}
-use Rattle.words.specs.Search.{allBelow}
-use Rattle.words.specs.Readings.{Shaded}
-use Rattle.words.proofs.Search.{all-at}
-use Rattle.words.proofs.Split.{both-left, both-right}
+use Rattle.words.specs.{Search.allBelow, Readings.Shaded}
+use Rattle.words.proofs.{Search.all-at, Split.both-left, Split.both-right}
 use Rattle.density_spec.specs.Cuts.{cutsUpTo, shadeOf, In, zero32, one32}
 use Rattle.density_laws.proofs.Shades.{brighter}
-use Rattle.picture_spec.specs.declared.Tone.{Tone}
-use Rattle.picture_spec.specs.declared.Tone.the-variants.{Managed, Levels}
+use Rattle.picture_spec.specs.{declared.Tone.Tone, declared.Tone.the-variants.Managed, declared.Tone.the-variants.Levels}
 use Rattle.picture_spec.specs.Gray.{managedGrays, gray}
 use Rattle.picture_gray_laws.specs.Shown.{srgb, reflectance, tolerance, ideal, NearShade, fullCard}
 

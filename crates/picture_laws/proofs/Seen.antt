@@ -3,16 +3,9 @@
 --     on-arc, off-arc                      which places an arc's dash covers, where places are counted on past the top
 --     seen-from                            the arcs of what is left of a ring
 --     shown-sector                         at each place of sector i, the shade of sector i
-use Prim.Native.Nat.{ℕ, zero, suc, _+_, _-_, _*_, _%_, _<_, _≤_}
-use mathlib.Core.Path.{_≡_, refl, sym, ap, _∙_}
-use mathlib.Core.Bool.{Bool, true, false, not, _&&_, _||_}
-use mathlib.Core.Logic.{_⊎_, inl, inr}
-use mathlib.Core.List.{List, [], _∷_}
-use native.Mathlib.Omega.{arith}
+use Rattle.words.proofs.Plain.{ℕ, zero, suc, _+_, _-_, _*_, _%_, _<_, _≤_, arith, _≡_, refl, sym, ap, _∙_, _⊎_, inl, inr, Bool, true, false, not, _&&_, _||_}
+use Rattle.words.proofs.Plain.{List, [], _∷_, ltb, eqb, length, getD, lt-ltb, le-ltb, ltb-true, ltb-false, eq-eqb, ne-eqb, eqb-true, eqb-false}
 use native.Mathlib.Nat.{mod-eq-of-lt, add-mod-left}
-use lib.Dec.{ltb, eqb}
-use lib.ListN.{length, getD}
-use borrow.Author.Tests.{lt-ltb, le-ltb, ltb-true, ltb-false, eq-eqb, ne-eqb, eqb-true, eqb-false}
 use Rattle.words.specs.Turn.{turn}
 use Rattle.words.proofs.Split.{passes, fails, test, lt, eq, gt, tri, either-left, either-right}
 use Rattle.words.proofs.Turn.{length-turn, turn-low, turn-high}
@@ -148,8 +141,7 @@ module _ (n o i u c : ℕ) (oz : o ≤ n) (iu : 710 * i ≤ u) (ui : u < 710 * (
               rw (arcs-same p j s w x)
               (seen-from s (suc j) z w m (omega arith) (omega arith) (omega arith) (omega arith) (λ h. g (omega (arith, reach-same p s w x, ap (λ (y : ℕ). reach y w) x)) ∙ sym x))
           | fails q ↦
-              rw (arcs-other p j s w (eqb-false s p q))
-              (elim (test (ltb m (reach s w))) [
+              rw (arcs-other p j s w (eqb-false s p q)) (elim (test (ltb m (reach s w))) [
                 | passes x ↦
                     let h = ltb-true m (reach s w) x in
                     paint j (suc (reach s w)) s (arcsFrom s (suc j) w) z oj (omega (arith, reach-le s w)) (omega arith) (omega arith)

@@ -2,12 +2,7 @@
 --     On n i u t          t is the place i sectors behind u, on the circle of n sectors
 --     shown-turn          the picture of a reading turned by i
 --     shown-home          the picture of the home reading
-use Prim.Native.Nat.{ℕ, _+_, _-_, _*_, _/_, _<_, _≤_}
-use mathlib.Core.Path.{_≡_, sym, ap, _∙_}
-use mathlib.Core.Logic.{_⊎_, inl, inr}
-use mathlib.Core.List.{List}
-use native.Mathlib.Omega.{arith}
-use lib.ListN.{length, getD}
+use Rattle.words.proofs.Plain.{ℕ, _+_, _-_, _*_, _/_, _<_, _≤_, arith, _≡_, sym, ap, _∙_, _⊎_, inl, inr, List, length, getD}
 use Rattle.words.specs.Turn.{turn}
 use Rattle.words.proofs.Turn.{length-turn, turn-low, turn-high}
 use Rattle.rings.specs.Home.{shift, home}

@@ -1,20 +1,13 @@
 -- From what the words behind the number print to what an input prints.
 --     put-line, no-number              a number in front
 --     put-input, no-line               the line is all of the input, or not
-use Prim.Native.Nat.{ℕ, _-_, _<_, _≤_}
-use mathlib.Core.Path.{_≡_, ap, _∙_}
-use mathlib.Core.List.{List, _∷_, map}
-use native.Mathlib.Omega.{arith}
-use lib.ListN.{length, take, drop}
-use Rattle.text_spec.specs.Decimal.{decimal}
-use Rattle.text_spec.specs.Text.{hexOf}
+use Rattle.words.proofs.Plain.{ℕ, _-_, _<_, _≤_, arith, _≡_, ap, _∙_, List, _∷_, map, length, take, drop}
+use Rattle.text_spec.specs.{Decimal.decimal, Text.hexOf}
 use Rattle.text_words_spec.specs.Words.{PieceAt}
 use Rattle.picture_spec.specs.declared.Tone.{Tone}
 use Rattle.desk_spec.proofs.Questions.{place-one}
-use Rattle.desk_words_inner.specs.declared.Head.the-variants.{Number, Malformed}
-use Rattle.desk_words_inner.specs.Says.{HeadSays}
-use Rattle.desk_words_inner.proofs.Heads.{rest-words}
-use Rattle.desk_words_inner.proofs.Shapes.{rest-all}
+use Rattle.desk_words_inner.specs.{declared.Head.the-variants.Number, declared.Head.the-variants.Malformed, Says.HeadSays}
+use Rattle.desk_words_inner.proofs.{Heads.rest-words, Shapes.rest-all}
 use Rattle.picture_print_spec.specs.Prints.{ToneAsked, toneWords, ReadsTarget, ReadsPicture, PictureShows, PicturePrints}
 use Rattle.picture_words_inner.specs.Says.{PictureText, ReadsTone, WordsPrinted}
 use Rattle.picture_words_inner.proofs.Words.{print-as}

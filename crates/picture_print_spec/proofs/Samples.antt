@@ -1,12 +1,7 @@
 -- Lines worked out by hand.
 --     a-target, in-levels    what a line asks for
-use Prim.Native.Nat.{ℕ, _<_, _≤_}
-use mathlib.Core.Path.{_≡_, refl}
-use mathlib.Core.List.{List, [], _∷_, map}
-use native.Mathlib.Omega.{arith}
-use Rattle.text_spec.specs.Ascii.{ascii, space}
-use Rattle.text_spec.specs.Decimal.{decimal, decimalIn}
-use Rattle.text_spec.specs.Text.{hexOf}
+use Rattle.words.proofs.Plain.{ℕ, _<_, _≤_, arith, _≡_, refl, List, [], _∷_, map}
+use Rattle.text_spec.specs.{Ascii.ascii, Ascii.space, Decimal.decimal, Decimal.decimalIn, Text.hexOf}
 use Rattle.text_words_spec.specs.Words.{pieces, onto}
 use Rattle.picture_spec.specs.declared.Tone.the-variants.{Managed, Levels}
 use Rattle.picture_print_spec.specs.Prints.{toneWords}

@@ -4,20 +4,15 @@
 --     one-input       and an input
 --     one-show        a picture that is asked for prints one text
 --     one-picture     and so does an input
-use Prim.Native.Nat.{ℕ, _≤_}
-use mathlib.Core.Path.{_≡_, refl, sym, ap, _∙_}
-use mathlib.Core.List.{List, [], _∷_, map}
-use lib.ListN.{take}
+use Rattle.words.proofs.Plain.{ℕ, _≤_, _≡_, refl, sym, ap, _∙_, List, [], _∷_, map, take}
 use Rattle.text_spec.specs.Ascii.{ascii}
 use Rattle.text_spec.proofs.Digits.{decimal-one}
 use Rattle.text_words_spec.proofs.Pieces.{first-same, behind-same, none-some}
 use Rattle.refusal.specs.Calls.{oneReading}
 use Rattle.refusal.proofs.Unique.{one-refusal, never-both}
-use Rattle.picture_spec.specs.declared.Tone.{Tone}
-use Rattle.picture_spec.specs.declared.Tone.the-variants.{Managed, Levels}
+use Rattle.picture_spec.specs.{declared.Tone.Tone, declared.Tone.the-variants.Managed, declared.Tone.the-variants.Levels}
 use Rattle.desk_spec.specs.Texts.{refusalText}
-use Rattle.desk_spec.proofs.Questions.{spelt-same, place-one}
-use Rattle.desk_spec.proofs.Unique.{one-asked}
+use Rattle.desk_spec.proofs.{Questions.spelt-same, Questions.place-one, Unique.one-asked}
 use Rattle.picture_print_spec.specs.Prints.{ToneAsked, toneWords, ReadsTarget, ReadsPicture, PictureShows, drawn, refused, PicturePrints}
 
 pub tone-one : (a b : Tone) → toneWords a ≡ toneWords b → a ≡ b

@@ -1,11 +1,7 @@
 -- What the program reads.
 --     picture-by          the output by what was read
 --     picture-inside      it lies within the buffer, which keeps its length
-use Prim.Native.Nat.{ℕ, _≤_}
-use mathlib.Core.Path.{_≡_, ap}
-use mathlib.Core.List.{List}
-use native.Mathlib.Omega.{arith}
-use lib.ListN.{length}
+use Rattle.words.proofs.Plain.{ℕ, _≤_, arith, _≡_, ap, List, length}
 use Rattle.text_spec.proofs.Put.{placed-length}
 use Rattle.picture_spec.specs.Says.{pictureRoom}
 use Rattle.program_reading_inner.specs.declared.Most.{Most}

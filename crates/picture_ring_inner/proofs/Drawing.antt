@@ -4,22 +4,15 @@
 --     fits-on, fits-arc                        what a sector draws
 --     Drawing, drawing-none, drawing-on, drawing-room, drawing-end    sector after sector
 --     turned-long, turned-short, turned-some, turned-from, turned-below    a turned ring; ring-fits, and the whole of it
-use Prim.Native.Nat.{ℕ, zero, suc, _+_, _-_, _*_, _<_, _≤_}
-use mathlib.Core.Path.{_≡_, refl, sym, ap, _∙_}
-use mathlib.Core.List.{List, [], _∷_, _++_, append-assoc, append-nil}
-use native.Mathlib.Omega.{arith}
-use native.Mathlib.Numerals.{add-one}
-use lib.Dec.{ltb, eqb}
-use lib.ListN.{length, getD, drop, drop-of-length-le, length-drop}
-use borrow.Author.Tests.{eq-eqb, ne-eqb, ltb-true, ltb-false}
+use Rattle.words.proofs.Plain.{ℕ, zero, suc, _+_, _-_, _*_, _<_, _≤_, add-one, arith, _≡_, refl, sym, ap, _∙_, List, [], _∷_, _++_, append-assoc, append-nil}
+use Rattle.words.proofs.Plain.{ltb, eqb, length, getD, drop, drop-of-length-le, length-drop, eq-eqb, ne-eqb, ltb-true, ltb-false}
 use Rattle.words.specs.Turn.{turn}
 use Rattle.words.proofs.Turn.{length-turn, turn-low, turn-high}
 use Rattle.refusal.specs.Calls.{Below}
 use Rattle.words.proofs.Split.{passes, fails, test}
 use Rattle.text_form_inner.specs.Fits.{Fits}
 use Rattle.text_form_inner.proofs.Fits.{fits-none, fits-append, fits-room, fits-more}
-use Rattle.picture_spec.specs.declared.Tone.{Tone}
-use Rattle.picture_spec.specs.Gray.{gray}
+use Rattle.picture_spec.specs.{declared.Tone.Tone, Gray.gray}
 use Rattle.picture_spec.specs.Arcs.{reach, Arc, arcsFrom, firstRun, arcs}
 use Rattle.picture_spec.specs.Text.{withNumbers, arcForm, arcNumbers, arcText, arcTexts, ringPicture}
 use Rattle.picture_laws.proofs.Seen.{reach-same, reach-other, reach-le}

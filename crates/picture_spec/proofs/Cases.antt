@@ -2,13 +2,9 @@
 --     over-the-top, one-shade    arcs: a run over the top is one arc; a ring of one shade is one arc around
 --     two-sectors                a whole picture
 --     white-and-black            shade 0 is black and the last shade white, in both tones
-use Prim.Native.Nat.{ℕ}
-use mathlib.Core.Path.{_≡_, refl}
-use mathlib.Core.List.{List, [], _∷_, _++_}
-use lib.Dec.{eqb}
+use Rattle.words.proofs.Plain.{ℕ, _≡_, refl, List, [], _∷_, _++_, eqb}
 use Rattle.words.specs.Turn.{turn}
-use Rattle.text_spec.specs.Ascii.{ascii}
-use Rattle.text_spec.specs.Decimal.{decimalIn, decimal}
+use Rattle.text_spec.specs.{Ascii.ascii, Decimal.decimalIn, Decimal.decimal}
 use Rattle.text_fill_spec.specs.Filled.{filledText}
 use Rattle.picture_spec.specs.declared.Tone.the-variants.{Managed, Levels}
 use Rattle.picture_spec.specs.Gray.{managedGrays, gray}

@@ -1,12 +1,8 @@
 -- Drawing has one answer, and leaves the buffer in one way.
 --     one-drawn
-use Prim.Native.Nat.{ℕ}
-use mathlib.Core.Path.{_≡_, sym, ap, _∙_}
-use mathlib.Core.List.{List}
-use lib.ListN.{length}
+use Rattle.words.proofs.Plain.{ℕ, _≡_, sym, ap, _∙_, List, length}
 use Rattle.refusal.proofs.Unique.{one-refusal, never-both}
-use Rattle.picture_spec.specs.declared.Tone.{Tone}
-use Rattle.picture_spec.specs.declared.Drawn.{Drawn}
+use Rattle.picture_spec.specs.{declared.Tone.Tone, declared.Drawn.Drawn}
 use Rattle.picture_spec.specs.declared.Drawn.the-variants.{Whole, Refused}
 use Rattle.picture_spec.specs.Says.{drawOrder, DrawSays}
 

@@ -4,28 +4,17 @@
 --     no-digits, put-target            digits that spell nothing, and those that do
 --     put-managed, put-levels, no-levels    one word behind the number, two, and what is none
 --     this-text, other-text            whether the rest of a text is that word
-use Prim.Native.Nat.{ℕ, _+_, _-_, _<_, _≤_}
-use mathlib.Core.Path.{_≡_, refl, sym, ap, _∙_}
-use mathlib.Core.Logic.{inl, inr}
-use mathlib.Core.Bool.{true, false, false≢true}
-use mathlib.Core.List.{List, [], _∷_, map}
-use native.Mathlib.Omega.{arith}
-use lib.ListN.{length, take, drop}
+use Rattle.words.proofs.Plain.{ℕ, _+_, _-_, _<_, _≤_, arith, _≡_, refl, sym, ap, _∙_, inl, inr, true, false, false≢true, List, [], _∷_, map, length, take, drop}
 use Rattle.words.specs.Order.{same}
 use Rattle.words.proofs.Lex.{same-true, true-same}
-use Rattle.text_spec.specs.Ascii.{ascii}
-use Rattle.text_spec.specs.Text.{hexOf}
+use Rattle.text_spec.specs.{Ascii.ascii, Text.hexOf}
 use Rattle.text_words_spec.specs.Words.{pieces, onto, PieceAt, Spelt}
 use Rattle.text_words_spec.proofs.Pieces.{pieces-more, pieces-single, pieces-some, behind-same, more-two, more-first, more-rest}
 use Rattle.text_words_spec.proofs.Spelling.{spelt-plain}
 use Rattle.stream_spec.specs.Blocks.{Puts}
-use Rattle.refusal.specs.declared.Refusal.{Refusal}
-use Rattle.refusal.specs.Order.{Given}
-use Rattle.refusal.specs.Calls.{oneReading}
-use Rattle.picture_spec.specs.declared.Tone.{Tone}
-use Rattle.picture_spec.specs.declared.Tone.the-variants.{Managed, Levels}
-use Rattle.picture_spec.specs.declared.Drawn.the-variants.{Whole, Refused}
-use Rattle.picture_spec.specs.Text.{pictureText}
+use Rattle.refusal.specs.{declared.Refusal.Refusal, Order.Given, Calls.oneReading}
+use Rattle.picture_spec.specs.{declared.Tone.Tone, declared.Tone.the-variants.Managed, declared.Tone.the-variants.Levels}
+use Rattle.picture_spec.specs.{declared.Drawn.the-variants.Whole, declared.Drawn.the-variants.Refused, Text.pictureText}
 use Rattle.picture_spec.specs.Says.{pictureRoom, drawOrder, DrawSays}
 use Rattle.desk_spec.specs.Texts.{refusalText, malformedText}
 use Rattle.desk_spec.specs.Questions.{Replies, good, bad}

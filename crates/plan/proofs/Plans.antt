@@ -1,11 +1,9 @@
 -- What the parser and the numbers say, the plan says.
 --     plan-spelt      the plan of the numbers that a line spells is the line's
-use Prim.Native.Nat.{ℕ}
-use mathlib.Core.List.{List}
+use Rattle.words.proofs.Plain.{ℕ, List}
 use Rattle.line_spec.specs.Line.{Spells}
 use Rattle.limits_spec.specs.declared.Planned.{Planned}
-use Rattle.limits_spec.specs.declared.Planned.the-variants.{Accepted, Refused}
-use Rattle.limits_spec.specs.Limits.{NumbersSay}
+use Rattle.limits_spec.specs.{declared.Planned.the-variants.Accepted, declared.Planned.the-variants.Refused, Limits.NumbersSay}
 use Rattle.plan_spec.specs.Plan.{spelt, PlanSays}
 
 -- the plan of the numbers that a line spells is the line's

@@ -1,12 +1,7 @@
 -- A line's first characters decide its plan: a line has at most 8, so of a longer input 9 characters tell that it is malformed.
 --     spells-first      what spells two numbers is all there, if there is room for 9
 --     plan-first        the plan of the first m characters of s, m at least 9, is the plan of s
-use Prim.Native.Nat.{ℕ, _<_, _≤_}
-use mathlib.Core.List.{List}
-use native.Mathlib.Omega.{arith}
-use native.Mathlib.Decide.{decLt}
-use lib.ListN.{length, take, length-take}
-use lib.Seq.{take-all}
+use Rattle.words.proofs.Plain.{ℕ, _<_, _≤_, arith, decLt, List, length, take, length-take, take-all}
 use Rattle.line_spec.specs.Line.{Spells}
 use Rattle.line_spec.proofs.Lines.{line-short}
 use Rattle.limits_spec.specs.declared.Planned.{Planned}

@@ -1,10 +1,7 @@
 -- The numbers by which a line is refused.
 --     plan-number     the number of a line's refusal is at most 12
-use Prim.Native.Nat.{ℕ, _≤_}
-use mathlib.Core.List.{List}
-use native.Mathlib.Omega.{arith}
-use Rattle.refusal.specs.declared.Refusal.{Refusal}
-use Rattle.refusal.specs.Numbers.{numberOf}
+use Rattle.words.proofs.Plain.{ℕ, _≤_, arith, List}
+use Rattle.refusal.specs.{declared.Refusal.Refusal, Numbers.numberOf}
 use Rattle.limits_spec.proofs.Given.{given-number}
 use Rattle.plan_spec.specs.Plan.{RefusedLine, malformed, spelt}
 

@@ -1,15 +1,12 @@
 -- No line has two plans, for any limit, and so for the listing program's.
 --     one-plan              a line has at most one plan
 -- That its numbers have one: `limits`, proofs/Unique.
-use Prim.Native.Nat.{ℕ}
-use mathlib.Core.Path.{_≡_, refl, sym, ap, _∙_}
-use mathlib.Core.List.{List}
+use Rattle.words.proofs.Plain.{ℕ, _≡_, refl, sym, ap, _∙_, List}
 use Rattle.refusal.specs.declared.Refusal.the-variants.{Line}
 use Rattle.line_spec.specs.Line.{Spells}
 use Rattle.line_spec.proofs.Lines.{one-line}
 use Rattle.limits_spec.specs.declared.Planned.{Planned}
-use Rattle.limits_spec.specs.declared.Planned.the-variants.{Accepted, Refused}
-use Rattle.limits_spec.specs.Limits.{NumbersSay}
+use Rattle.limits_spec.specs.{declared.Planned.the-variants.Accepted, declared.Planned.the-variants.Refused, Limits.NumbersSay}
 use Rattle.limits_spec.proofs.Unique.{one-numbers}
 use Rattle.plan_spec.specs.Plan.{malformed, spelt, PlanSays}
 

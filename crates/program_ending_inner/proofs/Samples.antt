@@ -2,11 +2,8 @@
 --     refused-sample    a ring that is no necklace, at place 4 of a catalogue
 --     far-sample        a place behind 4,294,967,296 bytes
 --     whole-sample      nothing is said where all is well
-use mathlib.Core.Path.{_≡_, refl}
-use mathlib.Core.List.{[], _∷_, _++_}
-use Rattle.text_spec.specs.Ascii.{ascii}
-use Rattle.text_spec.specs.Decimal.{decimal, decimalIn}
-use Rattle.text_spec.specs.Text.{twoNumbers}
+use Rattle.words.proofs.Plain.{_≡_, refl, [], _∷_, _++_}
+use Rattle.text_spec.specs.{Ascii.ascii, Decimal.decimal, Decimal.decimalIn, Text.twoNumbers}
 use Rattle.program_ending_inner.specs.declared.Ending.the-variants.{Whole, Refused}
 use Rattle.program_ending_inner.specs.Text.{endingText}
 

@@ -2,16 +2,11 @@
 --     one-say         no two answers satisfy the contract, the buffer included
 --     say-within      a text lies in the buffer, which keeps its length
 --     said-as         the text of an ending, once it is known which ending it is
-use Prim.Native.Nat.{ℕ, _≤_}
-use mathlib.Core.Path.{_≡_, sym, ap, _∙_}
-use mathlib.Core.List.{List}
-use native.Mathlib.Omega.{arith}
-use lib.ListN.{length}
+use Rattle.words.proofs.Plain.{ℕ, _≤_, arith, _≡_, sym, ap, _∙_, List, length}
 use Rattle.text_spec.specs.Put.{Placed}
 use Rattle.text_spec.proofs.Put.{placed-length}
-use Rattle.program_ending_inner.specs.declared.Ending.{Ending}
+use Rattle.program_ending_inner.specs.{declared.Ending.Ending, Text.SaySays.small, Text.SaySays.said}
 use Rattle.program_ending_inner.specs.Text.{endingText, sayRoom, EndingSaid, SaySays}
-use Rattle.program_ending_inner.specs.Text.SaySays.{small, said}
 
 one-placed : (b : List ℕ) (at : ℕ) (t : List ℕ) (r q : ℕ) (d f : List ℕ) → Placed b at t r d → Placed b at t q f → (r ≡ q) × (d ≡ f)
 one-placed b at t r q d f g h = (g .next ∙ sym (h .next), g .bytes ∙ sym (h .bytes))

@@ -1,8 +1,7 @@
 -- How a run ended, by whether all was written and by what was read.
 --     outcome-by    of one that reads a line, and of one that answers lines: what stands for the case holds of what was read
 --     whole-read    of one that has to read its input to its end
-use mathlib.Core.Path.{_≡_, refl, sym, _∙_}
-use mathlib.Core.Bool.{Bool}
+use Rattle.words.proofs.Plain.{_≡_, refl, sym, _∙_, Bool}
 use Rattle.program_ending_inner.specs.declared.Ending.{Ending}
 use Rattle.program_reading_inner.specs.declared.Most.{Most}
 use Rattle.program_outcome_inner.specs.Says.{lineEnding, wholeEnding}

@@ -3,23 +3,14 @@
 --     course-more            where another block is read, so many bytes of the one before it are done, and its place is below the limit
 --     too-far                where none is read behind a block that is not the last, its end is not
 --     same-whole, same-changed    the two ends compared
-use Prim.Native.Nat.{ℕ, _+_, _-_, _<_, _≤_}
-use mathlib.Core.Path.{_≡_, refl, sym, ap, _∙_}
-use mathlib.Core.Bool.{Bool, true, false, false≢true}
-use mathlib.Core.List.{List}
-use native.Mathlib.Omega.{arith}
-use lib.Dec.{ltb}
-use lib.ListN.{length}
-use borrow.Author.Tests.{eq-eqb, ne-eqb, ltb-true, ltb-false}
+use Rattle.words.proofs.Plain.{ℕ, _+_, _-_, _<_, _≤_, arith, _≡_, refl, sym, ap, _∙_, Bool, true, false, false≢true, List, ltb, length, eq-eqb, ne-eqb}
+use Rattle.words.proofs.Plain.{ltb-true, ltb-false}
 use Rattle.program_ending_inner.specs.declared.Ending.{Ending}
 use Rattle.program_ending_inner.specs.declared.Ending.the-variants as E
-use Rattle.program_reading_inner.specs.declared.Most.{Most}
+use Rattle.program_reading_inner.specs.{declared.Most.Most, Says.MostSays}
 use Rattle.program_reading_inner.specs.declared.Most.the-variants as M
-use Rattle.program_reading_inner.specs.Says.{MostSays}
-use Rattle.program_passes_inner.specs.declared.Part.{Part}
-use Rattle.program_passes_inner.specs.declared.Then.{Then}
+use Rattle.program_passes_inner.specs.{declared.Part.Part, declared.Then.Then, declared.Turn.Turn}
 use Rattle.program_passes_inner.specs.declared.Then.the-variants.{More, Over, Stop}
-use Rattle.program_passes_inner.specs.declared.Turn.{Turn}
 use Rattle.program_passes_inner.specs.Passes.{limit, partOf, PartSays, ReadTo, Course, courseBy, courseOf, goesFurther, sameEnd}
 use Rattle.program_passes_inner.specs.Passes.Course.{On, Done, Stopped}
 

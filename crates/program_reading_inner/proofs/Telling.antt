@@ -4,20 +4,13 @@
 --     says-told                             a count that is told is inside the block
 --     got-some                              what was read is some bytes
 --     says-ended                            the input ended before the buffer was full
-use Prim.Native.Nat.{ℕ, zero, suc, min, _<_, _≤_}
-use mathlib.Core.Path.{_≡_, refl, sym, ap, _∙_}
-use mathlib.Core.Bool.{true, false, false≢true}
-use mathlib.Core.List.{List}
-use native.Mathlib.Omega.{arith}
-use lib.ListN.{length, take, length-take}
+use Rattle.words.proofs.Plain.{ℕ, zero, suc, min, _<_, _≤_, arith, _≡_, refl, sym, ap, _∙_, true, false, false≢true, List, length, take, length-take, ltb-true}
 use lib.IntN.{ℤ, pos, negsuc}
 use lib.Signed.{ltZ}
-use borrow.Author.Tests.{ltb-true}
 use Rattle.io.specs.Counts.{clamped}
 use Rattle.libc.specs.Io.{Moved}
-use Rattle.program_reading_inner.specs.declared.Got.{Got}
+use Rattle.program_reading_inner.specs.{declared.Got.Got, declared.Most.Most}
 use Rattle.program_reading_inner.specs.declared.Got.the-variants.{Bytes, Over, Failed}
-use Rattle.program_reading_inner.specs.declared.Most.{Most}
 use Rattle.program_reading_inner.specs.Says.{toldOf, GotSays, endedOf, MostSays}
 
 -- z is the answer as it was handed over

@@ -1,9 +1,6 @@
 -- What is said of a refused line has room.
 --     line-short
-use Prim.Native.Nat.{ℕ, zero, suc, _^_, _<_, _≤_}
-use mathlib.Core.List.{List, [], _∷_}
-use native.Mathlib.Omega.{arith}
-use lib.ListN.{length, getD}
+use Rattle.words.proofs.Plain.{ℕ, zero, suc, _^_, _<_, _≤_, arith, List, [], _∷_, length, getD}
 use Rattle.text_spec.specs.Ascii.{ascii}
 use Rattle.text_fill_spec.specs.Filled.{filledText, slots, longest}
 use Rattle.text_fill_spec.proofs.Laws.{filled-short}

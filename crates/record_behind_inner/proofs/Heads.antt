@@ -4,27 +4,16 @@
 --     few, is-cut, is-whole     the bytes of the sectors are at most 64; fewer are there, or all
 --     part-is, part-long        the part of t that is handed on is those bytes
 --     bytes-checked             what their check answers is what that of all behind the mark does
-use Prim.Native.Nat.{ℕ, _+_, _-_, _<_, _≤_}
-use mathlib.Core.Path.{_≡_, refl, ap, _∙_, subst}
-use mathlib.Core.Logic.{inl, inr}
-use mathlib.Core.List.{List}
-use native.Mathlib.Omega.{arith}
-use lib.ListN.{length, take, drop}
+use Rattle.words.proofs.Plain.{ℕ, _+_, _-_, _<_, _≤_, arith, _≡_, refl, ap, _∙_, subst, inl, inr, List, length, take, drop}
 use Rattle.words.specs.Readings.{Sized, Shaded}
-use Rattle.refusal.specs.declared.Refusal.{Refusal}
-use Rattle.refusal.specs.declared.Refusal.the-variants.{Cut}
-use Rattle.refusal.specs.declared.Checked.{Checked}
-use Rattle.refusal.specs.Numbers.{numberOf}
-use Rattle.refusal.specs.Order.{Given}
-use Rattle.refusal.specs.Calls.{numbers}
+use Rattle.refusal.specs.{declared.Refusal.Refusal, declared.Refusal.the-variants.Cut, declared.Checked.Checked, Numbers.numberOf}
+use Rattle.refusal.specs.{Order.Given, Calls.numbers}
 use Rattle.refusal.proofs.More.{upTo2, numbers-refused}
-use Rattle.record_spec.specs.declared.Kind.{Kind}
-use Rattle.record_spec.specs.declared.Kind.the-variants.{Front}
+use Rattle.record_spec.specs.{declared.Kind.Kind, declared.Kind.the-variants.Front}
 use Rattle.record_spec.specs.Layout.{bodyLength, nOf, kOf, bodyOf}
 use Rattle.record_spec.specs.Order.{behindOrder, After2, After7}
 use Rattle.record_body_inner.specs.Steps.{BodySays, BehindSays}
-use Rattle.record_spec.proofs.Forms.{few-bytes, good-behind}
-use Rattle.record_spec.proofs.Laws.{length-body}
+use Rattle.record_spec.proofs.{Forms.few-bytes, Forms.good-behind, Laws.length-body}
 
 -- a refusal by number 1 is of n
 pub bad-length : (n k : ℕ) (r : Refusal) → Given (numbers n n k) r → numberOf r ≡ 1 → Sized n → ⊥

@@ -2,23 +2,13 @@
 --     only-sector                   a refusal can only be a bad sector
 --     looks-away                    where it is none there is a sector to look at
 --     look-in                       that sector is one of them
-use Prim.Native.Nat.{ℕ, _<_}
-use mathlib.Core.Path.{_≡_, refl, ap, _∙_}
-use mathlib.Core.Bool.{false}
-use mathlib.Core.Logic.{inl, inr}
-use mathlib.Core.List.{List}
-use lib.ListN.{length}
+use Rattle.words.proofs.Plain.{ℕ, _<_, _≡_, refl, ap, _∙_, inl, inr, false, List, length}
 use Rattle.words.specs.Readings.{Sized, Shaded}
-use Rattle.rings.specs.declared.Class.{Class}
-use Rattle.rings.specs.Necklace.{necklace}
+use Rattle.rings.specs.{declared.Class.Class, Necklace.necklace}
 use Rattle.rings.specs.Class.{classOf, loosePlace, lookAt}
 use Rattle.ring_laws.proofs.Classes.{look-within}
-use Rattle.refusal.specs.declared.Refusal.{Refusal}
-use Rattle.refusal.specs.Numbers.{placeOf}
-use Rattle.refusal.specs.Order.{Given, Passed}
-use Rattle.refusal.specs.Calls.{FirstBad, oneReading}
-use Rattle.record_body_inner.specs.declared.Looked.the-variants.{NotHome}
-use Rattle.record_body_inner.specs.Looks.{LookSays}
+use Rattle.refusal.specs.{declared.Refusal.Refusal, Numbers.placeOf, Order.Given, Order.Passed, Calls.FirstBad, Calls.oneReading}
+use Rattle.record_body_inner.specs.{declared.Looked.the-variants.NotHome, Looks.LookSays}
 
 -- a reading whose numbers are good can only be refused for a sector
 pub only-sector : (w : List ℕ) (k : ℕ) → Sized (length w) → Shaded k → (r : Refusal) → Given (oneReading w k) r → FirstBad w (λ j. k) (placeOf r)

@@ -1,18 +1,10 @@
 -- The mark of a record.
 --     not-known                   a second byte of neither known mark
 --     retired-byte, other-byte    the test of the retired second byte
-use Prim.Native.Nat.{ℕ, _-_}
-use mathlib.Core.Path.{_≡_, sym, _∙_}
-use mathlib.Core.Bool.{Bool, true, false}
-use mathlib.Core.List.{List}
-use lib.Dec.{eqb}
-use lib.ListN.{getD}
-use borrow.Author.Tests.{eqb-true, eq-eqb}
+use Rattle.words.proofs.Plain.{ℕ, _-_, _≡_, sym, _∙_, Bool, true, false, List, eqb, getD, eqb-true, eq-eqb}
 use Rattle.words.proofs.Split.{clash}
-use Rattle.record_spec.specs.declared.Kind.{Kind}
-use Rattle.record_spec.specs.declared.Kind.the-variants.{Front, Packed}
-use Rattle.record_spec.specs.Layout.{Marked, MarkedBack}
-use Rattle.record_spec.specs.Order.{Known}
+use Rattle.record_spec.specs.{declared.Kind.Kind, declared.Kind.the-variants.Front, declared.Kind.the-variants.Packed}
+use Rattle.record_spec.specs.{Layout.Marked, Layout.MarkedBack, Order.Known}
 
 -- a second byte of neither known mark
 pub not-known : (t : List ℕ) → (getD t 1 0 ≡ 0x46 → ⊥) → (getD t 1 0 ≡ 0x50 → ⊥) → Known t → ⊥

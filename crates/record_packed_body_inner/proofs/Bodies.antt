@@ -9,27 +9,17 @@
 --     is-good                       home, and no unused bit set
 --     bit-set                       a bit is set that holds no sector, at the last byte
 --     not-home                      no necklace, at the byte of the sector to look at
-use Prim.Native.Nat.{ℕ, _+_, _-_, _<_, _≤_}
-use mathlib.Core.Path.{_≡_, sym, ap, _∙_, subst}
-use mathlib.Core.Bool.{Bool, true, false}
-use mathlib.Core.Logic.{inl, inr}
-use mathlib.Core.List.{List}
-use native.Mathlib.Omega.{arith}
-use lib.ListN.{length}
+use Rattle.words.proofs.Plain.{ℕ, _+_, _-_, _<_, _≤_, arith, _≡_, sym, ap, _∙_, subst, inl, inr, Bool, true, false, List, length}
 use Rattle.words.specs.Readings.{Sized, Shaded}
 use Rattle.words.proofs.Split.{clash}
-use Rattle.rings.specs.Necklace.{necklace}
-use Rattle.rings.specs.Class.{lookAt}
+use Rattle.rings.specs.{Necklace.necklace, Class.lookAt}
 use Rattle.packing_spec.specs.Width.{width}
 use Rattle.packing_spec.specs.Packing.{packedLength, unpacked, clearPadding, byteOf}
 use Rattle.packing_laws.proofs.Width.{narrow}
 use Rattle.refusal.specs.declared.Refusal.the-variants.{Sector, NotHome, Padding}
-use Rattle.refusal.specs.declared.Checked.the-variants.{Good}
-use Rattle.refusal.specs.Order.{Given}
-use Rattle.refusal.specs.Calls.{Below, FirstBad}
-use Rattle.record_spec.specs.declared.Kind.the-variants.{Packed}
+use Rattle.refusal.specs.{declared.Checked.the-variants.Good, Order.Given, Calls.Below, Calls.FirstBad}
+use Rattle.record_spec.specs.{declared.Kind.the-variants.Packed, Order.bodyOrder}
 use Rattle.record_spec.specs.Layout.{bodyLength, shown, isClear}
-use Rattle.record_spec.specs.Order.{bodyOrder}
 use Rattle.record_body_inner.specs.Steps.{Held, BodySays}
 use Rattle.record_spec.proofs.Forms.{some-bytes, byte-within}
 

@@ -1,20 +1,12 @@
 -- The record at the front of a part of a buffer, from its head and the bytes behind it.
 --     laid      the head is written, and the bytes behind it: a record's bytes
 --     placed    so the record stands there
-use Prim.Native.Nat.{ℕ, _+_, _-_, _≤_}
-use mathlib.Core.Path.{_≡_, refl, ap, _∙_}
-use mathlib.Core.List.{List, [], _∷_, _++_}
-use native.Mathlib.Omega.{arith}
-use lib.ListN.{length, take, drop}
-use lib.Seq.{drop-drop}
+use Rattle.words.proofs.Plain.{ℕ, _+_, _-_, _≤_, arith, _≡_, refl, ap, _∙_, List, [], _∷_, _++_, length, take, drop, drop-drop}
 use Rattle.rings.specs.Home.{home}
-use Rattle.refusal.specs.Order.{Passed}
-use Rattle.refusal.specs.Calls.{oneReading}
-use Rattle.record_spec.specs.declared.Kind.{Kind}
+use Rattle.refusal.specs.{Order.Passed, Calls.oneReading}
+use Rattle.record_spec.specs.{declared.Kind.Kind, Writes.RecordPlaced}
 use Rattle.record_spec.specs.Layout.{secondByte, bodyLength, stored}
-use Rattle.record_spec.specs.Writes.{RecordPlaced}
-use Rattle.record_spec.proofs.Laid.{bytes}
-use Rattle.record_spec.proofs.Wrote.{bytes-placed}
+use Rattle.record_spec.proofs.{Laid.bytes, Wrote.bytes-placed}
 use Rattle.record_put_inner.specs.Head.{headed}
 
 -- the head is written, and then v in the place of m bytes

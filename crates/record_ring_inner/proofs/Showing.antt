@@ -1,15 +1,10 @@
 -- The ring of a good record.
 --     whole, follows              its bytes are all there, and where the next one starts
 --     show-asks, shown-ring       they may be shown, and what comes of it is the ring
-use Prim.Native.Nat.{ℕ, _+_, _-_, _≤_}
-use mathlib.Core.Path.{_≡_, ap, _∙_}
-use mathlib.Core.List.{List}
-use native.Mathlib.Omega.{arith}
-use lib.ListN.{length, take, drop}
+use Rattle.words.proofs.Plain.{ℕ, _+_, _-_, _≤_, arith, _≡_, ap, _∙_, List, length, take, drop}
 use Rattle.words.specs.Readings.{Shaded}
-use Rattle.record_spec.specs.declared.Kind.{Kind}
+use Rattle.record_spec.specs.{declared.Kind.Kind, Order.After7}
 use Rattle.record_spec.specs.Layout.{bodyLength, shown, nOf, kOf, bodyOf, storedRing}
-use Rattle.record_spec.specs.Order.{After7}
 use Rattle.record_behind_inner.proofs.Heads.{part-is, part-long}
 
 -- the ring of the good record of kind x that t begins with, at s: l is how many bytes hold it, as a call told it, and e is where they end

@@ -4,28 +4,17 @@
 --     behindTests, recordTests, readTests    the tests of the checks
 --     entryOf c s m             the answer
 --     fixed                     an answer that the contract allows is that one
-use Prim.Native.Nat.{ℕ, _+_, _<_}
-use mathlib.Core.Path.{_≡_, _∙_}
-use mathlib.Core.Bool.{Bool, true, false, not, _&&_, _||_}
-use mathlib.Core.Option.{Option, none, some}
-use mathlib.Core.Logic.{_⊎_, inl, inr}
-use mathlib.Core.List.{List}
-use native.Mathlib.Omega.{arith}
-use lib.Dec.{leb, ltb, eqb}
-use lib.ListN.{length, getD, drop}
-use borrow.Author.Tests.{lt-ltb, le-ltb}
+use Rattle.words.proofs.Plain.{ℕ, _+_, _<_, arith, _≡_, _∙_, _⊎_, inl, inr, Bool, true, false, not, _&&_, _||_, Option, none, some, List, leb, ltb, eqb, length}
+use Rattle.words.proofs.Plain.{getD, drop, lt-ltb, le-ltb}
 use Rattle.rings.specs.Necklace.{necklace}
-use Rattle.refusal.specs.declared.Refusal.{Refusal}
-use Rattle.refusal.specs.Order.{Passed}
+use Rattle.refusal.specs.{declared.Refusal.Refusal, Order.Passed}
 use Rattle.refusal.proofs.Facts.{Tells, both-tell, either-tell, not-tell, at-most-tells, below-tells, equal-tells, same-tells, within, within-tells}
 use Rattle.refusal.proofs.Tests.{Tests, one, all, when, _▹_, answer, given-answer, passed-answer}
-use Rattle.record_spec.specs.declared.Kind.{Kind}
-use Rattle.record_spec.specs.declared.Kind.the-variants.{Front, Packed}
-use Rattle.record_spec.specs.declared.Entry.{Entry}
+use Rattle.record_spec.specs.{declared.Kind.Kind, declared.Kind.the-variants.Front, declared.Kind.the-variants.Packed}
+use Rattle.record_spec.specs.{declared.Entry.Entry, Says.ReadSays}
 use Rattle.record_spec.specs.declared.Entry.the-variants.{Record, End, Refused}
 use Rattle.record_spec.specs.Layout.{MarkBegins, Marked, kindByMark, bodyLength, isClear, nOf, kOf, bodyOf, storedRing}
 use Rattle.record_spec.specs.Order.{Known, behindOrder, recordOrder, readOrder, GoodRecord}
-use Rattle.record_spec.specs.Says.{ReadSays}
 use Rattle.record_spec.proofs.Forms.{kind-is, behind-passed}
 
 -- at the end every check has passed, and in a good record too

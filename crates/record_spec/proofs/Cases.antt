@@ -4,22 +4,16 @@
 --     stores x k w c     the record of kind x of the ring of w in k shades is the bytes c
 -- The rows are document 01's front record and request k's packed one, read and written, the retired mark, the ends of a catalogue, and one row for each pair of faults whose
 -- order a reader may mistake.
-use Prim.Native.Nat.{ℕ}
-use mathlib.Core.Path.{_≡_, refl}
-use mathlib.Core.List.{List, [], _∷_, _++_}
-use lib.ListN.{replicate, drop}
-use Rattle.words.specs.Table.{Hold}
-use Rattle.words.specs.Search.{least}
+use Rattle.words.proofs.Plain.{ℕ, _≡_, refl, List, [], _∷_, _++_, replicate, drop}
+use Rattle.words.specs.{Table.Hold, Search.least}
 use Rattle.packing_spec.specs.Open.{open-packing}
 use Rattle.rings.specs.Open.{open-all}
 use Rattle.refusal.specs.declared.Refusal.the-variants.{Length, Shades, Sector, Room, Cut, Mark, NotHome, Retired, Padding}
 use Rattle.refusal.proofs.Facts.{within}
 use Rattle.refusal.proofs.Tests.{unless, orElse, failing, answer}
-use Rattle.record_spec.specs.declared.Kind.{Kind}
-use Rattle.record_spec.specs.declared.Kind.the-variants.{Front, Packed}
-use Rattle.record_spec.specs.declared.Entry.{Entry}
+use Rattle.record_spec.specs.{declared.Kind.Kind, declared.Kind.the-variants.Front, declared.Kind.the-variants.Packed}
+use Rattle.record_spec.specs.{declared.Entry.Entry, Layout.kindByMark, Layout.storedRing}
 use Rattle.record_spec.specs.declared.Entry.the-variants.{Record, End, Refused}
-use Rattle.record_spec.specs.Layout.{kindByMark, storedRing}
 use Rattle.record_spec.proofs.Wrote.{recordBytes}
 use Rattle.record_spec.proofs.Answer.{begins, known, behindTests, recordTests, readTests, refusedOr, recordEntry, entryOf}
 

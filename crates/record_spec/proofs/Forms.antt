@@ -9,26 +9,16 @@
 --     kind-is, not-back                a known mark tells its kind, and is not the retired one
 --     behind-passed, behind-given      under a known mark a record is good, or refused, as what stands behind the mark is
 --     good-behind                      a record whose numbers and length are good is good, or refused, as its bytes are
-use Prim.Native.Nat.{ℕ, _<_, _≤_}
-use mathlib.Core.Path.{_≡_, refl}
-use mathlib.Core.Bool.{true}
-use mathlib.Core.Logic.{inl, inr}
-use mathlib.Core.List.{List}
-use native.Mathlib.Omega.{arith}
-use lib.ListN.{length}
+use Rattle.words.proofs.Plain.{ℕ, _<_, _≤_, arith, _≡_, refl, inl, inr, true, List, length}
 use Rattle.words.specs.Readings.{Shaded}
-use Rattle.refusal.specs.declared.Refusal.{Refusal}
+use Rattle.refusal.specs.{declared.Refusal.Refusal, Calls.Below, declared.Checked.Checked}
 use Rattle.refusal.specs.Order.{Passed, Given, CheckSays}
-use Rattle.refusal.specs.Calls.{Below}
-use Rattle.refusal.specs.declared.Checked.{Checked}
 use Rattle.refusal.specs.declared.Checked.the-variants as C
-use Rattle.packing_spec.specs.Width.{width}
-use Rattle.packing_spec.specs.Packing.{Bytes}
+use Rattle.packing_spec.specs.{Width.width, Packing.Bytes}
 use Rattle.packing_laws.proofs.Width.{shades-fit, narrow}
 use Rattle.packing_laws.proofs.Lengths.{packed-some, packed-le, byte-of-lt}
 use Rattle.packing_laws.proofs.Packing.{length-packed, length-unpacked, packed-clear, unpacked-packed, packed-unpacked}
-use Rattle.record_spec.specs.declared.Kind.{Kind}
-use Rattle.record_spec.specs.declared.Kind.the-variants.{Front, Packed}
+use Rattle.record_spec.specs.{declared.Kind.Kind, declared.Kind.the-variants.Front, declared.Kind.the-variants.Packed}
 use Rattle.record_spec.specs.Layout.{Marked, MarkedBack, kindByMark, bodyLength, stored, shown, byteAt, isClear, nOf, kOf, bodyOf}
 use Rattle.record_spec.specs.Order.{recordOrder, bodyOrder, behindOrder, After7, GoodRecord}
 

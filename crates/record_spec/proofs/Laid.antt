@@ -1,12 +1,7 @@
 -- A record's bytes (`bytes` of Layout), as Layout finds them.
 --     laid-sectors     the bytes behind the head are v
 --     whole            a part that begins with a record is its bytes and what follows
-use Prim.Native.Nat.{ℕ, _+_, _≤_}
-use mathlib.Core.Path.{_≡_, sym, ap, _∙_}
-use mathlib.Core.List.{List, [], _∷_, _++_}
-use native.Mathlib.Omega.{arith}
-use lib.ListN.{length, drop, take-append-drop}
-use lib.Seq.{take-at, drop-drop}
+use Rattle.words.proofs.Plain.{ℕ, _+_, _≤_, arith, _≡_, sym, ap, _∙_, List, [], _∷_, _++_, length, drop, take-append-drop, take-at, drop-drop}
 use Rattle.record_spec.specs.declared.Kind.{Kind}
 use Rattle.record_spec.specs.Layout.{secondByte, Marked, bodyLength, nOf, kOf, bodyOf}
 pub use Rattle.record_spec.specs.Layout.{bytes}

@@ -5,17 +5,9 @@
 --     output-front, output-rest                   the front ring stands in the first n bytes of the output, and the others are as they were
 --     front-necklace                              the front ring is a necklace
 --     next-inside                                 the next record starts in the catalogue or at its end, past this one
-use Prim.Native.Nat.{ℕ, _+_, _<_, _≤_}
-use mathlib.Core.Path.{_≡_, sym, ap, _∙_}
-use mathlib.Core.Bool.{true}
-use mathlib.Core.List.{List}
-use native.Mathlib.Omega.{arith}
-use lib.ListN.{length, take, drop, length-drop}
-use lib.Seq.{length-take-le, take-at, drop-at}
+use Rattle.words.proofs.Plain.{ℕ, _+_, _<_, _≤_, arith, _≡_, sym, ap, _∙_, true, List, length, take, drop, length-drop, length-take-le, take-at, drop-at}
 use Rattle.rings.specs.Necklace.{necklace}
-use Rattle.record_spec.specs.declared.Kind.{Kind}
-use Rattle.record_spec.specs.declared.Kind.the-variants.{Front}
-use Rattle.record_spec.specs.declared.Entry.the-variants.{Record}
+use Rattle.record_spec.specs.{declared.Kind.Kind, declared.Kind.the-variants.Front, declared.Entry.the-variants.Record}
 use Rattle.record_spec.specs.Layout.{bodyLength, nOf, kOf, bodyOf, storedRing, sectorsOf}
 use Rattle.record_spec.specs.Says.{ReadSays}
 use Rattle.record_spec.proofs.Forms.{length-shown}

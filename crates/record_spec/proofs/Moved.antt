@@ -4,21 +4,12 @@
 --     moved-back      and wherever what it answers is written in the form x again, the same bytes stand as at s
 --     moved-home      written back to s itself, no byte of c changes
 -- So a front record moved to the packed form and back is the same bytes (x is Front, y is Packed), and so is a packed one moved the other way.
-use Prim.Native.Nat.{ℕ, _+_}
-use mathlib.Core.Path.{_≡_, sym, ap, _∙_, subst}
-use mathlib.Core.List.{List, _++_}
-use lib.ListN.{length, take, drop}
-use lib.Seq.{take-at}
+use Rattle.words.proofs.Plain.{ℕ, _+_, _≡_, sym, ap, _∙_, subst, List, _++_, length, take, drop, take-at}
 use Rattle.rings.specs.Home.{home}
 use Rattle.packing_spec.specs.Packing.{Bytes}
-use Rattle.record_spec.specs.declared.Kind.{Kind}
-use Rattle.record_spec.specs.declared.Entry.{Entry}
-use Rattle.record_spec.specs.declared.Entry.the-variants.{Record}
-use Rattle.record_spec.specs.declared.Written.{Written}
-use Rattle.record_spec.specs.declared.Written.the-variants.{After}
-use Rattle.record_spec.specs.Layout.{bodyLength}
-use Rattle.record_spec.specs.Says.{ReadSays}
-use Rattle.record_spec.specs.Writes.{WriteSays}
+use Rattle.record_spec.specs.{declared.Kind.Kind, declared.Entry.Entry, declared.Entry.the-variants.Record}
+use Rattle.record_spec.specs.{declared.Written.Written, declared.Written.the-variants.After, Layout.bodyLength}
+use Rattle.record_spec.specs.{Says.ReadSays, Writes.WriteSays}
 use Rattle.record_spec.proofs.Rounds.{written-read, length-answer, answer-home, copied, read-written}
 
 module _ (c : List ℕ) (s : ℕ) (b : List ℕ) (n k : ℕ) (x : Kind) (next : ℕ) (d : List ℕ) (h : ReadSays c s b (Record n k x next) d)

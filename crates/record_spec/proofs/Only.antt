@@ -6,24 +6,14 @@
 --     trimmed                the answer is that for a catalogue of these bytes, with anything before them
 --     only-record            so two catalogues that agree there have one answer and one output, refusals and End included
 --     past-end               where the start is past the end, it is Cut whatever the bytes are
-use Prim.Native.Nat.{ℕ, zero, suc, _+_, _<_, _≤_}
-use mathlib.Core.Path.{_≡_, refl, sym, ap, _∙_}
-use mathlib.Core.Logic.{_⊎_, inl, inr}
-use mathlib.Core.List.{List, [], _∷_, _++_}
-use native.Mathlib.Omega.{arith}
-use lib.ListN.{length, getD, take, drop, replicate, length-append, length-take, length-drop, length-replicate}
-use lib.Seq.{getD-take, take-take, drop-at}
-use Rattle.refusal.specs.declared.Refusal.{Refusal}
-use Rattle.refusal.specs.declared.Refusal.the-variants.{Cut}
-use Rattle.refusal.specs.Order.{Given}
-use Rattle.record_spec.specs.declared.Kind.{Kind}
-use Rattle.record_spec.specs.declared.Entry.{Entry}
+use Rattle.words.proofs.Plain.{ℕ, zero, suc, _+_, _<_, _≤_, arith, _≡_, refl, sym, ap, _∙_, _⊎_, inl, inr, List, [], _∷_, _++_, length, getD, take, drop}
+use Rattle.words.proofs.Plain.{replicate, length-append, length-take, length-drop, length-replicate, getD-take, take-take, drop-at}
+use Rattle.refusal.specs.{declared.Refusal.Refusal, declared.Refusal.the-variants.Cut, Order.Given}
+use Rattle.record_spec.specs.{declared.Kind.Kind, declared.Entry.Entry, Says.Read, Says.ReadSays}
 use Rattle.record_spec.specs.declared.Entry.the-variants.{Record, End, Refused}
 use Rattle.record_spec.specs.Layout.{Marked, MarkedBack, kindByMark, bodyLength, nOf, kOf, bodyOf, storedRing}
 use Rattle.record_spec.specs.Order.{Known, behindOrder, recordOrder, readOrder, After2, After7, GoodRecord}
-use Rattle.record_spec.specs.Says.{Read, ReadSays}
-use Rattle.record_spec.proofs.Forms.{few-bytes}
-use Rattle.record_spec.proofs.Unique.{one-read}
+use Rattle.record_spec.proofs.{Forms.few-bytes, Unique.one-read}
 
 -- what is left of a beginning is a beginning of what is left
 pub drop-take : (m n : ℕ) (l : List ℕ) → drop m (take (m + n) l) ≡ take n (drop m l)

@@ -7,32 +7,20 @@
 --     same-bytes               the record of what the reader answered is the bytes that it read
 --     copied                   so that wherever it is written, the same bytes stand there
 --     read-writes, read-written    written back to its own place, the writer answers where the next record starts, and no byte of the catalogue changes
-use Prim.Native.Nat.{ℕ, _+_, _<_, _≤_}
-use mathlib.Core.Path.{_≡_, refl, sym, ap, _∙_, subst}
-use mathlib.Core.Bool.{true}
-use mathlib.Core.List.{List, _++_}
-use native.Mathlib.Omega.{arith}
-use lib.ListN.{length, getD, take, drop, length-append, length-take, length-drop}
-use lib.Seq.{take-at, getD-take, getD-drop}
+use Rattle.words.proofs.Plain.{ℕ, _+_, _<_, _≤_, arith, _≡_, refl, sym, ap, _∙_, subst, true, List, _++_, length, getD, take, drop, length-append, length-take}
+use Rattle.words.proofs.Plain.{length-drop, take-at, getD-take, getD-drop}
 use Rattle.words.specs.Readings.{Sized, Shaded, Reading}
-use Rattle.rings.specs.Necklace.{necklace}
-use Rattle.rings.specs.Home.{home}
+use Rattle.rings.specs.{Necklace.necklace, Home.home}
 use Rattle.ring_home_laws.proofs.Home.{length-home, home-necklace, necklace-home}
-use Rattle.refusal.specs.Order.{Passed}
-use Rattle.refusal.specs.Calls.{Below, oneReading}
+use Rattle.refusal.specs.{Order.Passed, Calls.Below, Calls.oneReading}
 use Rattle.packing_spec.specs.Packing.{Bytes}
-use Rattle.record_spec.specs.declared.Kind.{Kind}
-use Rattle.record_spec.specs.declared.Entry.{Entry}
-use Rattle.record_spec.specs.declared.Entry.the-variants.{Record}
-use Rattle.record_spec.specs.declared.Written.{Written}
-use Rattle.record_spec.specs.declared.Written.the-variants.{After}
+use Rattle.record_spec.specs.{declared.Kind.Kind, declared.Entry.Entry, declared.Entry.the-variants.Record}
+use Rattle.record_spec.specs.{declared.Written.Written, declared.Written.the-variants.After, Says.Read, Says.ReadSays}
 use Rattle.record_spec.specs.Layout.{bodyLength, stored, shown, isClear, nOf, kOf, bodyOf, storedRing}
-use Rattle.record_spec.specs.Says.{Read, ReadSays}
 use Rattle.record_spec.specs.Writes.{Wrote, WriteSays}
 use Rattle.record_spec.proofs.Forms.{shown-stored, stored-shown, clear-stored}
-use Rattle.record_spec.proofs.Unique.{one-read}
+use Rattle.record_spec.proofs.{Unique.one-read, Laid.laid-sectors, Laid.whole}
 use Rattle.record_spec.proofs.Laws.{length-body, length-ring, uncut, read-length, output-front}
-use Rattle.record_spec.proofs.Laid.{laid-sectors, whole}
 use Rattle.record_spec.proofs.Wrote.{recordBytes, home-below, length-home-stored, length-record, placed-bytes, bytes-placed, one-write}
 
 -- ---- a reading of good numbers
@@ -135,8 +123,7 @@ module _ (c : List ℕ) (s : ℕ) (b : List ℕ) (n k : ℕ) (x : Kind) (next : 
   -- it passes the writer's checks
   pub answer-passes : Passed (oneReading (take n d) k)
   answer-passes =
-      rw front
-      (reading-passed (storedRing x t) k n sized (rw (h .2 .shades) (h .2 .good .0 .0 .1))
+      rw front (reading-passed (storedRing x t) k n sized (rw (h .2 .shades) (h .2 .good .0 .0 .1))
       (record { long = longRing; shades = λ i l. rw (h .2 .shades) (h .2 .good .1 .0 .0 i (omega (arith, longRing))) }))
 
   module _ (q : Bytes c) where

@@ -1,14 +1,9 @@
 -- Reading a record has one answer, and leaves the lent output in one way.
 --     writtenOf t b r      what the output holds after the answer r, where it held b before
 --     one-read             no two answers satisfy the contract, the output included
-use Prim.Native.Nat.{ℕ}
-use mathlib.Core.Path.{_≡_, sym, ap, _∙_}
-use mathlib.Core.List.{List, _++_}
-use lib.ListN.{drop}
-use Rattle.record_spec.specs.declared.Entry.{Entry}
+use Rattle.words.proofs.Plain.{ℕ, _≡_, sym, ap, _∙_, List, _++_, drop}
+use Rattle.record_spec.specs.{declared.Entry.Entry, Layout.storedRing, Says.ReadSays}
 use Rattle.record_spec.specs.declared.Entry.the-variants.{Record, End, Refused}
-use Rattle.record_spec.specs.Layout.{storedRing}
-use Rattle.record_spec.specs.Says.{ReadSays}
 use Rattle.record_spec.proofs.Answer.{fixed}
 
 -- the output after an answer; t is the part of the catalogue that begins at the start

@@ -4,20 +4,13 @@
 --     placed-bytes, bytes-placed  the part that begins at the place is those bytes and what was behind them; and a part that is so holds the record
 --     wrote-bytes                 the whole buffer
 --     one-write                   no two answers satisfy the contract, the buffer included
-use Prim.Native.Nat.{ℕ, _+_, _<_, _≤_}
-use mathlib.Core.Path.{_≡_, refl, sym, ap, _∙_}
-use mathlib.Core.List.{List, _++_}
-use native.Mathlib.Omega.{arith}
-use lib.ListN.{length, take, drop, length-take, length-drop, take-append-drop}
-use lib.Seq.{drop-at}
+use Rattle.words.proofs.Plain.{ℕ, _+_, _<_, _≤_, arith, _≡_, refl, sym, ap, _∙_, List, _++_, length, take, drop, length-take, length-drop, take-append-drop}
+use Rattle.words.proofs.Plain.{drop-at}
 use Rattle.rings.specs.Home.{home}
 use Rattle.ring_home_laws.proofs.Home.{length-home, home-reading}
-use Rattle.refusal.specs.declared.Refusal.{Refusal}
-use Rattle.refusal.specs.Order.{Passed, Given}
-use Rattle.refusal.specs.Calls.{Below, oneReading}
+use Rattle.refusal.specs.{declared.Refusal.Refusal, Order.Passed, Order.Given, Calls.Below, Calls.oneReading}
 use Rattle.refusal.proofs.Unique.{one-refusal, never-both}
-use Rattle.record_spec.specs.declared.Kind.{Kind}
-use Rattle.record_spec.specs.declared.Written.{Written}
+use Rattle.record_spec.specs.{declared.Kind.Kind, declared.Written.Written}
 use Rattle.record_spec.specs.declared.Written.the-variants.{After, Refused}
 use Rattle.record_spec.specs.Layout.{bodyLength, stored, nOf, kOf, bodyOf}
 use Rattle.record_spec.specs.Writes.{writeOrder, RecordPlaced, Wrote, WriteSays}
@@ -63,8 +56,7 @@ module _ (w : List ℕ) (k : ℕ) (x : Kind) (g : Passed (oneReading w k)) where
   -- the other way round
   pub bytes-placed : (t u : List ℕ) → u ≡ recordBytes x k w ++ drop (4 + bodyLength x (length w) k) t → RecordPlaced w k x t u
   bytes-placed t u e =
-      rw e
-      (record {
+      rw e (record {
         marked = (refl, refl);
         sectors = refl;
         shades = refl;

@@ -2,21 +2,15 @@
 --     length-told     the number of bytes of the packed form
 --     pack-asks       the home reading v may be packed into a part of m bytes
 --     pack-told       and what it is packed to is what a packed record stores
-use Prim.Native.Nat.{ℕ, _≤_}
-use mathlib.Core.Path.{_≡_, sym, ap, _∙_}
-use mathlib.Core.List.{List}
-use native.Mathlib.Omega.{arith}
-use lib.ListN.{length}
+use Rattle.words.proofs.Plain.{ℕ, _≤_, arith, _≡_, sym, ap, _∙_, List, length}
 use Rattle.words.specs.Readings.{Shaded}
 use Rattle.rings.specs.Home.{home}
 use Rattle.ring_home_laws.proofs.Home.{length-home}
 use Rattle.packing_spec.specs.Width.{width}
 use Rattle.packing_spec.specs.Packing.{BitsFit, packedLength, packed}
 use Rattle.packing_laws.proofs.Width.{shades-fit, narrow}
-use Rattle.refusal.specs.Order.{Passed}
-use Rattle.refusal.specs.Calls.{oneReading}
-use Rattle.record_spec.specs.declared.Kind.the-variants.{Packed}
-use Rattle.record_spec.specs.Layout.{bodyLength, stored}
+use Rattle.refusal.specs.{Order.Passed, Calls.oneReading}
+use Rattle.record_spec.specs.{declared.Kind.the-variants.Packed, Layout.bodyLength, Layout.stored}
 use Rattle.record_spec.proofs.Wrote.{home-below}
 
 -- the number of bytes

@@ -1,11 +1,7 @@
 -- The general order computes its answer: `refusalOf a` is the refusal that a call which asks `a` is given, or none.
 --     tests a     the tests of its checks
 --     decided     what the computed answer says holds, so that every call has one
-use mathlib.Core.Path.{_≡_}
-use mathlib.Core.Bool.{_&&_}
-use mathlib.Core.Option.{Option}
-use lib.Dec.{ltb, eqb}
-use lib.ListN.{length, getD}
+use Rattle.words.proofs.Plain.{_≡_, _&&_, Option, ltb, eqb, length, getD}
 use Rattle.words.specs.Sum.{sumOf}
 use Rattle.refusal.specs.declared.Refusal.{Refusal}
 use Rattle.refusal.specs.Calls.{Asked, CountsFit, general}

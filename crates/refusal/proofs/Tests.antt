@@ -4,21 +4,13 @@
 --     Answers o u  what the answer u says
 --     answered     it holds
 --     given-answer, passed-answer    so a refusal that is given, and that no check fails, each determine the computed answer
-use Prim.Native.Nat.{ℕ, _<_}
-use mathlib.Core.Path.{_≡_, refl, sym, ap}
-use mathlib.Core.Bool.{Bool, true, false, not}
-use mathlib.Core.Option.{Option, none, some}
-use mathlib.Core.Logic.{inl, inr}
-use native.Mathlib.Omega.{arith}
-use lib.Dec.{ltb}
-use borrow.Author.Tests.{ltb-true, ltb-false}
+use Rattle.words.proofs.Plain.{ℕ, _<_, arith, _≡_, refl, sym, ap, inl, inr, Bool, true, false, not, Option, none, some, ltb, ltb-true, ltb-false}
 use Rattle.words.specs.Search.{least}
 use Rattle.words.proofs.Search.{least-at, least-none}
 use Rattle.words.proofs.Split.{passes, fails, test}
 use Rattle.refusal.specs.declared.Refusal.{Refusal}
 use Rattle.refusal.specs.Order.{Checks, fact, each, only, _▸_, Passed, Given}
-use Rattle.refusal.proofs.Unique.{one-refusal, never-both}
-use Rattle.refusal.proofs.Facts.{Tells, lacking}
+use Rattle.refusal.proofs.{Unique.one-refusal, Unique.never-both, Facts.Tells, Facts.lacking}
 
 infixl 5 _▹_
 pub data Tests : Checks → Type 1 where

@@ -4,23 +4,12 @@
 --     tidied-none, tidied-on, tidied-is    those bytes copied one after another, with 0 behind them
 --     feed-says                      a block
 --     end-says                       the end of the input
-use Prim.Native.Nat.{ℕ, zero, suc, _+_, _-_, _*_, _/_, _<_, _≤_}
-use mathlib.Core.Path.{_≡_, refl, sym, ap, subst, _∙_}
-use mathlib.Core.Bool.{true, false}
-use mathlib.Core.List.{List, [], _∷_, _++_, append-assoc}
-use native.Mathlib.Omega.{arith}
-use native.Mathlib.Decide.{decLt}
+use Rattle.words.proofs.Plain.{ℕ, zero, suc, _+_, _-_, _*_, _/_, _<_, _≤_, add-one, arith, decLt, _≡_, refl, sym, ap, subst, _∙_, true, false, List, [], _∷_}
+use Rattle.words.proofs.Plain.{_++_, append-assoc, ltb, length, getD, take, drop, set, replicate, length-take, take-all, take-suc, take-take, set-at}
 use native.Mathlib.Nat.{div-mul-le-self}
-use native.Mathlib.Numerals.{add-one}
-use lib.Dec.{ltb}
-use lib.ListN.{length, getD, take, drop, set, replicate, length-take}
-use lib.Seq.{take-all, take-suc, take-take, set-at}
-use Rattle.stream_spec.specs.Lines.{under}
-use Rattle.stream_spec.specs.Blocks.{BlockSays}
+use Rattle.stream_spec.specs.{Lines.under, Blocks.BlockSays}
 use Rattle.stream_spec.specs.Blocks as stream
-use Rattle.report_spec.specs.declared.Pending.{Pending}
-use Rattle.report_spec.specs.declared.Fed.{Fed}
-use Rattle.report_spec.specs.Lines.{Answers}
+use Rattle.report_spec.specs.{declared.Pending.Pending, declared.Fed.Fed, Lines.Answers}
 use Rattle.report_spec.specs.Blocks.{lineRoom, keep, lineOf, stateOf, bytesFor, FeedSays, FinishSays, small, last}
 use Rattle.stream_blocks_inner.specs.Says.{smaller}
 use Rattle.stream_blocks_inner.proofs.Smaller.{smaller-first, smaller-second, smaller-left, smaller-right}

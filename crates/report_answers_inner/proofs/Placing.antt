@@ -2,21 +2,12 @@
 --     length-counts                  how long the line of two numbers is
 --     refusal-fits, accepted-few     a refusal's line has room, and numbers that are accepted may be counted
 --     answer-refused, answer-counted    what is placed is what the line prints
-use Prim.Native.Nat.{ℕ, _+_, _≤_}
-use mathlib.Core.Path.{_≡_, refl}
-use mathlib.Core.List.{List}
-use native.Mathlib.Omega.{arith}
-use lib.ListN.{length, length-append}
-use Rattle.rings.specs.Necklace.{necklace, lyndon}
-use Rattle.rings.specs.Steps.{howMany}
-use Rattle.refusal.specs.declared.Refusal.{Refusal}
-use Rattle.refusal.specs.Numbers.{numberOf}
-use Rattle.text_spec.specs.Decimal.{decimal}
-use Rattle.text_spec.specs.Text.{refusedLine}
-use Rattle.text_spec.specs.Put.{Placed}
+use Rattle.words.proofs.Plain.{ℕ, _+_, _≤_, arith, _≡_, refl, List, length, length-append}
+use Rattle.rings.specs.{Necklace.necklace, Necklace.lyndon, Steps.howMany}
+use Rattle.refusal.specs.{declared.Refusal.Refusal, Numbers.numberOf}
+use Rattle.text_spec.specs.{Decimal.decimal, Text.refusedLine, Put.Placed}
 use Rattle.limits_spec.specs.declared.Planned.{Planned}
-use Rattle.limits_spec.specs.declared.Planned.the-variants.{Accepted, Refused}
-use Rattle.limits_spec.specs.Limits.{Listable}
+use Rattle.limits_spec.specs.{declared.Planned.the-variants.Accepted, declared.Planned.the-variants.Refused, Limits.Listable}
 use Rattle.limits_spec.proofs.Given.{listable-within}
 use Rattle.plan_spec.specs.Plan.{PlanSays}
 use Rattle.plan_spec.proofs.Numbers.{plan-number}

@@ -3,19 +3,11 @@
 --     run-run         blocks that are fed are a run of the stream
 --     run-report      a run from the start prints what the whole input prints
 --     cut-anyhow      so two runs of one input print the same, whatever blocks and buffers they had
-use Prim.Native.Nat.{ℕ, _-_}
-use mathlib.Core.Path.{_≡_, refl, sym, ap, subst, _∙_}
-use mathlib.Core.List.{List, [], _++_}
-use native.Mathlib.Omega.{arith}
-use lib.ListN.{length, take, drop, replicate}
-use lib.Seq.{take-at}
-use Rattle.stream_spec.specs.Lines.{under}
-use Rattle.stream_spec.specs.Texts.{over, block}
+use Rattle.words.proofs.Plain.{ℕ, _-_, arith, _≡_, refl, sym, ap, subst, _∙_, List, [], _++_, length, take, drop, replicate, take-at}
+use Rattle.stream_spec.specs.{Lines.under, Texts.over, Texts.block}
 use Rattle.stream_spec.specs.Texts as stream
 use Rattle.stream_spec.proofs.Cut as cut
-use Rattle.report_spec.specs.declared.Pending.{Pending}
-use Rattle.report_spec.specs.declared.Fed.{Fed}
-use Rattle.report_spec.specs.Lines.{Answers, Reports}
+use Rattle.report_spec.specs.{declared.Pending.Pending, declared.Fed.Fed, Lines.Answers, Lines.Reports}
 use Rattle.report_spec.specs.Blocks.{lineRoom, keep, lineOf, stateOf, bytesFor, FeedSays, FinishSays, small, last, ReportRun, ends, feeds}
 use Rattle.report_laws.proofs.Kept.{report-tells}
 

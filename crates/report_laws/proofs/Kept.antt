@@ -2,13 +2,7 @@
 --     plan-kept       the plan of a line is that of its first 9 bytes (the other way: `plan`, First.plan-first)
 --     answer-keep     so what a line prints is what its first 9 bytes print
 --     report-tells    and no other byte of it tells
-use Prim.Native.Nat.{ℕ, zero, suc, _<_, _≤_}
-use mathlib.Core.Path.{_≡_, refl, sym, ap, _∙_}
-use mathlib.Core.List.{List, [], _∷_, _++_}
-use native.Mathlib.Omega.{arith}
-use native.Mathlib.Decide.{decLt}
-use lib.ListN.{length, take, length-take}
-use lib.Seq.{take-all}
+use Rattle.words.proofs.Plain.{ℕ, zero, suc, _<_, _≤_, arith, decLt, _≡_, refl, sym, ap, _∙_, List, [], _∷_, _++_, length, take, length-take, take-all}
 use Rattle.limits_spec.specs.declared.Planned.{Planned}
 use Rattle.limits_spec.specs.declared.Planned.the-variants.{Accepted, Refused}
 use Rattle.line_spec.specs.Line.{Spells}

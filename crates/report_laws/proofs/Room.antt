@@ -1,21 +1,13 @@
 -- How long the report's lines are.
 --     answer-short    no line prints more than 22 bytes
-use Prim.Native.Nat.{ℕ, _+_, _^_, _<_, _≤_}
-use mathlib.Core.Path.{_≡_, refl, ap}
-use mathlib.Core.Bool.{Bool, true}
-use mathlib.Core.List.{List}
-use native.Mathlib.Omega.{arith}
-use lib.ListN.{length, length-append}
+use Rattle.words.proofs.Plain.{ℕ, _+_, _^_, _<_, _≤_, arith, _≡_, refl, ap, Bool, true, List, length, length-append}
 use Rattle.words.specs.Readings.{readings, count}
-use Rattle.words.proofs.Readings.{readings-all}
-use Rattle.words.proofs.Count.{count-le}
-use Rattle.rings.specs.Necklace.{necklace, lyndon}
-use Rattle.rings.specs.Steps.{howMany}
+use Rattle.words.proofs.{Readings.readings-all, Count.count-le}
+use Rattle.rings.specs.{Necklace.necklace, Necklace.lyndon, Steps.howMany}
 use Rattle.ring_total_laws.proofs.Totals.{readings-size}
 use Rattle.refusal.specs.Numbers.{numberOf}
 use Rattle.text_spec.specs.Text.{refusedLine}
-use Rattle.text_spec.proofs.Digits.{length-decimal}
-use Rattle.text_spec.proofs.Put.{length-refused}
+use Rattle.text_spec.proofs.{Digits.length-decimal, Put.length-refused}
 use Rattle.limits_spec.specs.Limits.{Listable}
 use Rattle.plan_spec.proofs.Numbers.{plan-number}
 use Rattle.how_many_spec.specs.Says.{mostCounted}

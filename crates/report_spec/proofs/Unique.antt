@@ -2,15 +2,9 @@
 --     one-text       a line prints one text
 --     one-report     and so does an input
 --     one-feed, one-end    a block that is taken, and the end of the input: the answer and the buffer afterwards
-use Prim.Native.Nat.{ℕ}
-use mathlib.Core.Path.{_≡_, refl, sym, ap, _∙_}
-use mathlib.Core.List.{List, [], _∷_, _++_}
-use native.Mathlib.Omega.{arith}
-use lib.ListN.{length, take, drop}
-use Rattle.rings.specs.Necklace.{necklace, lyndon}
-use Rattle.rings.specs.Steps.{howMany}
-use Rattle.refusal.specs.declared.Refusal.{Refusal}
-use Rattle.refusal.specs.Numbers.{numberOf}
+use Rattle.words.proofs.Plain.{ℕ, arith, _≡_, refl, sym, ap, _∙_, List, [], _∷_, _++_, length, take, drop}
+use Rattle.rings.specs.{Necklace.necklace, Necklace.lyndon, Steps.howMany}
+use Rattle.refusal.specs.{declared.Refusal.Refusal, Numbers.numberOf}
 use Rattle.text_spec.specs.Text.{refusedLine}
 use Rattle.limits_spec.specs.declared.Planned.{Planned}
 use Rattle.limits_spec.specs.declared.Planned.the-variants.{Accepted, Refused}
@@ -19,8 +13,7 @@ use Rattle.how_many_spec.specs.Says.{mostCounted}
 use Rattle.stream_spec.specs.Lines.{ended, under, lastOf, lines}
 use Rattle.stream_spec.specs.Texts.{Texts}
 use Rattle.stream_spec.proofs.Unique as stream
-use Rattle.report_spec.specs.declared.Pending.{Pending}
-use Rattle.report_spec.specs.declared.Fed.{Fed}
+use Rattle.report_spec.specs.{declared.Pending.Pending, declared.Fed.Fed}
 use Rattle.report_spec.specs.Lines.{countsLine, Answers, counted, refused, Reports}
 use Rattle.report_spec.specs.Blocks.{lineRoom, lineOf, stateOf, bytesFor, FeedSays, FinishSays, small, last}
 

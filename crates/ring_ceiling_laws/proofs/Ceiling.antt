@@ -5,25 +5,14 @@
 --     within-half          from a prenecklace that is no Lyndon word at most n / 2 moves lead to the next one, or to Done
 --     lyndon-ceiling       from any prenecklace at most n / 2 + 1: request h
 --     necklace-ceiling     demand 3's bound in the same words
-use Prim.Native.Nat.{ℕ, zero, suc, _+_, _-_, _*_, _/_, _%_, _<_, _≤_}
-use mathlib.Core.Path.{_≡_, sym, ap, _∙_}
-use mathlib.Core.Bool.{false}
-use mathlib.Core.List.{List}
-use native.Mathlib.Omega.{arith}
+use Rattle.words.proofs.Plain.{ℕ, zero, suc, _+_, _-_, _*_, _/_, _%_, _<_, _≤_, arith, _≡_, sym, ap, _∙_, false, List}
 use native.Mathlib.Nat.{mod-lt, mod-le, mod-eq-sub-mod, div-add-mod', mul-mod-left}
 use Rattle.words.proofs.Split.{lt, eq, gt, tri, passes, fails, test, clash}
 use Rattle.words.proofs.Sequence.{sec}
-use Rattle.rings.specs.Necklace.{necklace, lyndon}
-use Rattle.rings.specs.Prenecklace.{lyn}
+use Rattle.rings.specs.{Necklace.necklace, Necklace.lyndon, Prenecklace.lyn}
 use Rattle.rings.specs.Next.{lastLow, nextPrenecklace, raised}
-use Rattle.ring_laws.proofs.Run.{Run}
-use Rattle.ring_laws.proofs.Repeat.{run-rep}
-use Rattle.ring_laws.proofs.Raise.{Raised, low-first}
-use Rattle.ring_laws.proofs.Lyndon.{lyn-run}
-use Rattle.ring_laws.proofs.Classes.{lyndon-lyn}
-use Rattle.ring_laws.proofs.Next.{raised-at, next-lyn-low}
-use Rattle.ring_laws.proofs.Bound.{lyn-rises, bound-necklace}
-use Rattle.ring_laws.proofs.Sums.{lyndon-prenecklace}
+use Rattle.ring_laws.proofs.{Run.Run, Repeat.run-rep, Raise.Raised, Raise.low-first, Lyndon.lyn-run, Classes.lyndon-lyn}
+use Rattle.ring_laws.proofs.{Next.raised-at, Next.next-lyn-low, Bound.lyn-rises, Bound.bound-necklace, Sums.lyndon-prenecklace}
 use Rattle.ring_ceiling_laws.specs.Ceiling.{PrenecklaceOf, stepMoves, Ceiling, necklaceCeiling, LyndonCeilingHolds}
 use Rattle.ring_ceiling_laws.proofs.FirstMove.{own-reading, own-pos, low-inside, next-of, step-none, step-one, step-more}
 

@@ -5,18 +5,11 @@
 --     step-one         the next prenecklace is of the kind: 1 move
 --     step-more        it is not: one move more than from there
 --     next-lyndon      the next prenecklace is a Lyndon word where the place that was raised is the last
-use Prim.Native.Nat.{ℕ, suc, _<_, _≤_}
-use mathlib.Core.Path.{_≡_, sym, _∙_}
-use mathlib.Core.Bool.{Bool, true, false}
-use mathlib.Core.List.{List}
-use native.Mathlib.Omega.{arith}
-use lib.ListN.{length}
+use Rattle.words.proofs.Plain.{ℕ, suc, _<_, _≤_, arith, _≡_, sym, _∙_, Bool, true, false, List, length}
 use Rattle.words.specs.Readings.{Reading}
-use Rattle.rings.specs.Necklace.{lyndon}
-use Rattle.rings.specs.Next.{lastLow, nextPrenecklace}
-use Rattle.ring_laws.proofs.Classes.{run-lyndon}
+use Rattle.rings.specs.{Necklace.lyndon, Next.lastLow, Next.nextPrenecklace}
+use Rattle.ring_laws.proofs.{Classes.run-lyndon, Walk.Kind}
 use Rattle.ring_laws.proofs.Next.{low-le, length-next, next-reading, next-prenecklace, next-is-run}
-use Rattle.ring_laws.proofs.Walk.{Kind}
 use Rattle.ring_laws.proofs.Bound.{next-here, moves-skip, bound-last}
 use Rattle.ring_ceiling_laws.specs.Ceiling.{PrenecklaceOf, stepMoves}
 

@@ -4,25 +4,15 @@
 --     notched-of          each is a prenecklace of n and k
 --     notched-low         its last place that can be raised is the second notch
 --     notch-next          its next prenecklace is the one notched a place later, where at most 2 p + 2 sectors are
-use Prim.Native.Nat.{ℕ, suc, _+_, _-_, _%_, _<_, _≤_}
-use mathlib.Core.Path.{_≡_, refl, sym, _∙_}
-use mathlib.Core.Bool.{_||_}
-use native.Mathlib.Omega.{arith}
+use Rattle.words.proofs.Plain.{ℕ, suc, _+_, _-_, _%_, _<_, _≤_, arith, _≡_, refl, sym, _∙_, _||_, eqb, length, getD, ext-getD, eq-eqb, ne-eqb}
 use native.Mathlib.Nat.{mod-lt}
-use lib.ListN.{length, getD}
-use lib.Seq.{ext-getD}
-use lib.Dec.{eqb}
-use borrow.Author.Tests.{eq-eqb, ne-eqb}
 use Rattle.words.proofs.Split.{lt, eq, gt, tri, passes, fails, test, either-right}
-use Rattle.words.proofs.Search.{length-tab, getD-tab}
-use Rattle.words.proofs.Sequence.{sec, place}
+use Rattle.words.proofs.{Search.length-tab, Search.getD-tab, Sequence.sec, Sequence.place}
 use Rattle.rings.specs.Next.{lastLow, nextPrenecklace, raised}
 use Rattle.ring_laws.proofs.Run.{Pre, Run, pre-through, run-through}
-use Rattle.ring_laws.proofs.Repeat.{run-rep}
-use Rattle.ring_laws.proofs.Words.{of-pre}
+use Rattle.ring_laws.proofs.{Repeat.run-rep, Words.of-pre}
 use Rattle.ring_laws.proofs.Next.{low-le, low-at, low-none, length-next, next-at, raised-low, raised-last, place-raised}
-use Rattle.ring_ceiling_laws.specs.Ceiling.{PrenecklaceOf}
-use Rattle.ring_ceiling_laws.specs.Notched.{notch, notched}
+use Rattle.ring_ceiling_laws.specs.{Ceiling.PrenecklaceOf, Notched.notch, Notched.notched}
 
 -- ---- as a sequence
 

@@ -6,19 +6,12 @@
 --     lyndon-best      n / 2 + 1 is the best ceiling for steps to the next Lyndon word, for every n but 2 and every k of at least 2
 --     necklace-best    (n + 1) / 2 is the best one for steps to the next necklace, for every n and every k of at least 2
 --     best-least       no smaller number is a ceiling
-use Prim.Native.Nat.{ℕ, zero, suc, _+_, _-_, _/_, _%_, _<_, _≤_}
-use mathlib.Core.Path.{_≡_, refl, sym, ap, _∙_}
-use mathlib.Core.Bool.{Bool, true, false}
-use mathlib.Core.List.{List}
-use native.Mathlib.Omega.{arith}
+use Rattle.words.proofs.Plain.{ℕ, zero, suc, _+_, _-_, _/_, _%_, _<_, _≤_, arith, _≡_, refl, sym, ap, _∙_, Bool, true, false, List}
 use native.Mathlib.Nat.{mod-eq-of-lt, mod-eq-sub-mod}
 use Rattle.words.proofs.Split.{lt, eq, gt, tri}
-use Rattle.rings.specs.Necklace.{necklace, lyndon}
-use Rattle.rings.specs.Next.{lastLow, nextPrenecklace}
-use Rattle.ring_laws.proofs.Words.{necklace-prenecklace}
+use Rattle.rings.specs.{Necklace.necklace, Necklace.lyndon, Next.lastLow, Next.nextPrenecklace}
+use Rattle.ring_laws.proofs.{Words.necklace-prenecklace, Walk.Kind, Sums.lyndon-prenecklace}
 use Rattle.ring_laws.proofs.Classes.{lyndon-necklace, run-lyndon, not-lyndon, not-necklace}
-use Rattle.ring_laws.proofs.Walk.{Kind}
-use Rattle.ring_laws.proofs.Sums.{lyndon-prenecklace}
 use Rattle.ring_ceiling_laws.specs.Ceiling.{PrenecklaceOf, stepMoves, Ceiling, Best, lyndonCeiling, necklaceCeiling}
 use Rattle.ring_ceiling_laws.specs.Notched.{notched, lyndonStart, necklaceStart}
 use Rattle.ring_ceiling_laws.proofs.FirstMove.{step-one, step-more, next-lyndon}

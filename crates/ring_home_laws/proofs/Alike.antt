@@ -10,23 +10,14 @@
 --     length-mirrored, mirrored-reading, mirrored-necklace              the ring seen from the other side is a home reading
 --     mirrored-of-turn, mirrored-mirrored                               turns do not change it, and its other side is the ring
 --     even-mirrored, mirrored-even, even-of-turn, even-home             even-handed: the other side is the ring; turns do not change it
-use Prim.Native.Nat.{ℕ, _+_, _-_, _<_, _≤_}
-use mathlib.Core.Path.{_≡_, refl, sym, ap, _∙_}
-use mathlib.Core.Bool.{true, not}
-use mathlib.Core.List.{List, [], _∷_, _++_, reverse, reverse-reverse}
-use native.Mathlib.Omega.{arith}
-use lib.ListN.{length, take, drop, length-take, length-drop, length-reverse, take-append-drop}
-use lib.Dec.{eqb}
-use borrow.Author.Tests.{eqb-true, eq-eqb}
-use Rattle.words.specs.Order.{same}
-use Rattle.words.specs.Turn.{turn}
-use Rattle.words.specs.Readings.{Reading, bit}
+use Rattle.words.proofs.Plain.{ℕ, _+_, _-_, _<_, _≤_, arith, _≡_, refl, sym, ap, _∙_, true, not, List, [], _∷_, _++_, reverse, reverse-reverse, eqb, length}
+use Rattle.words.proofs.Plain.{take, drop, length-take, length-drop, length-reverse, take-append-drop, eqb-true, eq-eqb}
+use Rattle.words.specs.{Order.same, Turn.turn, Readings.Reading, Readings.bit}
 use Rattle.words.proofs.Split.{passes, fails, test, lt, eq, gt, tri, clash, agree}
 use Rattle.words.proofs.Search.{some-of, some-at, least-le, least-at, least-none}
 use Rattle.words.proofs.Lex.{same-true, true-same}
 use Rattle.words.proofs.Turn.{length-turn, turn-zero, turn-back, turn-again, turn-between, reverse-turn, reading-reverse}
-use Rattle.rings.specs.Necklace.{necklace}
-use Rattle.rings.specs.Home.{home, shift}
+use Rattle.rings.specs.{Necklace.necklace, Home.home, Home.shift}
 use Rattle.rings.specs.Alike.{evenHanded, sameRing, differing, turnDiffers, apart, mirrored}
 use Rattle.ring_home_laws.proofs.Home.{length-home, shift-lt, home-turn-of, home-reading, home-necklace, home-of-turn, one-home-turn, turn-one-home}
 

@@ -5,24 +5,15 @@
 --     occurs-reverse, occurs-mirrored          a turn, the home reading and the mirror image have the counts of the reading
 --     surplus-cong                             it depends on the counts alone
 --     surplus-differing, surplus-apart         it is a lower bound of how many places two readings differ at, and of how far apart they are
-use Prim.Native.Nat.{ℕ, zero, suc, _+_, _-_, _<_, _≤_}
-use mathlib.Core.Path.{_≡_, refl, sym, ap, _∙_}
-use mathlib.Core.Bool.{true, false, not}
-use mathlib.Core.List.{List, [], _∷_, _++_, reverse, reverse-cons}
-use native.Mathlib.Omega.{arith}
-use lib.ListN.{length, take, drop, take-append-drop, length-reverse}
-use lib.Dec.{eqb, ltb}
-use borrow.Author.Tests.{lt-ltb, le-ltb, eq-eqb, ne-eqb, eqb-true}
-use Rattle.words.specs.Turn.{turn}
-use Rattle.words.specs.Readings.{bit}
+use Rattle.words.proofs.Plain.{ℕ, zero, suc, _+_, _-_, _<_, _≤_, arith, _≡_, refl, sym, ap, _∙_, true, false, not, List, [], _∷_, _++_, reverse, reverse-cons}
+use Rattle.words.proofs.Plain.{eqb, ltb, length, take, drop, take-append-drop, length-reverse, lt-ltb, le-ltb, eq-eqb, ne-eqb, eqb-true}
+use Rattle.words.specs.{Turn.turn, Readings.bit}
 use Rattle.words.proofs.Split.{passes, fails, test, lt, eq, gt, tri}
 use Rattle.words.proofs.Turn.{length-turn}
-use Rattle.rings.specs.Home.{home, shift}
-use Rattle.rings.specs.Counts.{occurs}
+use Rattle.rings.specs.{Home.home, Home.shift, Counts.occurs}
 use Rattle.rings.specs.Alike.{differing, apart, mirrored}
 unfoldable pub use Rattle.ring_home_laws.specs.Counts.{surplus}
-use Rattle.ring_home_laws.proofs.Home.{home-turn-of, shift-lt}
-use Rattle.ring_home_laws.proofs.Alike.{differing-le, apart-at}
+use Rattle.ring_home_laws.proofs.{Home.home-turn-of, Home.shift-lt, Alike.differing-le, Alike.apart-at}
 
 -- ---- what keeps the counts
 

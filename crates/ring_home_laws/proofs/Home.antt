@@ -8,16 +8,8 @@
 --     home-of-turn, home-home, period-home            turns change neither home reading nor period
 --     necklace-shift, necklace-home                   a necklace is its own home reading
 --     one-home-turn, turn-one-home                    readings of one length have one home reading exactly where one is a turn of the other
-use Prim.Native.Nat.{ℕ, zero, suc, _+_, _-_, _<_, _≤_}
-use mathlib.Core.Path.{_≡_, refl, subst, sym, ap, _∙_}
-use mathlib.Core.Bool.{true, false}
-use mathlib.Core.List.{List}
-use native.Mathlib.Omega.{arith}
-use lib.ListN.{length}
-use Rattle.words.specs.Search.{least}
-use Rattle.words.specs.Order.{upTo}
-use Rattle.words.specs.Turn.{turn}
-use Rattle.words.specs.Readings.{Reading}
+use Rattle.words.proofs.Plain.{ℕ, zero, suc, _+_, _-_, _<_, _≤_, arith, _≡_, refl, subst, sym, ap, _∙_, true, false, List, length}
+use Rattle.words.specs.{Search.least, Order.upTo, Turn.turn, Readings.Reading}
 use Rattle.words.proofs.Split.{passes, fails, test, lt, eq, gt, tri, clash}
 use Rattle.words.proofs.Search.{all-at, all-of, least-at, least-none, least-lt}
 use Rattle.words.proofs.Sequence.{one-more}

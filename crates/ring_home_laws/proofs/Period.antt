@@ -4,21 +4,11 @@
 --     period-on, period-turns                               turning by the period any number of times changes nothing
 --     period-of-turn                                        turning a reading does not change its period
 --     period-measures, measured-turn                        turning by i changes nothing exactly where the period divides i
-use Prim.Native.Nat.{ℕ, zero, suc, _+_, _-_, _*_, _/_, _%_, _<_, _≤_}
-use mathlib.Core.Path.{_≡_, sym, ap, _∙_}
-use mathlib.Core.Bool.{true}
-use mathlib.Core.List.{List}
-use native.Mathlib.Omega.{arith}
+use Rattle.words.proofs.Plain.{ℕ, zero, suc, _+_, _-_, _*_, _/_, _%_, _<_, _≤_, arith, _≡_, sym, ap, _∙_, true, List, eqb, length, eqb-true, eq-eqb}
 use native.Mathlib.Nat.{zero-mul, suc-mul, mod-self, mod-lt, div-add-mod'}
-use lib.ListN.{length}
-use lib.Dec.{eqb}
-use borrow.Author.Tests.{eqb-true, eq-eqb}
-use Rattle.words.specs.Search.{least}
-use Rattle.words.specs.Order.{same}
-use Rattle.words.specs.Turn.{turn}
+use Rattle.words.specs.{Search.least, Order.same, Turn.turn}
 use Rattle.words.proofs.Split.{lt, eq, gt, tri, both, both-left, both-right, clash}
-use Rattle.words.proofs.Search.{least-at, least-none}
-use Rattle.words.proofs.Lex.{same-true, true-same}
+use Rattle.words.proofs.{Search.least-at, Search.least-none, Lex.same-true, Lex.true-same}
 use Rattle.words.proofs.Turn.{length-turn, turn-zero, turn-length, turn-turn, turn-back, turn-comm}
 use Rattle.rings.specs.Necklace.{repeatsBy, period}
 

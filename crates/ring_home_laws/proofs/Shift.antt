@@ -3,16 +3,9 @@
 --     before-turned    two readings turned on by no more than they agree stand to one another as before
 --     never-shift      where the turn by a is below that by b at place m for the first time, the shift is none of b, .., b + m
 --     alike-shift      where the turns by i and by a greater j are one, the shift is less than j
-use Prim.Native.Nat.{ℕ, _+_, _-_, _<_, _≤_}
-use mathlib.Core.Path.{_≡_, refl, sym, ap, _∙_}
-use mathlib.Core.Bool.{true}
-use mathlib.Core.List.{List}
-use native.Mathlib.Omega.{arith}
-use lib.ListN.{length, getD}
-use Rattle.words.specs.Order.{before}
-use Rattle.words.specs.Turn.{turn}
-use Rattle.words.proofs.Split.{clash}
-use Rattle.words.proofs.Lex.{less-before, upTo-not-before}
+use Rattle.words.proofs.Plain.{ℕ, _+_, _-_, _<_, _≤_, arith, _≡_, refl, sym, ap, _∙_, true, List, length, getD}
+use Rattle.words.specs.{Order.before, Turn.turn}
+use Rattle.words.proofs.{Split.clash, Lex.less-before, Lex.upTo-not-before}
 use Rattle.words.proofs.Turn.{length-turn, turn-low, turn-turn, turn-again}
 use Rattle.rings.specs.Home.{shift, home}
 use Rattle.ring_home_laws.proofs.Home.{shift-lt, home-turn-of, home-least, shift-first}

@@ -2,19 +2,11 @@
 -- 'a beginning, possibly the whole, of some necklace, of whatever length'.
 --     begins    a prenecklace begins a necklace: its run goes on until n times lyn sectors are filled
 --     begun     whatever begins a necklace is a prenecklace
-use Prim.Native.Nat.{ℕ, _+_, _-_, _*_, _%_, _<_, _≤_}
-use mathlib.Core.Path.{_≡_, refl, sym, ap, _∙_}
-use mathlib.Core.Bool.{true}
-use mathlib.Core.List.{List, _++_}
-use native.Mathlib.Omega.{arith}
+use Rattle.words.proofs.Plain.{ℕ, _+_, _-_, _*_, _%_, _<_, _≤_, arith, _≡_, refl, sym, ap, _∙_, true, List, _++_, length, getD, length-append, List·getD-append}
+use Rattle.words.proofs.{Plain.getD-append-add, Search.length-tab, Search.getD-tab, Sequence.sec}
 use native.Mathlib.Nat.{mod-lt, mul-mod-left, le-mul-of-pos-right}
-use lib.ListN.{length, getD, length-append, List·getD-append}
-use lib.Seq.{getD-append-add}
-use Rattle.words.specs.Search.{tab}
-use Rattle.words.specs.Readings.{Reading}
+use Rattle.words.specs.{Search.tab, Readings.Reading}
 use Rattle.words.proofs.Split.{lt, eq, gt, tri}
-use Rattle.words.proofs.Search.{length-tab, getD-tab}
-use Rattle.words.proofs.Sequence.{sec}
 use Rattle.rings.specs.Necklace.{necklace}
 use Rattle.rings.specs.Prenecklace.{prenecklace, Begins, lyn}
 use Rattle.ring_laws.proofs.Run.{Run, pre-shorter, pre-through, run-through}
@@ -78,6 +70,5 @@ module _ (n k : ℕ) (w : List ℕ) (z : 0 < n) (reading : Reading n k w) (h : p
 pub begun : (k : ℕ) (w : List ℕ) → Begins k w → prenecklace w ≡ true
 begun k w b =
     let v = w ++ b .rest in
-    of-pre w
-    (pre-through (sec v) (sec w) (length w) (λ m l. List·getD-append w (b .rest) 0 m l)
+    of-pre w (pre-through (sec v) (sec w) (length w) (λ m l. List·getD-append w (b .rest) 0 m l)
     (pre-shorter (sec v) (length v) (length w) (omega (arith, length-append w (b .rest))) (pre-of v (necklace-prenecklace v (b .whole)))))

@@ -4,27 +4,17 @@
 --     bound-lyn       from a prenecklace of lyn p below n, at most n - p moves lead to the next necklace
 --     bound-necklace  from any prenecklace at most (n + 1) / 2 moves, rounded down, lead to the next necklace, or to Done
 --     bound-last      0 at the last ring
-use Prim.Native.Nat.{ℕ, zero, suc, _+_, _-_, _/_, _%_, _<_, _≤_}
-use mathlib.Core.Path.{_≡_, refl, sym}
-use mathlib.Core.Logic.{⊎-elim}
-use mathlib.Core.Bool.{Bool, true, false}
-use mathlib.Core.Option.{Option, none, some}
-use mathlib.Core.List.{List}
-use native.Mathlib.Omega.{arith}
+use Rattle.words.proofs.Plain.{ℕ, zero, suc, _+_, _-_, _/_, _%_, _<_, _≤_, arith, _≡_, refl, sym, ⊎-elim, Bool, true, false, Option, none, some, List, length}
 use native.Mathlib.Nat.{mod-lt, mod-le, mod-eq-sub-mod, eq-zero-or-pos}
-use lib.ListN.{length}
-use Rattle.words.specs.Order.{before, upTo}
-use Rattle.words.specs.Readings.{Reading, readings}
+use Rattle.words.specs.{Order.before, Order.upTo, Readings.Reading, Readings.readings}
 use Rattle.words.proofs.Split.{lt, eq, gt, tri, Test, passes, fails, test, agree, both, both-left, both-right, clash}
 use Rattle.words.proofs.Lex.{ahead, equal, behind, lex, before-trans, before-upTo, before-not-upTo}
 use Rattle.words.proofs.Readings.{readings-all, all-weaken, first-cong, first-some}
 use Rattle.words.proofs.Sequence.{sec}
-use Rattle.rings.specs.Necklace.{necklace}
-use Rattle.rings.specs.Prenecklace.{prenecklace, lyn}
+use Rattle.rings.specs.{Necklace.necklace, Prenecklace.prenecklace, Prenecklace.lyn}
 use Rattle.rings.specs.Next.{lastLow, nextPrenecklace, raised}
 use Rattle.rings.specs.Steps.{aboveOf, nextOf, moves}
-use Rattle.ring_laws.proofs.Raise.{low-past, low-far}
-use Rattle.ring_laws.proofs.Words.{necklace-prenecklace}
+use Rattle.ring_laws.proofs.{Raise.low-past, Raise.low-far, Words.necklace-prenecklace}
 use Rattle.ring_laws.proofs.Lyndon.{lyn-run, run-necklace}
 use Rattle.ring_laws.proofs.Next.{raised-at, low-le, length-next, next-before, next-reading, next-prenecklace, next-lyn-low, next-upTo}
 use Rattle.ring_laws.proofs.Moves.{Reaches, moves-first, moves-full}
@@ -50,8 +40,7 @@ module _ (kind : List ℕ → Bool) (only : Kind kind) (k : ℕ) (w : List ℕ) 
 
       both-above : (u : List ℕ) → Reading (length w) k u → aboveOf kind w u ≡ aboveOf kind (nextPrenecklace k w) u
       both-above u r =
-          agree (aboveOf kind w u) (aboveOf kind (nextPrenecklace k w) u)
-          (λ h.
+          agree (aboveOf kind w u) (aboveOf kind (nextPrenecklace k w) u) (λ h.
           let p = both-right (before w u) (kind u) h in
           both (before (nextPrenecklace k w) u) (kind u) (strictly u p (next-upTo k w z pre u r (only u p) (both-left (before w u) (kind u) h))) p)
           (λ h.

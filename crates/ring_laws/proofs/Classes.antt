@@ -8,15 +8,7 @@
 --     necklace-class      and a necklace exactly where its class is a necklace's
 --     class-loose, class-opening, class-repeating, class-single    the class by the run of the sectors, for a scan from left to right
 --     look-loose, look-other, look-within    the sector to look at: where the reading goes wrong if it is Loose, 0 otherwise
-use Prim.Native.Nat.{ℕ, suc, _-_, _%_, _<_}
-use mathlib.Core.Path.{_≡_, refl, sym, ap}
-use mathlib.Core.Logic.{_↔_}
-use mathlib.Core.Bool.{true, false}
-use mathlib.Core.List.{List}
-use native.Mathlib.Omega.{arith}
-use lib.ListN.{length}
-use lib.Dec.{eqb}
-use borrow.Author.Tests.{eq-eqb, eqb-true}
+use Rattle.words.proofs.Plain.{ℕ, suc, _-_, _%_, _<_, arith, _≡_, refl, sym, ap, _↔_, true, false, List, eqb, length, eq-eqb, eqb-true}
 use Rattle.words.proofs.Split.{Test, passes, fails, test, both, both-left, both-right, refuted, clash}
 use Rattle.words.proofs.Sequence.{sec}
 use Rattle.rings.specs.declared.Class.{Class}
@@ -25,8 +17,7 @@ use Rattle.rings.specs.Necklace.{necklace, period, lyndon}
 use Rattle.rings.specs.Prenecklace.{prenecklace, lyn, wrongPlace}
 use Rattle.rings.specs.Class.{Classed, necklaceClass, prenecklaceClass, classOf, tagOf, valueOf, sameClass, isLoose, isNecklace, loosePlace, lookAt}
 use Rattle.ring_laws.proofs.Run.{Run, lyn-self, run-one, smaller, pre-shorter}
-use Rattle.ring_laws.proofs.Words.{pre-of, necklace-prenecklace}
-use Rattle.ring_laws.proofs.Wrong.{wrong-is, wrong-within}
+use Rattle.ring_laws.proofs.{Words.pre-of, Words.necklace-prenecklace, Wrong.wrong-is, Wrong.wrong-within}
 use Rattle.ring_laws.proofs.Lyndon.{run-necklace, necklace-run, period-run, lyndon-of, of-lyndon, lyn-run, run-lyn, run-prenecklace}
 
 pub lyndon-necklace : (w : List ℕ) → lyndon w ≡ true → necklace w ≡ true

@@ -6,13 +6,8 @@
 --     zeros, zeros-necklace                    the all-zero ring (`rings`, specs/Steps, passed on), the first necklace
 --     walk-sum, walk-sum-bound                 over the full walk by necklaces from the all-zero ring the moves add up to one less than the prenecklaces
 --                                              of n and k, and to at most one less than the necklaces of lengths 1 to n together
-use Prim.Native.Nat.{ℕ, zero, suc, _+_, _-_, _<_, _≤_}
-use mathlib.Core.Path.{_≡_, refl, sym, ap, _∙_}
-use mathlib.Core.Bool.{Bool, true}
-use mathlib.Core.Option.{Option, none, some}
-use mathlib.Core.List.{List, [], _∷_}
-use native.Mathlib.Omega.{arith}
-use lib.ListN.{length, getD, replicate, length-replicate, getD-replicate, List·getD-eq-default}
+use Rattle.words.proofs.Plain.{ℕ, zero, suc, _+_, _-_, _<_, _≤_, arith, _≡_, refl, sym, ap, _∙_, Bool, true, Option, none, some, List, [], _∷_, length, getD}
+use Rattle.words.proofs.Plain.{replicate, length-replicate, getD-replicate, List·getD-eq-default}
 use Rattle.words.specs.Order.{before, upTo, same}
 use Rattle.words.specs.Readings.{Reading, readings, bit, total, count}
 use Rattle.words.proofs.Split.{lt, eq, gt, tri, both, both-left, both-right, clash}
@@ -20,13 +15,11 @@ use Rattle.words.proofs.Sequence.{sec, Less}
 use Rattle.words.proofs.Lex.{Lex, ahead, equal, behind, lex, same-refl, before-irrefl, before-trans, before-asym, before-not-upTo, before-less}
 use Rattle.words.proofs.Readings.{All, nothing, also, all-weaken, Increasing, empty, more, readings-all, first-some, nothing-first}
 use Rattle.words.proofs.Count.{count-split, count-one, count-zero, total-le, total-add}
-use Rattle.rings.specs.Necklace.{necklace}
-use Rattle.rings.specs.Prenecklace.{prenecklace}
+use Rattle.rings.specs.{Necklace.necklace, Prenecklace.prenecklace}
 use Rattle.rings.specs.Steps.{aboveOf, nextOf, passed, moves, howMany, howManyTo, FullWalk, done, step}
 pub use Rattle.rings.specs.Steps.{zeros}
-use Rattle.ring_laws.proofs.Words.{of-pre, of-neck}
+use Rattle.ring_laws.proofs.{Words.of-pre, Words.of-neck, Sums.prenecklaces-necklaces}
 use Rattle.ring_laws.proofs.Moves.{moves-join, before-not-same, after-not-same}
-use Rattle.ring_laws.proofs.Sums.{prenecklaces-necklaces}
 
 -- fewer readings lie above a greater reading
 pub fewer-above : (n k : ℕ) (w v : List ℕ) → Reading n k v → before w v ≡ true → count (before v) (readings n k) < count (before w) (readings n k)

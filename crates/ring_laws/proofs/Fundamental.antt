@@ -4,19 +4,10 @@
 --     extend-greater    c < b: w b is a Lyndon word, so its lyn is n + 1
 --     extend-smaller    b < c: w b is no prenecklace
 --     extend-iff        w b is a prenecklace exactly when c ≤ b
-use Prim.Native.Nat.{ℕ, suc, _-_, _<_, _≤_}
-use mathlib.Core.Path.{_≡_, sym, _∙_}
-use mathlib.Core.Logic.{_↔_}
-use mathlib.Core.Bool.{true, false}
-use mathlib.Core.List.{List, [], _∷_, _++_}
-use native.Mathlib.Omega.{arith}
-use native.Mathlib.Numerals.{add-one}
-use lib.ListN.{length, getD, length-append, List·getD-append}
-use lib.Seq.{getD-append-seam}
+use Rattle.words.proofs.Plain.{ℕ, suc, _-_, _<_, _≤_, add-one, arith, _≡_, sym, _∙_, _↔_, true, false, List, [], _∷_, _++_, length, getD, length-append}
+use Rattle.words.proofs.{Plain.List·getD-append, Plain.getD-append-seam, Sequence.sec}
 use Rattle.words.proofs.Split.{lt, eq, gt, tri, refuted, clash}
-use Rattle.words.proofs.Sequence.{sec}
-use Rattle.rings.specs.Necklace.{lyndon}
-use Rattle.rings.specs.Prenecklace.{prenecklace, lyn}
+use Rattle.rings.specs.{Necklace.lyndon, Prenecklace.prenecklace, Prenecklace.lyn}
 use Rattle.ring_laws.proofs.Run.{Run, Lyn, same, smaller, greater, run-through, lyn-self}
 use Rattle.ring_laws.proofs.Words.{pre-of}
 use Rattle.ring_laws.proofs.Lyndon.{lyn-run, run-lyn, run-prenecklace, lyndon-of}
@@ -59,8 +50,7 @@ module _ (w : List ℕ) (z : 0 < length w) (h : prenecklace w ≡ true) (b : ℕ
 
   pub extend-smaller : b < getD w (length w - lyn w) 0 → prenecklace (snoc w b) ≡ false
   extend-smaller l =
-      refuted (prenecklace (snoc w b))
-      (λ e.
+      refuted (prenecklace (snoc w b)) (λ e.
       (rw (length-snoc w b) at (pre-of (snoc w b) e)) (lyn w) (smaller (sec (snoc w b)) (length w) (lyn w) run (omega (arith, l, opposite, snoc-last w b))))
 
   -- w b is a prenecklace exactly when b is not below the sector lyn places before it

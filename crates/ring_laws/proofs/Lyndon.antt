@@ -5,19 +5,10 @@
 --     lyn-run, run-lyn              a prenecklace is a run of its lyn, and the run decides lyn
 --     lyndon-below, below-lyndon    'necklace with period n' and 'below each of its other turns' agree
 --     lyndon-one                    each reading of one sector is a Lyndon word
-use Prim.Native.Nat.{ℕ, suc, _+_, _-_, _*_, _/_, _%_, _<_, _≤_}
-use mathlib.Core.Path.{_≡_, refl, sym, ap, _∙_}
-use mathlib.Core.Logic.{⊎-elim}
-use mathlib.Core.Bool.{true, false}
-use mathlib.Core.List.{List, [], _∷_}
-use native.Mathlib.Omega.{arith}
+use Rattle.words.proofs.Plain.{ℕ, suc, _+_, _-_, _*_, _/_, _%_, _<_, _≤_, arith, _≡_, refl, sym, ap, _∙_, ⊎-elim, true, false, List, [], _∷_, eqb, length, getD}
+use Rattle.words.proofs.Plain.{take, ext-getD, length-take-le, getD-take, eq-eqb, eqb-true}
 use native.Mathlib.Nat.{div-add-mod', mod-self, add-mod-right, mul-add-mod-self-right, eq-zero-or-pos, mod-le}
-use lib.ListN.{length, getD, take}
-use lib.Seq.{ext-getD, length-take-le, getD-take}
-use lib.Dec.{eqb}
-use borrow.Author.Tests.{eq-eqb, eqb-true}
-use Rattle.words.specs.Order.{before, same}
-use Rattle.words.specs.Turn.{turn}
+use Rattle.words.specs.{Order.before, Order.same, Turn.turn}
 use Rattle.words.proofs.Split.{lt, eq, gt, tri, both, both-left, both-right, refuted, clash}
 use Rattle.words.proofs.Search.{least-is, greatest-is, all-at, all-of}
 use Rattle.words.proofs.Sequence.{sec}
@@ -68,8 +59,7 @@ module _ (w : List ℕ) (p : ℕ) (r : Run (sec w) (length w) p) where
   short-turn : (q : ℕ) → 0 < q → q < p → repeatsBy w q ≡ false
   unfolding repeatsBy
   short-turn q z h =
-      refuted (repeatsBy w q)
-      (λ e.
+      refuted (repeatsBy w q) (λ e.
       let d = r .lyn q z h in
       let t = same-true (turn q w) w (both-right (eqb (length w % q) 0) (same (turn q w) w) e) in
       omega (arith, d .less, sym (turn-low q w (d .at) (q + d .at) refl (omega (arith, d .bound, r .fits))) ∙ ap (λ (u : List ℕ). getD u (d .at) 0) t))
@@ -79,8 +69,7 @@ module _ (w : List ℕ) (p : ℕ) (r : Run (sec w) (length w) p) where
   unfolding period repeatsBy
   period-run d =
       let e : suc (p - 1) ≡ p = omega (arith, r .pos) in
-      ap suc
-      (least-is (length w) (λ i. repeatsBy w (suc i)) (p - 1) (omega (arith, r .pos, r .fits))
+      ap suc (least-is (length w) (λ i. repeatsBy w (suc i)) (p - 1) (omega (arith, r .pos, r .fits))
       (rw e (both (eqb (length w % p) 0) (same (turn p w) w) (eq-eqb (length w % p) 0 d) (true-same (turn p w) w (turn-run d))))
       (λ j b. short-turn (suc j) (omega arith) (omega arith))) ∙ e
 
@@ -145,12 +134,9 @@ run-prenecklace w p r = of-pre w (run-pre (sec w) (length w) p r)
 pub lyndon-below : (w : List ℕ) → lyndon w ≡ true → belowOtherTurns w ≡ true
 unfolding belowOtherTurns
 lyndon-below w h =
-    all-of (length w - 1) (λ i. before w (turn (suc i) w))
-    (λ i b.
+    all-of (length w - 1) (λ i. before w (turn (suc i) w)) (λ i b.
     let d = l (suc i) (omega arith) (omega arith) in
-    less-before w (turn (suc i) w) (sym (length-turn (suc i) w (omega arith)))
-    (rw (length-turn (suc i) w (omega arith))
-    (record {
+    less-before w (turn (suc i) w) (sym (length-turn (suc i) w (omega arith))) (rw (length-turn (suc i) w (omega arith)) (record {
       at = d .at;
       bound = omega (arith, d .bound);
       agree = λ m q. d .agree m q ∙ sym (turn-low (suc i) w m (suc i + m) refl (omega (arith, d .bound)));

@@ -4,13 +4,7 @@
 --     moves-first      of the moves to an answer that lies past the next prenecklace, the first is the one to it
 --     moves-full       nothing is passed where every sector is k - 1
 --     moves-join       the moves to v and all moves above v are all moves above w
-use Prim.Native.Nat.{ℕ, suc, _+_, _<_}
-use mathlib.Core.Path.{_≡_, refl}
-use mathlib.Core.Bool.{Bool, true, false, _&&_}
-use mathlib.Core.Option.{Option, none, some}
-use mathlib.Core.List.{List}
-use native.Mathlib.Omega.{arith}
-use lib.ListN.{length}
+use Rattle.words.proofs.Plain.{ℕ, suc, _+_, _<_, arith, _≡_, refl, Bool, true, false, _&&_, Option, none, some, List, length}
 use Rattle.words.specs.Order.{before, upTo, same}
 use Rattle.words.specs.Readings.{Reading, readings, bit}
 use Rattle.words.proofs.Split.{Test, passes, fails, test, both, both-left, both-right, not-right, refuted, clash}
@@ -18,8 +12,7 @@ use Rattle.words.proofs.Lex.{Lex, ahead, equal, behind, lex, same-true, same-re
 use Rattle.words.proofs.Lex.{upTo-refl, before-upTo, before-not-upTo, upTo-before-trans, upTo-not-before}
 use Rattle.words.proofs.Readings.{readings-all}
 use Rattle.words.proofs.Count.{count-zero, count-split, count-one}
-use Rattle.rings.specs.Prenecklace.{prenecklace}
-use Rattle.rings.specs.Next.{lastLow, nextPrenecklace}
+use Rattle.rings.specs.{Prenecklace.prenecklace, Next.lastLow, Next.nextPrenecklace}
 use Rattle.rings.specs.Steps.{aboveOf, passed, moves}
 use Rattle.ring_laws.proofs.Next.{length-next, next-before, next-reading, next-prenecklace, next-upTo, none-before}
 
@@ -42,8 +35,7 @@ moves-start k w = count-zero (passed w (some w)) (readings (length w) k) none-pa
   where
     none-passed : (u : List ℕ) → Reading (length w) k u → passed w (some w) u ≡ false
     none-passed u r =
-        refuted (passed w (some w) u)
-        (λ e.
+        refuted (passed w (some w) u) (λ e.
         let a = both-left (before w u && prenecklace u) (upTo u w) e in
         clash (before w u) (both-left (before w u) (prenecklace u) a) (upTo-not-before w u (both-right (before w u && prenecklace u) (upTo u w) e)))
 

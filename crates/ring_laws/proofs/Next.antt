@@ -5,32 +5,19 @@
 --     next-before, next-upTo    it is above, and no prenecklace above is below it
 --     next-some, next-none      it is the next prenecklace; where every sector is k - 1 nothing of any kind is above
 --     low-or-full, next-none-full    there is a place to raise, and a next prenecklace, exactly when not every sector is k - 1
-use Prim.Native.Nat.{ℕ, suc, _-_, _%_, _<_, _≤_}
-use mathlib.Core.Path.{_≡_, refl, sym, ap, _∙_}
-use mathlib.Core.Logic.{_↔_}
-use mathlib.Core.Bool.{Bool, true, false}
-use mathlib.Core.Option.{none, some}
-use mathlib.Core.List.{List, [], _∷_}
-use native.Mathlib.Omega.{arith}
+use Rattle.words.proofs.Plain.{ℕ, suc, _-_, _%_, _<_, _≤_, arith, _≡_, refl, sym, ap, _∙_, _↔_, Bool, true, false, none, some, List, [], _∷_, length, getD}
+use Rattle.words.proofs.Plain.{take, length-append, List·getD-append, replicate, length-replicate, getD-replicate, length-take-le, getD-take, getD-at, ext-getD}
+use Rattle.words.proofs.{Plain.ltb-true, Plain.ltb-false, Sequence.sec, Sequence.recast}
 use native.Mathlib.Nat.{mod-lt}
-use lib.ListN.{length, getD, take, length-append, List·getD-append, replicate, length-replicate, getD-replicate}
-use lib.Seq.{length-take-le, getD-take, getD-at, ext-getD}
-use borrow.Author.Tests.{ltb-true, ltb-false}
-use Rattle.words.specs.Order.{before, upTo}
-use Rattle.words.specs.Readings.{Reading}
+use Rattle.words.specs.{Order.before, Order.upTo, Readings.Reading}
 use Rattle.words.proofs.Split.{lt, eq, gt, tri, both, both-left, both-right, refuted}
 use Rattle.words.proofs.Search.{greatest-le, greatest-at, greatest-none, length-tab, getD-tab}
-use Rattle.words.proofs.Sequence.{sec, recast}
 use Rattle.words.proofs.Lex.{before-less, less-before, not-less-upTo}
 use Rattle.words.proofs.Readings.{first-is, first-nothing}
-use Rattle.rings.specs.Prenecklace.{prenecklace, lyn}
+use Rattle.rings.specs.{Prenecklace.prenecklace, Prenecklace.lyn, Steps.aboveOf, Steps.nextOf}
 use Rattle.rings.specs.Next.{lowAt, lastLow, raised, repeated, nextPrenecklace}
-use Rattle.rings.specs.Steps.{aboveOf, nextOf}
-use Rattle.ring_laws.proofs.Run.{Run, run-through}
-use Rattle.ring_laws.proofs.Repeat.{rep}
+use Rattle.ring_laws.proofs.{Run.Run, Run.run-through, Repeat.rep, Words.pre-of, Lyndon.run-lyn, Lyndon.run-prenecklace}
 use Rattle.ring_laws.proofs.Raise.{Raised, next-run, next-above, next-least, none-above}
-use Rattle.ring_laws.proofs.Words.{pre-of}
-use Rattle.ring_laws.proofs.Lyndon.{run-lyn, run-prenecklace}
 
 -- ---- the place to raise
 
@@ -106,8 +93,7 @@ module _ (k : ℕ) (w : List ℕ) (z : 0 < lastLow k w) where
 
   pub next-before : before w (nextPrenecklace k w) ≡ true
   next-before =
-      less-before w (nextPrenecklace k w) (sym (length-next k w))
-      (rw (length-next k w)
+      less-before w (nextPrenecklace k w) (sym (length-next k w)) (rw (length-next k w)
       (recast (sec w) (rep (suc (lastLow k w - 1)) (sec (raised (lastLow k w) w))) (sec w) (sec (nextPrenecklace k w)) (length w) (λ m h. refl) next-at
       (next-above k (sec w) (length w) (lastLow k w - 1) (sec (raised (lastLow k w) w)) raised-at)))
 
@@ -131,8 +117,7 @@ module _ (k : ℕ) (w : List ℕ) (z : 0 < lastLow k w) where
     -- the run of the next prenecklace: its lyn is the place that was raised
     pub next-is-run : Run (sec (nextPrenecklace k w)) (length (nextPrenecklace k w)) (lastLow k w)
     next-is-run =
-        rw (length-next k w)
-        (rw place-raised at
+        rw (length-next k w) (rw place-raised at
         (run-through (rep (suc (lastLow k w - 1)) (sec (raised (lastLow k w) w))) (sec (nextPrenecklace k w)) (length w) (suc (lastLow k w - 1)) next-at
         (next-run k (sec w) (length w) (lastLow k w - 1) (sec (raised (lastLow k w) w)) raised-at (pre-of w pre))))
 
@@ -145,8 +130,7 @@ module _ (k : ℕ) (w : List ℕ) (z : 0 < lastLow k w) where
     -- no prenecklace above w is below it
     pub next-upTo : (v : List ℕ) → Reading (length w) k v → prenecklace v ≡ true → before w v ≡ true → upTo (nextPrenecklace k w) v ≡ true
     next-upTo v reading prev up =
-        not-less-upTo (nextPrenecklace k w) v (length-next k w ∙ sym (reading .long))
-        (λ l.
+        not-less-upTo (nextPrenecklace k w) v (length-next k w ∙ sym (reading .long)) (λ l.
         next-least k (sec w) (length w) (lastLow k w - 1) (sec (raised (lastLow k w) w)) raised-at (pre-of w pre) (sec v) (rw (reading .long) at (pre-of v prev)) (reading .shades)
         (rw (reading .long) at (before-less w v (sym (reading .long)) up))
         (recast (sec v) (sec (nextPrenecklace k w)) (sec v) (rep (suc (lastLow k w - 1)) (sec (raised (lastLow k w) w))) (length w) (λ m h. refl) (λ m h. sym (next-at m h))
@@ -163,8 +147,7 @@ module _ (k : ℕ) (w : List ℕ) (z : 0 < lastLow k w) where
 -- where no sector can be raised nothing is above, of whatever kind
 pub none-before : (k : ℕ) (w v : List ℕ) → lastLow k w ≡ 0 → Reading (length w) k v → before w v ≡ false
 none-before k w v z reading =
-    refuted (before w v)
-    (λ up.
+    refuted (before w v) (λ up.
     none-above k (sec w) (sec v) (length w) (λ m b. low-none k w m (omega arith) b) (reading .shades) (rw (reading .long) at (before-less w v (sym (reading .long)) up)))
 
 pub next-none : (kind : List ℕ → Bool) (k : ℕ) (w : List ℕ) → lastLow k w ≡ 0 → nextOf kind k w ≡ none

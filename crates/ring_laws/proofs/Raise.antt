@@ -5,9 +5,7 @@
 --     next-run, next-above, next-least    the repetition is a run, it is above, and no prenecklace lies between
 --     none-above          where no place can be raised there is nothing above
 --     low-first, low-past, low-far        the place that is raised next lies past lyn, and past every whole copy
-use Prim.Native.Nat.{ℕ, zero, suc, _+_, _-_, _*_, _/_, _%_, _<_, _≤_}
-use mathlib.Core.Path.{_≡_, refl, sym, ap, _∙_}
-use native.Mathlib.Omega.{arith}
+use Rattle.words.proofs.Plain.{ℕ, zero, suc, _+_, _-_, _*_, _/_, _%_, _<_, _≤_, arith, _≡_, refl, sym, ap, _∙_}
 use native.Mathlib.Nat.{mul-mod-left, div-add-mod'}
 use Rattle.words.proofs.Split.{lt, eq, gt, tri}
 use Rattle.words.proofs.Sequence.{Less, place}
@@ -36,8 +34,7 @@ raise-lyn a b (suc j) pre e h = go (has-run a (suc j) (omega arith) (pre-shorter
 -- a prenecklace that agrees with a run of p for at least p places is not below it
 pub run-floor : (s v : ℕ → ℕ) (n p : ℕ) → Run s n p → Pre v n → (l : Less v s n) → p ≤ l .at → ⊥
 run-floor s v n p r pre l h =
-    pre p
-    (record {
+    pre p (record {
       at = l .at - p;
       bound = omega (arith, l .bound);
       agree = λ m b. l .agree (p + m) (omega arith) ∙ r .again (p + m) m refl (omega (arith, l .bound)) ∙ sym (l .agree m (omega arith));

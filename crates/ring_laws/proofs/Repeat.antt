@@ -5,9 +5,7 @@
 --     Neck a n            no turn of the first n is below them
 --     neck, no-neck       the first n of a run of p are a necklace exactly when p divides n
 --     neck-pre            a necklace is a prenecklace
-use Prim.Native.Nat.{ℕ, zero, suc, _+_, _-_, _*_, _/_, _%_, _<_, _≤_}
-use mathlib.Core.Path.{_≡_, refl, sym, ap, _∙_}
-use native.Mathlib.Omega.{arith}
+use Rattle.words.proofs.Plain.{ℕ, zero, suc, _+_, _-_, _*_, _/_, _%_, _<_, _≤_, arith, _≡_, refl, sym, ap, _∙_}
 use native.Mathlib.Nat.{mod-lt, mod-eq-of-lt, add-mod-left, mul-add-mod-self-right, div-add-mod', mod-le}
 use Rattle.words.proofs.Split.{lt, eq, gt, tri}
 use Rattle.words.proofs.Sequence.{from, Less, place, widen, recast}
@@ -114,8 +112,7 @@ module _ (a : ℕ → ℕ) where
   neck-pre n t turned neck i l =
       let h : i < n = omega (arith, l .bound) in
       let u = turned i h in
-      neck i (t i) h u
-      (record {
+      neck i (t i) h u (record {
         at = l .at;
         bound = omega (arith, l .bound);
         agree = λ m b. u .low m (i + m) refl (omega (arith, l .bound)) ∙ l .agree m b;

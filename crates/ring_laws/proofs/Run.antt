@@ -3,9 +3,7 @@
 --     same, greater, smaller    the fundamental theorem: what a further sector does to a Run
 --     run-pre, has-run          a Run is a prenecklace, and a prenecklace of at least one sector is a Run
 --     longest, run-one          no longer beginning is Lyndon, so p is unique
-use Prim.Native.Nat.{ℕ, zero, suc, _+_, _-_, _<_, _≤_}
-use mathlib.Core.Path.{_≡_, refl, sym, _∙_}
-use native.Mathlib.Omega.{arith}
+use Rattle.words.proofs.Plain.{ℕ, zero, suc, _+_, _-_, _<_, _≤_, arith, _≡_, refl, sym, _∙_}
 use Rattle.words.proofs.Split.{lt, eq, gt, tri}
 use Rattle.words.proofs.Sequence.{from, Less, place, widen, less-asym}
 pub use Rattle.ring_laws.specs.Run.{Pre, Lyn, Run}
@@ -167,8 +165,7 @@ module _ (a b : ℕ → ℕ) where
 
   pub pre-through : (n : ℕ) → ((m : ℕ) → m < n → a m ≡ b m) → Pre a n → Pre b n
   pre-through n e pre i l =
-      pre i
-      (record {
+      pre i (record {
         at = l .at;
         bound = l .bound;
         agree = λ m q. e (i + m) (omega (arith, l .bound)) ∙ l .agree m q ∙ sym (e m (omega (arith, l .bound)));

@@ -2,25 +2,16 @@
 --     snoc-one, prenecklaces-more     each prenecklace of n sectors has one extension that keeps its lyn, and its others are Lyndon words: P(n + 1) = P(n) + L(n + 1)
 --     prenecklaces-lyndon             P(n) = L(1) + .. + L(n)
 --     prenecklaces-necklaces          P(n) is at most the necklaces of lengths 1 to n together
-use Prim.Native.Nat.{ℕ, zero, suc, _+_, _-_, _<_, _≤_}
-use mathlib.Core.Path.{_≡_, refl, sym, ap, _∙_}
-use mathlib.Core.Bool.{true, false}
-use mathlib.Core.List.{List, [], _∷_}
-use native.Mathlib.Omega.{arith}
-use lib.ListN.{length, getD, List·getD-append}
-use lib.Dec.{eqb}
-use borrow.Author.Tests.{eq-eqb, ne-eqb}
+use Rattle.words.proofs.Plain.{ℕ, zero, suc, _+_, _-_, _<_, _≤_, arith, _≡_, refl, sym, ap, _∙_, true, false, List, [], _∷_, eqb, length, getD}
+use Rattle.words.proofs.Plain.{List·getD-append, eq-eqb, ne-eqb}
 use Rattle.words.specs.Readings.{Reading, readings, bit, count}
 use Rattle.words.proofs.Split.{lt, eq, gt, tri, Test, passes, fails, test, refuted, clash}
-use Rattle.words.proofs.Readings.{readings-all}
-use Rattle.words.proofs.Sequence.{sec}
+use Rattle.words.proofs.{Readings.readings-all, Sequence.sec}
 use Rattle.words.proofs.Count.{sumBelow, sum-cong, sum-add, sum-zero, sum-one, total-cong, total-add, total-snoc, count-cong, count-le}
-use Rattle.rings.specs.Necklace.{necklace, lyndon}
-use Rattle.rings.specs.Prenecklace.{prenecklace, lyn}
+use Rattle.rings.specs.{Necklace.necklace, Necklace.lyndon, Prenecklace.prenecklace, Prenecklace.lyn}
 use Rattle.rings.specs.Steps.{howMany, howManyTo}
-use Rattle.ring_laws.proofs.Run.{pre-shorter, pre-through}
+use Rattle.ring_laws.proofs.{Run.pre-shorter, Run.pre-through, Lyndon.lyn-run, Lyndon.lyndon-one}
 use Rattle.ring_laws.proofs.Words.{pre-of, of-pre, necklace-prenecklace}
-use Rattle.ring_laws.proofs.Lyndon.{lyn-run, lyndon-one}
 use Rattle.ring_laws.proofs.Fundamental.{snoc, length-snoc, extend-same, extend-greater, extend-smaller}
 use Rattle.ring_laws.proofs.Classes.{lyndon-necklace, lyndon-lyn}
 
@@ -30,8 +21,7 @@ lyndon-prenecklace w h = necklace-prenecklace w (lyndon-necklace w h)
 -- a beginning of a prenecklace is one
 pub snoc-begin : (w : List ℕ) (b : ℕ) → prenecklace (snoc w b) ≡ true → prenecklace w ≡ true
 snoc-begin w b h =
-    of-pre w
-    (pre-through (sec (snoc w b)) (sec w) (length w) (λ m l. List·getD-append w (b ∷ []) 0 m l)
+    of-pre w (pre-through (sec (snoc w b)) (sec w) (length w) (λ m l. List·getD-append w (b ∷ []) 0 m l)
     (pre-shorter (sec (snoc w b)) (length (snoc w b)) (length w) (omega (arith, length-snoc w b)) (pre-of (snoc w b) h)))
 
 -- ---- the extensions of one word

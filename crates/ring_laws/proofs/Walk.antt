@@ -5,20 +5,13 @@
 --     walk-found               the next prenecklace is of the kind: it is the answer, one move on
 --     walk-on                  it is not: the step stands there, one move on
 --     walk-done                there is no next prenecklace: there is no answer, and the moves are all there are
-use Prim.Native.Nat.{ℕ, suc, _<_}
-use mathlib.Core.Path.{_≡_, refl, sym, ap, _∙_}
-use mathlib.Core.Bool.{Bool, true, false, _&&_}
-use mathlib.Core.Option.{none, some}
-use mathlib.Core.List.{List}
-use lib.ListN.{length}
-use Rattle.words.specs.Order.{before, upTo}
-use Rattle.words.specs.Readings.{Reading, readings}
+use Rattle.words.proofs.Plain.{ℕ, suc, _<_, _≡_, refl, sym, ap, _∙_, Bool, true, false, _&&_, none, some, List, length}
+use Rattle.words.specs.{Order.before, Order.upTo, Readings.Reading, Readings.readings}
 use Rattle.words.proofs.Split.{both, both-left, both-right, refuted, clash}
 use Rattle.words.proofs.Lex.{ahead, equal, behind, lex, before-upTo, upTo-refl, upTo-before-trans, not-before, before-not-upTo}
 use Rattle.words.proofs.Readings.{first-is, first-nothing, readings-all}
 use Rattle.words.proofs.Count.{count-cong}
-use Rattle.rings.specs.Prenecklace.{prenecklace}
-use Rattle.rings.specs.Next.{lastLow, nextPrenecklace}
+use Rattle.rings.specs.{Prenecklace.prenecklace, Next.lastLow, Next.nextPrenecklace}
 use Rattle.rings.specs.Steps.{aboveOf, nextOf, passed, moves}
 use Rattle.ring_laws.proofs.Next.{length-next, next-before, next-reading, next-prenecklace, next-upTo, none-before}
 use Rattle.ring_laws.proofs.Moves.{moves-start, moves-last}

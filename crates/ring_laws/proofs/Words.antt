@@ -3,20 +3,12 @@
 --     turned                the sectors of a turn are the turned sectors
 --     neck-of, of-neck      necklace w, and Neck of its sectors
 --     necklace-prenecklace  a necklace is a prenecklace
-use Prim.Native.Nat.{ℕ, _+_, _-_, _<_, _≤_}
-use mathlib.Core.Path.{_≡_, refl, sym, _∙_}
-use mathlib.Core.Bool.{true}
-use mathlib.Core.List.{List}
-use native.Mathlib.Omega.{arith}
-use lib.ListN.{length, getD, take, drop, length-drop}
-use lib.Seq.{length-take-le, getD-take, getD-drop}
+use Rattle.words.proofs.Plain.{ℕ, _+_, _-_, _<_, _≤_, arith, _≡_, refl, sym, _∙_, true, List, length, getD, take, drop, length-drop, length-take-le, getD-take}
+use Rattle.words.proofs.{Plain.getD-drop, Search.all-at, Search.all-of, Lex.upTo-not-less, Lex.not-less-upTo}
 use Rattle.words.specs.Turn.{turn}
-use Rattle.words.proofs.Search.{all-at, all-of}
 use Rattle.words.proofs.Sequence.{sec, from, recast}
-use Rattle.words.proofs.Lex.{upTo-not-less, not-less-upTo}
 use Rattle.words.proofs.Turn.{length-turn, turn-low, turn-high}
-use Rattle.rings.specs.Necklace.{necklace, notAboveTurn}
-use Rattle.rings.specs.Prenecklace.{prenecklace, endingHolds}
+use Rattle.rings.specs.{Necklace.necklace, Necklace.notAboveTurn, Prenecklace.prenecklace, Prenecklace.endingHolds}
 use Rattle.ring_laws.proofs.Run.{Pre}
 use Rattle.ring_laws.proofs.Repeat.{Turned, Neck, neck-pre}
 
@@ -44,10 +36,8 @@ module _ (w : List ℕ) where
   pub of-pre : Pre (sec w) (length w) → prenecklace w ≡ true
   unfolding prenecklace endingHolds
   of-pre pre =
-      all-of (length w) (endingHolds w)
-      (λ i b.
-      not-less-upTo (take (length w - i) w) (drop i w) (part-lengths i)
-      (λ l.
+      all-of (length w) (endingHolds w) (λ i b.
+      not-less-upTo (take (length w - i) w) (drop i w) (part-lengths i) (λ l.
       pre i
       (recast (sec (drop i w)) (sec (take (length w - i) w)) (from i (sec w)) (sec w) (length w - i) (λ m c. ending-at i m) (λ m c. begin-at i m c)
       (rw (begin-length i) at l))))

@@ -6,13 +6,8 @@
 --                           beginning is a prenecklace; the one up to and including it is none; no longer one is; nor would be, whatever sectors followed
 --     wrong-pos             it is never 0: one sector alone is a prenecklace
 --     wrong-is              it is where the run of the sectors breaks
-use Prim.Native.Nat.{ℕ, zero, suc, _-_, _<_, _≤_}
-use mathlib.Core.Path.{_≡_, refl, sym, ap, _∙_}
-use mathlib.Core.Bool.{Bool, true, false, not}
-use mathlib.Core.List.{List, _++_}
-use native.Mathlib.Omega.{arith}
-use lib.ListN.{length, getD, take, length-append, List·getD-append}
-use lib.Seq.{length-take-le, getD-take, take-all}
+use Rattle.words.proofs.Plain.{ℕ, zero, suc, _-_, _<_, _≤_, arith, _≡_, refl, sym, ap, _∙_, Bool, true, false, not, List, _++_, length, getD, take}
+use Rattle.words.proofs.Plain.{length-append, List·getD-append, length-take-le, getD-take, take-all}
 use Rattle.words.proofs.Split.{refuted, clash, lt, eq, gt, tri}
 use Rattle.words.proofs.Search.{least-at, least-none, least-is, least-lt}
 use Rattle.words.proofs.Sequence.{sec}
@@ -32,8 +27,7 @@ module _ (w : List ℕ) (i : ℕ) (b : i ≤ length w) where
 -- a beginning of a prenecklace is one
 pub beginning-pre : (w v : List ℕ) → prenecklace (w ++ v) ≡ true → prenecklace w ≡ true
 beginning-pre w v h =
-    of-pre w
-    (pre-through (sec (w ++ v)) (sec w) (length w) (λ m l. List·getD-append w v 0 m l)
+    of-pre w (pre-through (sec (w ++ v)) (sec w) (length w) (λ m l. List·getD-append w v 0 m l)
     (pre-shorter (sec (w ++ v)) (length (w ++ v)) (length w) (omega (arith, length-append w v)) (pre-of (w ++ v) h)))
 
 -- what is no prenecklace begins none, whatever follows

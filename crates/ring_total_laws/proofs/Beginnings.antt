@@ -2,27 +2,18 @@
 --     necklaceBy d w        w is a necklace with the period d
 --     beginning-lyndon      its first d sectors are a Lyndon word, and repeated they are the necklace
 --     repeated-necklace     a Lyndon word of length d, repeated up to a multiple of d, is a necklace of period d that begins with it
-use Prim.Native.Nat.{ℕ, _%_, _<_, _≤_, _∣_}
-use mathlib.Core.Path.{_≡_, sym, ap, subst, _∙_}
-use mathlib.Core.Bool.{Bool, true, _&&_}
-use mathlib.Core.List.{List}
-use native.Mathlib.Omega.{arith}
+use Rattle.words.proofs.Plain.{ℕ, _%_, _<_, _≤_, _∣_, arith, _≡_, sym, ap, subst, _∙_, Bool, true, _&&_, List, eqb, length, getD, take, ext-getD}
+use Rattle.words.proofs.Plain.{length-take-le, getD-take, eq-eqb, eqb-true}
 use native.Mathlib.Nat.{mod-lt, mod-eq-of-lt, mod-eq-zero-of-dvd}
-use lib.ListN.{length, getD, take}
-use lib.Seq.{ext-getD, length-take-le, getD-take}
-use lib.Dec.{eqb}
-use borrow.Author.Tests.{eq-eqb, eqb-true}
 use Rattle.words.specs.Readings.{Reading}
 use Rattle.words.proofs.Split.{both, both-left, both-right}
-use Rattle.words.proofs.Search.{length-tab, getD-tab}
-use Rattle.words.proofs.Sequence.{sec}
+use Rattle.words.proofs.{Search.length-tab, Search.getD-tab, Sequence.sec}
 use Rattle.rings.specs.Necklace.{necklace, period, lyndon}
 use Rattle.rings.specs.Next.{repeated}
 use Rattle.ring_laws.proofs.Run.{Lyn, Run, lyn-through, run-through}
 use Rattle.ring_laws.proofs.Repeat.{rep, rep-run, run-rep}
-use Rattle.ring_laws.proofs.Words.{necklace-prenecklace}
+use Rattle.ring_laws.proofs.{Words.necklace-prenecklace, Classes.period-lyn}
 use Rattle.ring_laws.proofs.Lyndon.{run-necklace, period-run, lyndon-of, of-lyndon, lyn-run}
-use Rattle.ring_laws.proofs.Classes.{period-lyn}
 
 -- a necklace with the period d
 unfoldable pub necklaceBy : ℕ → List ℕ → Bool

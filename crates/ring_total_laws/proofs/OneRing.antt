@@ -7,28 +7,19 @@
 --     walk-one-ring    there is such a walk, and both hold of it
 -- The first holds because a reading is a turn of its home reading and of no other necklace. The second counts the pairs of a ring and a turn of it: by
 -- rings they are the periods, and by readings they are one for each.
-use Prim.Native.Nat.{ℕ, _<_}
-use mathlib.Core.Path.{_≡_, sym, subst, _∙_}
-use mathlib.Core.Bool.{true, false}
-use mathlib.Core.List.{List, _∷_}
-use native.Mathlib.Omega.{arith}
-use lib.ListN.{length}
+use Rattle.words.proofs.Plain.{ℕ, _<_, arith, _≡_, sym, subst, _∙_, true, false, List, _∷_, length}
 use Rattle.words.specs.Order.{before, same}
 use Rattle.words.specs.Readings.{Reading, readings, bit, total, count}
 use Rattle.words.proofs.Split.{clash}
 use Rattle.words.proofs.Lex.{ahead, equal, behind, lex, same-refl, same-false, before-less}
 use Rattle.words.proofs.Readings.{All, also, all-weaken, readings-all}
 use Rattle.words.proofs.Count.{total-cong, count-cong, count-zero}
-use Rattle.rings.specs.Necklace.{necklace, period}
-use Rattle.rings.specs.Home.{home}
-use Rattle.rings.specs.Steps.{FullWalk}
+use Rattle.rings.specs.{Necklace.necklace, Necklace.period, Home.home, Steps.FullWalk}
 use Rattle.ring_laws.proofs.Moves.{before-not-same, after-not-same}
 use Rattle.ring_laws.proofs.FullWalk.{walk-exists, walk-kind, walk-each, zeros, length-zeros, zeros-at, zeros-reading, zeros-necklace}
 use Rattle.ring_home_laws.proofs.Home.{home-necklace, home-reading}
-use Rattle.ring_total_laws.specs.Turns.{isTurn}
-use Rattle.ring_total_laws.specs.OneRing.{OneRingEach, PeriodsAddUp}
-use Rattle.ring_total_laws.proofs.Totals.{total-swap, readings-size}
-use Rattle.ring_total_laws.proofs.Turning.{turns-count, necklace-turn}
+use Rattle.ring_total_laws.specs.{Turns.isTurn, OneRing.OneRingEach, OneRing.PeriodsAddUp}
+use Rattle.ring_total_laws.proofs.{Totals.total-swap, Totals.readings-size, Turning.turns-count, Turning.necklace-turn}
 
 -- a necklace of n sectors and k shades
 abbrev pub Ring : ℕ → ℕ → List ℕ → Type 0

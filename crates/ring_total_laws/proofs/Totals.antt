@@ -3,11 +3,7 @@
 --     total-swap, total-below       double totals in the other order
 --     readings-size                 there are k ^ n readings of n sectors and k shades
 -- Totals of equal, added and absent values: `words`, proofs/Count.
-use Prim.Native.Nat.{ℕ, zero, suc, _*_, _^_}
-use mathlib.Core.Path.{_≡_, refl, sym, ap, _∙_}
-use mathlib.Core.Bool.{true}
-use mathlib.Core.List.{List, [], _∷_}
-use native.Mathlib.Omega.{arith}
+use Rattle.words.proofs.Plain.{ℕ, zero, suc, _*_, _^_, arith, _≡_, refl, sym, ap, _∙_, true, List, [], _∷_}
 use native.Mathlib.Nat.{suc-mul, zero-mul, pow-zero, pow-succ'}
 use Rattle.words.specs.Readings.{readings, total, count}
 use Rattle.words.proofs.Count.{sumBelow, total-cons, total-add}

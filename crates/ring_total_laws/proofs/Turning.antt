@@ -4,24 +4,16 @@
 --     turns-once          each turn is one of them, exactly once
 --     turns-count         so a reading has as many turns as its period says
 --     necklace-turn       a reading is a turn of a necklace exactly where that is its home reading
-use Prim.Native.Nat.{ℕ, _+_, _-_, _%_, _<_, _≤_}
-use mathlib.Core.Path.{_≡_, sym, ap, _∙_}
-use mathlib.Core.Bool.{true, false}
-use mathlib.Core.List.{List}
-use native.Mathlib.Omega.{arith}
+use Rattle.words.proofs.Plain.{ℕ, _+_, _-_, _%_, _<_, _≤_, arith, _≡_, sym, ap, _∙_, true, false, List, length}
 use native.Mathlib.Nat.{mul-one, mod-lt}
-use lib.ListN.{length}
-use Rattle.words.specs.Order.{same}
-use Rattle.words.specs.Turn.{turn}
+use Rattle.words.specs.{Order.same, Turn.turn}
 use Rattle.words.specs.Readings.{Reading, readings, bit, count}
 use Rattle.words.proofs.Split.{passes, fails, test, lt, eq, gt, tri, agree, clash}
-use Rattle.words.proofs.Search.{some-of, some-at}
+use Rattle.words.proofs.{Search.some-of, Search.some-at, Readings.readings-all}
 use Rattle.words.proofs.Lex.{same-true, true-same, same-false}
 use Rattle.words.proofs.Turn.{turn-turn, turn-back, turn-length, reading-turn}
-use Rattle.words.proofs.Readings.{readings-all}
 use Rattle.words.proofs.Count.{sumBelow, sum-cong, sum-one, sum-zero, total-cong, count-one}
-use Rattle.rings.specs.Necklace.{necklace, period}
-use Rattle.rings.specs.Home.{home}
+use Rattle.rings.specs.{Necklace.necklace, Necklace.period, Home.home}
 use Rattle.ring_home_laws.proofs.Period.{period-pos, period-le, period-turn, period-smallest, rest-turn}
 use Rattle.ring_home_laws.proofs.Home.{necklace-home, one-home-turn, turn-one-home}
 use Rattle.ring_total_laws.specs.Turns.{isTurn}

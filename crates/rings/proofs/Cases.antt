@@ -1,23 +1,14 @@
 -- The rings that the client checked by hand (01, 'Rings to check by hand'), of the definitions themselves: one table, one claim. The last claim computes it.
 -- A row's reading is a decimal numeral with the number of its sectors before it: `classed 9 001010010 (Opening 5)`. Leading zeros count.
 -- The first part of the table is the page's starred cases, in its order; the second has a row for each definition that no starred case computes.
-use Prim.Native.Nat.{ℕ, zero, suc, _/_, _%_}
-use mathlib.Core.Path.{_≡_, refl}
-use mathlib.Core.Bool.{Bool, true, false}
-use mathlib.Core.Option.{none, some}
-use mathlib.Core.List.{List, [], _∷_}
+use Rattle.words.proofs.Plain.{ℕ, zero, suc, _/_, _%_, _≡_, refl, Bool, true, false, none, some, List, [], _∷_}
 use Rattle.words.specs.Table.{Hold}
-use Rattle.rings.specs.declared.Class.{Class}
+use Rattle.rings.specs.{declared.Class.Class, Prenecklace.prenecklace, Class.classOf, Class.lookAt, Home.home, Home.shift}
 use Rattle.rings.specs.declared.Class.the-variants.{Loose, Opening, Repeating, Single}
 use Rattle.rings.specs.Necklace.{necklace, lyndon, period, belowOtherTurns}
-use Rattle.rings.specs.Prenecklace.{prenecklace}
-use Rattle.rings.specs.Class.{classOf, lookAt}
-use Rattle.rings.specs.Home.{home, shift}
 use Rattle.rings.specs.Alike.{evenHanded, sameRing, apart, mirrored, bracelet, leastOfPair}
-use Rattle.rings.specs.Next.{nextPrenecklace}
-use Rattle.rings.specs.Counts.{countedNecklace}
+use Rattle.rings.specs.{Next.nextPrenecklace, Counts.countedNecklace, Open.open-all}
 use Rattle.rings.specs.Steps.{firstOf, nextOf, moves, howMany, howManyTo}
-use Rattle.rings.specs.Open.{open-all}
 
 -- the n decimal digits of a numeral, in front of the sectors that follow
 unfoldable pub digits : ℕ → ℕ → List ℕ → List ℕ

@@ -1,8 +1,6 @@
 -- What the checks of the numbers and of the distance say together.
-use Prim.Native.Nat.{ℕ, _≤_}
-use mathlib.Core.Logic.{inr}
-use Rattle.refusal.specs.declared.Checked.{Checked}
-use Rattle.refusal.specs.declared.Checked.the-variants.{Good, Refused}
+use Rattle.words.proofs.Plain.{ℕ, _≤_, inr}
+use Rattle.refusal.specs.{declared.Checked.Checked, declared.Checked.the-variants.Good, declared.Checked.the-variants.Refused}
 use Rattle.limits_spec.specs.declared.Planned.the-variants as P
 use Rattle.limits_spec.specs.Limits.{NumbersSay}
 use Rattle.limits_spec.proofs.Unique.{listable-passed}

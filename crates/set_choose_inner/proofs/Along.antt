@@ -4,59 +4,37 @@
 --     Turned, turned                a step to a next Lyndon word, which is offered; fewer readings are above
 --     along-ended                   there is none: not full
 --     along-full                    there are enough
-use Prim.Native.Nat.{ℕ, zero, suc, _-_, _<_, _≤_}
-use mathlib.Core.Path.{_≡_, refl, sym, ap, subst, _∙_}
-use mathlib.Core.Bool.{true, false}
-use mathlib.Core.Option.{none, some}
-use mathlib.Core.Logic.{⊎-elim}
-use mathlib.Core.List.{List, [], _∷_}
-use native.Mathlib.Omega.{arith}
-use lib.ListN.{length, getD, take, length-append, length-set}
-use lib.Seq.{ext-getD, getD-take, length-take-le}
-use lib.Dec.{eqb}
-use borrow.Author.Tests.{lt-ltb, eq-eqb, ne-eqb}
+use Rattle.words.proofs.Plain.{ℕ, zero, suc, _-_, _<_, _≤_, arith, _≡_, refl, sym, ap, subst, _∙_, ⊎-elim, true, false, none, some, List, [], _∷_, eqb, length}
+use Rattle.words.proofs.Plain.{getD, take, length-append, length-set, ext-getD, getD-take, length-take-le, lt-ltb, eq-eqb, ne-eqb}
 use types.Run.{OneOf}
 use denote.Enum.Declared.{tagOf}
-use Rattle.walk_spec.proofs.Outcome.{the-type}
-use Rattle.words.specs.Order.{before}
-use Rattle.words.specs.Search.{tab}
+use Rattle.walk_spec.proofs.{Outcome.the-type, Unique.one-start}
+use Rattle.words.specs.{Order.before, Search.tab}
 use Rattle.words.specs.Readings.{Sized, Reading, readings, count}
 use Rattle.words.proofs.Split.{passes, fails, test, lt, eq, gt, tri}
-use Rattle.rings.specs.Necklace.{lyndon}
-use Rattle.rings.specs.Prenecklace.{prenecklace}
-use Rattle.rings.specs.Open.{open-all}
-use Rattle.rings.specs.Steps.{nextOf}
-use Rattle.ring_laws.proofs.Classes.{lyndon-necklace}
-use Rattle.ring_laws.proofs.Words.{necklace-prenecklace}
+use Rattle.rings.specs.{Necklace.lyndon, Prenecklace.prenecklace, Open.open-all, Steps.nextOf, Counts.occurs, Counts.countsOf}
+use Rattle.ring_laws.proofs.{Classes.lyndon-necklace, Words.necklace-prenecklace}
 use Rattle.ring_laws.proofs.FullWalk.{next-facts, fewer-above, zeros, length-zeros, zeros-at, zeros-reading, zeros-prenecklace}
-use Rattle.refusal.specs.declared.Checked.{Checked}
+use Rattle.refusal.specs.{declared.Checked.Checked, Order.Passed}
 use Rattle.refusal.specs.declared.Checked.the-variants as C
-use Rattle.refusal.specs.Order.{Passed}
 use Rattle.refusal.proofs.Unique.{never-both}
-use Rattle.walk_spec.specs.declared.Walk.{Walk}
-use Rattle.walk_spec.specs.declared.Started.{Started}
-use Rattle.walk_spec.specs.declared.Outcome.{Outcome}
+use Rattle.walk_spec.specs.{declared.Walk.Walk, declared.Started.Started, declared.Outcome.Outcome}
 use Rattle.walk_spec.specs.declared.Outcome.the-variants.{Moved, Done, Refused}
-use Rattle.rings.specs.Counts.{occurs, countsOf}
 use Rattle.walk_spec.specs.Record.{ringOf, walkOf, walkAsked}
 use Rattle.walk_spec.specs.Says.{StartSays, StepSays, Onto, Ended}
 use Rattle.walk_record_laws.proofs.Good.{ring-of, walk-good}
-use Rattle.walk_spec.proofs.Unique.{one-start}
 use Rattle.walk_laws.proofs.OneRing.{handed-out}
 use Rattle.set_spec.specs.Greedy.{greedyBy, farFrom, clear, lyndons, picked}
 use Rattle.set_spec.specs.Places.{laid}
-use Rattle.set_pick_spec.specs.Order.{Askable}
-use Rattle.set_pick_spec.specs.Says.{SetChosen}
-use Rattle.guard_spec.specs.declared.Rule.{Rule}
-use Rattle.guard_spec.specs.declared.Rule.the-variants.{Plain, Guarded}
+use Rattle.set_pick_spec.specs.{Order.Askable, Says.SetChosen}
+use Rattle.guard_spec.specs.{declared.Rule.Rule, declared.Rule.the-variants.Plain, declared.Rule.the-variants.Guarded}
 use Rattle.guard_spec.specs.Choice.{joins, guarded, mayJoin, chosenBy}
 use Rattle.set_words_inner.specs.Says.{zeroTaken}
 use Rattle.set_clear_inner.specs.Says.{tallyAt, HoldsSet, Comparable}
 use Rattle.set_places_inner.specs.Says.{OfferSays}
 use Rattle.set_laws.proofs.Kept.{rest, rest-step, rest-end, lyndons-one, lyndons-more}
 use Rattle.set_laws.proofs.Choice.{greedy-take, greedy-skip, greedy-none, greedy-enough, offeredBy, offered-most, greedy-offer}
-use Rattle.set_laws.proofs.Worth.{nothing-near}
-use Rattle.set_laws.proofs.Places.{laid-length, laid-zeros}
+use Rattle.set_laws.proofs.{Worth.nothing-near, Places.laid-length, Places.laid-zeros}
 
 -- ---- the invariant
 

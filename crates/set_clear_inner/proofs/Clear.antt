@@ -7,22 +7,14 @@
 --     place-length, place-room    the reading in a place, and that it and its tally lie inside
 --     part-asked             the part of the places that the code lends is a reading, and the part of the tallies has its counts
 --     clear-start, clear-on, clear-ends, clear-all    the loop
-use Prim.Native.Nat.{ℕ, zero, suc, _+_, _-_, _*_, _<_, _≤_}
-use mathlib.Core.Path.{_≡_, refl, sym, ap, subst, _∙_}
-use mathlib.Core.Bool.{Bool, true, false}
-use mathlib.Core.List.{List, [], _++_}
-use native.Mathlib.Omega.{arith}
-use lib.ListN.{length, getD, take, drop, length-append, List·getD-append}
-use lib.Seq.{getD-append-add}
-use Rattle.words.specs.Search.{allBelow}
-use Rattle.words.specs.Readings.{Reading}
+use Rattle.words.proofs.Plain.{ℕ, zero, suc, _+_, _-_, _*_, _<_, _≤_, arith, _≡_, refl, sym, ap, subst, _∙_, Bool, true, false, List, [], _++_, length, getD}
+use Rattle.words.proofs.Plain.{take, drop, length-append, List·getD-append, getD-append-add}
+use Rattle.words.specs.{Search.allBelow, Readings.Reading}
 use Rattle.words.proofs.Split.{lt, eq, gt, tri, clash, refuted}
 use Rattle.words.proofs.Search.{all-at, all-of}
 use Rattle.rings.specs.Counts.{countsOf}
-use Rattle.refusal.specs.Order.{Passed}
-use Rattle.refusal.specs.Calls.{oneReading, twoReadings}
-use Rattle.set_spec.specs.Greedy.{farFrom, clear}
-use Rattle.set_spec.specs.Places.{laid, placeAt}
+use Rattle.refusal.specs.{Order.Passed, Calls.oneReading, Calls.twoReadings}
+use Rattle.set_spec.specs.{Greedy.farFrom, Greedy.clear, Places.laid, Places.placeAt}
 use Rattle.set_laws.proofs.Places.{laid-length, place-laid}
 use Rattle.set_clear_inner.specs.Says.{Fit, HoldsSet, Stocked, Comparable, clearIn}
 
@@ -52,8 +44,7 @@ clear-all {d = d} {p = p} {t = t} {w = w} a h = sym (all-of t (λ j. farFrom d (
 pub clear-in : {n k : ℕ} {ts : List (List ℕ)} {p q : List ℕ} {t : ℕ} (d : ℕ) (w : List ℕ) → n ≤ 24 → t ≤ 32 → HoldsSet n k ts p q t → clearIn n d p t w ≡ clear d ts w
 unfolding clear
 clear-in {n = n} {ts = ts} d w short most h =
-    rw (h .places, h .number)
-    (all-cong (length ts) (λ j. farFrom d (placeAt n (laid ts) j) w) (λ j. farFrom d (getD ts j []) w)
+    rw (h .places, h .number) (all-cong (length ts) (λ j. farFrom d (placeAt n (laid ts) j) w) (λ j. farFrom d (getD ts j []) w)
     (λ j b. ap (λ (x : List ℕ). farFrom d x w) (place-laid n ts j short (omega (arith, h .number)) b (h .each j b .long))))
 
 -- ---- the checks of the library

@@ -2,22 +2,11 @@
 --     surplus-more, counts-sixteen     one shade more, and there are 16
 --     far-counts                       the shade counts tell
 --     far-yes, far-no, far-never       they do not, and the library tells; it does not refuse readings that pass its checks
-use Prim.Native.Nat.{ℕ, suc, _+_, _-_, _*_, _≤_}
-use mathlib.Core.Path.{_≡_, refl}
-use mathlib.Core.Bool.{true, false}
-use mathlib.Core.List.{List}
-use native.Mathlib.Omega.{arith}
-use lib.ListN.{length}
-use lib.Dec.{ltb}
-use borrow.Author.Tests.{le-ltb}
-use Rattle.words.proofs.Search.{length-tab, getD-tab}
-use Rattle.words.proofs.Sequence.{sec}
-use Rattle.rings.specs.Alike.{apart}
-use Rattle.rings.specs.Counts.{occurs, countsOf}
+use Rattle.words.proofs.Plain.{ℕ, suc, _+_, _-_, _*_, _≤_, arith, _≡_, refl, true, false, List, ltb, length, le-ltb}
+use Rattle.words.proofs.{Search.length-tab, Search.getD-tab, Sequence.sec}
+use Rattle.rings.specs.{Alike.apart, Counts.occurs, Counts.countsOf}
 use Rattle.ring_home_laws.proofs.Counts.{surplus, surplus-cong, surplus-apart}
-use Rattle.refusal.specs.declared.Refusal.{Refusal}
-use Rattle.refusal.specs.Order.{Passed}
-use Rattle.refusal.specs.Calls.{twoReadings}
+use Rattle.refusal.specs.{declared.Refusal.Refusal, Order.Passed, Calls.twoReadings}
 use Rattle.refusal.proofs.Unique.{never-both}
 use Rattle.home_spec.specs.declared.Told.the-variants.{Yes, No, Refused}
 use Rattle.home_spec.specs.Says.{ToldSays}

@@ -2,26 +2,14 @@
 --     far-back, counts-back  a ring reversed is as far from a reading as its mirror image, and has the ring's counts
 --     back-asked, back-pair  so it can be compared with the places, and with the ring
 --     not-steady-in, not-sided-in, guarded-in    what the three tests tell
-use Prim.Native.Nat.{ℕ, _<_}
-use mathlib.Core.Path.{_≡_, refl, sym, ap, _∙_}
-use mathlib.Core.Bool.{Bool, true, false, _&&_, not}
-use mathlib.Core.List.{List, reverse}
-use native.Mathlib.Omega.{arith}
-use lib.ListN.{length, length-reverse}
-use lib.Seq.{ext-getD}
-use lib.Dec.{ltb}
+use Rattle.words.proofs.Plain.{ℕ, _<_, arith, _≡_, refl, sym, ap, _∙_, Bool, true, false, _&&_, not, List, reverse, ltb, length, length-reverse, ext-getD}
 use Rattle.words.specs.Search.{tab}
-use Rattle.words.proofs.Split.{not-left, not-right}
-use Rattle.words.proofs.Search.{length-tab, getD-tab}
-use Rattle.words.proofs.Turn.{reading-reverse}
-use Rattle.rings.specs.Alike.{mirrored}
-use Rattle.rings.specs.Counts.{occurs, countsOf}
+use Rattle.words.proofs.{Split.not-left, Split.not-right, Search.length-tab, Search.getD-tab, Turn.reading-reverse}
+use Rattle.rings.specs.{Alike.mirrored, Counts.occurs, Counts.countsOf}
 use Rattle.ring_home_laws.proofs.Counts.{occurs-reverse}
-use Rattle.refusal.specs.Order.{Passed}
-use Rattle.refusal.specs.Calls.{twoReadings}
+use Rattle.refusal.specs.{Order.Passed, Calls.twoReadings}
 use Rattle.home_spec.specs.Turns.{steady}
-use Rattle.set_spec.specs.Greedy.{farFrom}
-use Rattle.set_spec.specs.Places.{placeAt}
+use Rattle.set_spec.specs.{Greedy.farFrom, Places.placeAt}
 use Rattle.guard_laws.proofs.Mirror.{apart-home-right}
 use Rattle.set_clear_inner.specs.Says.{Comparable, clearIn}
 use Rattle.set_clear_inner.proofs.Clear.{all-cong, pair-good, place-length}

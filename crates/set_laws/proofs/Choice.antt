@@ -10,12 +10,7 @@
 --     greedy-looked, greedy-last    each word taken is one of those looked at, and where enough are taken the last taken is the last looked at
 --     looked-begins, short-looked   the words looked at are a beginning of the words, and all of them where fewer are taken than wanted
 --     greedy-settles                each word looked at is taken, or there is a reason against it
-use Prim.Native.Nat.{ℕ, zero, suc, _+_, _-_, _<_, _≤_}
-use mathlib.Core.Path.{_≡_, refl, sym, ap, _∙_}
-use mathlib.Core.Bool.{true, false}
-use mathlib.Core.List.{List, [], _∷_, _++_}
-use native.Mathlib.Omega.{arith}
-use lib.ListN.{length, getD}
+use Rattle.words.proofs.Plain.{ℕ, zero, suc, _+_, _-_, _<_, _≤_, arith, _≡_, refl, sym, ap, _∙_, true, false, List, [], _∷_, _++_, length, getD}
 use Rattle.words.specs.Order.{before}
 use Rattle.words.proofs.Split.{Test, passes, fails, test}
 use Rattle.words.proofs.Readings.{All, nothing, also, all-weaken, all-append, Increasing, empty, more, increasing-append}

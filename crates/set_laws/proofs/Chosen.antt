@@ -5,16 +5,8 @@
 --     chosen-keeps                      what holds of no words, and is kept by each word that joins, holds of the set
 --     chosen-fewer                      not full is fewer than wanted
 --     chosen-settled, chosen-all        each Lyndon word up to one that was looked at is settled, and all are where fewer are taken than wanted
-use Prim.Native.Nat.{ℕ, zero, suc, _<_, _≤_}
-use mathlib.Core.Path.{_≡_, refl, sym, subst, _∙_}
-use mathlib.Core.Bool.{Bool, true, false}
-use mathlib.Core.List.{List, [], _∷_, _++_}
-use native.Mathlib.Omega.{arith}
-use lib.ListN.{length, getD}
-use lib.Dec.{eqb}
-use borrow.Author.Tests.{eqb-false}
-use Rattle.words.specs.Order.{upTo}
-use Rattle.words.specs.Readings.{readings}
+use Rattle.words.proofs.Plain.{ℕ, zero, suc, _<_, _≤_, arith, _≡_, refl, sym, subst, _∙_, Bool, true, false, List, [], _∷_, _++_, eqb, length, getD, eqb-false}
+use Rattle.words.specs.{Order.upTo, Readings.readings}
 use Rattle.words.proofs.Readings.{All, nothing, all-weaken, Increasing, empty, readings-all, readings-increasing, each-reading}
 use Rattle.rings.specs.Necklace.{lyndon}
 use Rattle.set_spec.specs.Greedy.{May, greedyBy, lookedBy, lyndons}

@@ -3,20 +3,12 @@
 --     rest k u                      the Lyndon words of u's length above u
 --     rest-step, rest-end           a step to the next Lyndon word takes the first of them; where there is none, nothing is left
 --     lyndons-one, lyndons-more     the Lyndon words from the all-zero ring on, which is one of them only where n is 1
-use Prim.Native.Nat.{ℕ, _+_, _<_, _≤_}
-use mathlib.Core.Path.{_≡_, refl, sym, ap, _∙_}
-use mathlib.Core.Bool.{true, false, _&&_}
-use mathlib.Core.Option.{none, some}
-use mathlib.Core.List.{List, [], _∷_}
-use native.Mathlib.Omega.{arith}
-use lib.ListN.{length}
-use Rattle.words.specs.Order.{before, upTo}
-use Rattle.words.specs.Readings.{Reading, readings}
+use Rattle.words.proofs.Plain.{ℕ, _+_, _<_, _≤_, arith, _≡_, refl, sym, ap, _∙_, true, false, _&&_, none, some, List, [], _∷_, length}
+use Rattle.words.specs.{Order.before, Order.upTo, Readings.Reading, Readings.readings}
 use Rattle.words.proofs.Split.{Test, passes, fails, test, refuted}
 use Rattle.words.proofs.Lex.{Lex, ahead, equal, behind, lex, before-irrefl, before-trans, before-less, before-upTo, upTo-refl}
 use Rattle.words.proofs.Readings.{all-weaken, readings-all, readings-increasing, first-none, first-is}
-use Rattle.rings.specs.Necklace.{lyndon}
-use Rattle.rings.specs.Steps.{aboveOf, nextOf}
+use Rattle.rings.specs.{Necklace.lyndon, Steps.aboveOf, Steps.nextOf}
 use Rattle.ring_laws.proofs.Lyndon.{of-lyndon, lyndon-one}
 use Rattle.ring_laws.proofs.FullWalk.{next-facts, zeros, length-zeros, zeros-at, zeros-reading}
 use Rattle.word_list_spec.specs.Passing.{kept}
@@ -34,8 +26,7 @@ pub rest-step : (k : ℕ) (u v : List ℕ) → nextOf lyndon k u ≡ some v → 
 unfolding rest nextOf aboveOf
 rest-step k u v e =
     let f = next-facts lyndon k u v e in
-    rw (f .0 .long)
-    (kept-first (aboveOf lyndon u) (readings (length u) k) v (readings-increasing (length u) k) e
+    rw (f .0 .long) (kept-first (aboveOf lyndon u) (readings (length u) k) v (readings-increasing (length u) k) e
     ∙ ap (λ (x : List (List ℕ)). v ∷ x) (kept-cong (λ w. before v w && aboveOf lyndon u w) (aboveOf lyndon v) (readings (length u) k)
     (all-weaken (λ w r. on w (f .1) (test (before v w))) (readings-all (length u) k))))
   where

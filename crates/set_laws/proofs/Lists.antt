@@ -3,15 +3,9 @@
 --     all-place, place-all           what holds of all holds at each place, and the other way round
 --     increasing-rising              a list in increasing order rises from place to place
 --     Begins vs ws                   vs is a beginning of ws; of a list in increasing order it has all words up to one that it has (`begins-down`)
-use Prim.Native.Nat.{ℕ, zero, suc, _+_, _<_}
-use mathlib.Core.Path.{_≡_, refl, _∙_}
-use mathlib.Core.Bool.{true}
-use mathlib.Core.List.{List, [], _∷_, _++_}
-use native.Mathlib.Omega.{arith}
-use lib.ListN.{length, getD, length-append}
+use Rattle.words.proofs.Plain.{ℕ, zero, suc, _+_, _<_, arith, _≡_, refl, _∙_, true, List, [], _∷_, _++_, length, getD, length-append}
 use Rattle.words.specs.Order.{before, upTo}
-use Rattle.words.proofs.Split.{clash}
-use Rattle.words.proofs.Lex.{upTo-not-before}
+use Rattle.words.proofs.{Split.clash, Lex.upTo-not-before}
 use Rattle.words.proofs.Readings.{All, nothing, also, Increasing, empty, more}
 
 -- ---- one word more

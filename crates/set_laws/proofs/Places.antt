@@ -4,12 +4,9 @@
 --     place-laid                         the reading in place j is the ring number j
 --     length-set-in, set-in-at           the readings in the first t places
 --     put-laid                           a ring put at the first free place is one ring more
-use Prim.Native.Nat.{ℕ, zero, suc, _+_, _-_, _*_, _/_, _%_, _<_, _≤_}
-use mathlib.Core.Path.{_≡_, refl, sym, ap, _∙_}
-use mathlib.Core.List.{List, [], _∷_, _++_}
-use native.Mathlib.Omega.{arith}
-use lib.ListN.{length, getD, take, drop, replicate, length-append, length-drop, length-replicate, getD-replicate, List·getD-append, List·getD-eq-default}
-use lib.Seq.{ext-getD, getD-take, getD-drop, getD-append-add, length-take-le}
+use Rattle.words.proofs.Plain.{ℕ, zero, suc, _+_, _-_, _*_, _/_, _%_, _<_, _≤_, arith, _≡_, refl, sym, ap, _∙_, List, [], _∷_, _++_, length, getD, take, drop}
+use Rattle.words.proofs.Plain.{replicate, length-append, length-drop, length-replicate, getD-replicate, List·getD-append, List·getD-eq-default, ext-getD}
+use Rattle.words.proofs.Plain.{getD-take, getD-drop, getD-append-add, length-take-le}
 use Rattle.words.proofs.Split.{Tri, lt, eq, gt, tri}
 use Rattle.words.proofs.Search.{length-tab, getD-tab}
 use Rattle.set_spec.specs.Places.{sectorOf, laid, placeAt, setIn}

@@ -4,19 +4,10 @@
 --     spread-more               one that is clear leaves any two at least d apart
 --     picked-most               it takes at most the wanted number
 --     picked-worth              every sentence of `Worth`, where `full` says whether the wanted number was taken
-use Prim.Native.Nat.{ℕ, _<_, _≤_}
-use mathlib.Core.Path.{_≡_, refl, sym, _∙_}
-use mathlib.Core.Bool.{Bool, true, false, not}
-use mathlib.Core.List.{List, [], _∷_, _++_}
-use native.Mathlib.Omega.{arith}
-use lib.ListN.{length, getD}
-use lib.Dec.{ltb, eqb}
-use borrow.Author.Tests.{ltb-true, ltb-false, eqb-true}
-use Rattle.words.specs.Order.{before}
-use Rattle.words.specs.Search.{allBelow}
+use Rattle.words.proofs.Plain.{ℕ, _<_, _≤_, arith, _≡_, refl, sym, _∙_, Bool, true, false, not, List, [], _∷_, _++_, ltb, eqb, length, getD, ltb-true}
+use Rattle.words.proofs.{Plain.ltb-false, Plain.eqb-true, Search.all-at, Search.not-all, Readings.All}
+use Rattle.words.specs.{Order.before, Search.allBelow}
 use Rattle.words.proofs.Split.{passes, fails, test, lt, eq, gt, tri, clash}
-use Rattle.words.proofs.Search.{all-at, not-all}
-use Rattle.words.proofs.Readings.{All}
 use Rattle.rings.specs.Alike.{apart}
 use Rattle.set_spec.specs.Greedy.{farFrom, clear, picked, lookedAt}
 use Rattle.set_spec.specs.Worth.{Spread, Near, Settled, took, left-out, Worth}

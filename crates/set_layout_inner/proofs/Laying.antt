@@ -3,13 +3,9 @@
 --     Laid n p t out j                  the first j of t rings stand at the beginning of the output
 --     Turn n p t out j                  and there is one more, for which there is room
 --     laid-start, laid-on, laid-all     from none on to all of them
-use Prim.Native.Nat.{ℕ, suc, _+_, _-_, _*_, _<_, _≤_}
-use mathlib.Core.Path.{_≡_, refl, sym, ap, _∙_}
-use mathlib.Core.List.{List, [], _∷_, _++_, append-nil, append-assoc}
-use native.Mathlib.Omega.{arith}
+use Rattle.words.proofs.Plain.{ℕ, suc, _+_, _-_, _*_, _<_, _≤_, arith, _≡_, refl, sym, ap, _∙_, List, [], _∷_, _++_, append-nil, append-assoc, length, take}
+use Rattle.words.proofs.Plain.{drop, length-append, length-drop, length-take-le, take-at, take-all}
 use native.Mathlib.Nat.{mul-suc, mul-le-mul-left}
-use lib.ListN.{length, take, drop, length-append, length-drop}
-use lib.Seq.{length-take-le, take-at, take-all}
 use Rattle.word_copy_laws.proofs.Copy.{copied}
 use Rattle.set_spec.specs.Places.{placeAt, setIn}
 use Rattle.set_layout_spec.specs.Layout.{endToEnd}

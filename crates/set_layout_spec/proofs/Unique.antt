@@ -1,10 +1,6 @@
 -- Laying out has one answer, and leaves the output in one way.
-use Prim.Native.Nat.{ℕ}
-use mathlib.Core.Path.{_≡_, refl, sym, ap, _∙_}
-use mathlib.Core.List.{List}
-use lib.ListN.{length}
-use Rattle.refusal.specs.declared.Checked.{Checked}
-use Rattle.refusal.specs.declared.Checked.the-variants.{Good, Refused}
+use Rattle.words.proofs.Plain.{ℕ, _≡_, refl, sym, ap, _∙_, List, length}
+use Rattle.refusal.specs.{declared.Checked.Checked, declared.Checked.the-variants.Good, declared.Checked.the-variants.Refused}
 use Rattle.refusal.proofs.Unique.{one-refusal, never-both}
 use Rattle.set_layout_spec.specs.Layout.{layoutOrder, LayoutSays}
 

@@ -8,17 +8,9 @@
 --     one-set-line               a line spells at most four numbers
 --     set-line-short             a line has at most 16 characters
 --     one-spelt                  no line has two answers
-use Prim.Native.Nat.{ℕ, suc, _+_, _-_, _<_, _≤_}
-use mathlib.Core.Path.{_≡_, refl, sym, ap, _∙_}
-use mathlib.Core.Logic.{inl, inr, ⊎-elim}
-use mathlib.Core.List.{List, _∷_, _++_, append-assoc}
-use native.Mathlib.Omega.{arith}
-use native.Mathlib.Numerals.{add-one}
-use native.Mathlib.Decide.{decLt}
-use lib.ListN.{length, getD, take, drop, length-append, length-drop, List·getD-append}
-use lib.Seq.{take-append-seam, drop-append-add, getD-append-seam, getD-append-add, getD-drop, split-at, take-all}
-use lib.Dec.{eqb}
-use borrow.Author.Tests.{eqb-true, eqb-false}
+use Rattle.words.proofs.Plain.{ℕ, suc, _+_, _-_, _<_, _≤_, add-one, arith, decLt, _≡_, refl, sym, ap, _∙_, inl, inr, ⊎-elim, List, _∷_, _++_, append-assoc, eqb}
+use Rattle.words.proofs.Plain.{length, getD, take, drop, length-append, length-drop, List·getD-append, take-append-seam, drop-append-add, getD-append-seam}
+use Rattle.words.proofs.Plain.{getD-append-add, getD-drop, split-at, take-all, eqb-true, eqb-false}
 use Rattle.words.proofs.Split.{lt, eq, gt, tri, passes, fails, test}
 use Rattle.text_spec.specs.Decimal.{decimal}
 use Rattle.text_spec.proofs.Digits.{decimal-digits, length-decimal}
@@ -168,8 +160,7 @@ pub record Same (n k d want n′ k′ d′ want′ : ℕ) : Type 0 where
 
 second-of : (n k d want : ℕ) → SecondSpace (fourFields n k d want) (length (fields n k))
 second-of n k d want =
-    rw (four-first n k d want)
-    (record {
+    rw (four-first n k d want) (record {
       first = length (decimal n);
       one = front-space n (decimal k ++ (32 ∷ fields d want));
       none = λ h. absurd (omega (arith, inside n (decimal k ++ (32 ∷ fields d want))));

@@ -3,31 +3,17 @@
 --     line-malformed, line-numbers      the output for a malformed line, and for one of numbers
 --     numbers-refused, numbers-chosen   the output for numbers that are refused, and for others
 --     places-fit                        the places of an answer can be printed
-use Prim.Native.Nat.{ℕ, _+_, _^_, _<_, _≤_}
-use mathlib.Core.Path.{_≡_, refl, ap, _∙_}
-use mathlib.Core.Bool.{Bool}
-use mathlib.Core.List.{List, _++_}
-use native.Mathlib.Omega.{arith}
-use lib.ListN.{length, length-append}
-use lib.Dec.{eqb}
-use Rattle.refusal.specs.declared.Refusal.{Refusal}
-use Rattle.refusal.specs.declared.Refusal.the-variants.{Line}
-use Rattle.refusal.specs.Numbers.{numberOf}
-use Rattle.text_spec.specs.Text.{refusedLine}
-use Rattle.text_spec.specs.Put.{Placed}
-use Rattle.text_spec.proofs.Digits.{length-decimal}
-use Rattle.text_spec.proofs.Put.{length-refused}
-use Rattle.guard_spec.specs.declared.Rule.{Rule}
-use Rattle.guard_spec.specs.Choice.{chosenBy}
+use Rattle.words.proofs.Plain.{ℕ, _+_, _^_, _<_, _≤_, arith, _≡_, refl, ap, _∙_, Bool, List, _++_, eqb, length, length-append}
+use Rattle.refusal.specs.{declared.Refusal.Refusal, declared.Refusal.the-variants.Line, Numbers.numberOf, Order.Given}
+use Rattle.text_spec.specs.{Text.refusedLine, Put.Placed}
+use Rattle.text_spec.proofs.{Digits.length-decimal, Put.length-refused}
+use Rattle.guard_spec.specs.{declared.Rule.Rule, Choice.chosenBy}
 use Rattle.set_spec.specs.Places.{setIn}
 use Rattle.set_laws.proofs.Places.{laid-length}
-use Rattle.refusal.specs.Order.{Given}
-use Rattle.set_pick_spec.specs.Order.{setOrder}
-use Rattle.set_pick_spec.specs.Says.{SetChosen}
+use Rattle.set_pick_spec.specs.{Order.setOrder, Says.SetChosen}
 use Rattle.set_pick_spec.proofs.Worth.{rule-most, rule-set}
 use Rattle.set_text_spec.specs.Text.{ringTexts, takenText, setText}
-use Rattle.set_line_spec.specs.declared.Spelt.the-variants.{Numbers, Malformed}
-use Rattle.set_line_spec.specs.Line.{SpellSays}
+use Rattle.set_line_spec.specs.{declared.Spelt.the-variants.Numbers, declared.Spelt.the-variants.Malformed, Line.SpellSays}
 use Rattle.set_text_spec.specs.Prints.{setRoom, refused, chosen, malformed, spelt, PrintedBy, whole}
 use Rattle.set_text_spec.proofs.Lengths.{length-rings, length-taken}
 use Rattle.set_text_inner.specs.Says.{Rings}

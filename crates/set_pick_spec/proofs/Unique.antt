@@ -5,14 +5,9 @@
 --     one-set             whatever the set is to be, there is one answer, each of its 768 sectors included
 --     one-pick            so the call has one answer
 --     one-guarded         and the one for guarded sets
-use Prim.Native.Nat.{ℕ}
-use mathlib.Core.Path.{_≡_, refl, sym, ap, _∙_}
-use mathlib.Core.Bool.{Bool}
-use mathlib.Core.List.{List}
-use Rattle.refusal.specs.declared.Refusal.{Refusal}
-use Rattle.refusal.specs.declared.Checked.{Checked}
-use Rattle.refusal.specs.declared.Checked.the-variants.{Good, Refused}
-use Rattle.refusal.specs.Order.{Passed, Given}
+use Rattle.words.proofs.Plain.{ℕ, _≡_, refl, sym, ap, _∙_, Bool, List}
+use Rattle.refusal.specs.{declared.Refusal.Refusal, declared.Checked.Checked}
+use Rattle.refusal.specs.{declared.Checked.the-variants.Good, declared.Checked.the-variants.Refused, Order.Passed, Order.Given}
 use Rattle.refusal.proofs.Unique.{one-refusal, never-both}
 use Rattle.limits_spec.proofs.Unique.{listable-passed, passed-listable}
 use Rattle.set_spec.specs.Greedy.{picked}

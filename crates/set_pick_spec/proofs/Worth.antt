@@ -6,25 +6,15 @@
 --     guard-set, guard-worth, guard-most    the same of the guarded choice and `GuardedWorth`
 --     rule-most, rule-set                   no more than wanted are taken, and the places hold the choice, by either rule
 --     guard-uneven, guard-opposite          so no ring of a guarded answer is even-handed, and none is another's other side
-use Prim.Native.Nat.{ℕ, _<_, _≤_}
-use mathlib.Core.Path.{_≡_, sym, subst, _∙_}
-use mathlib.Core.Bool.{Bool, false}
-use mathlib.Core.List.{List, []}
-use native.Mathlib.Omega.{arith}
-use lib.ListN.{length, getD}
-use lib.Seq.{ext-getD}
+use Rattle.words.proofs.Plain.{ℕ, _<_, _≤_, arith, _≡_, sym, subst, _∙_, Bool, false, List, [], length, getD, ext-getD}
 use Rattle.rings.specs.Alike.{evenHanded, sameRing, mirrored}
-use Rattle.set_spec.specs.Greedy.{picked, lookedAt}
-use Rattle.set_spec.specs.Worth.{LyndonWords, Worth}
-use Rattle.set_spec.specs.Places.{setIn}
+use Rattle.set_spec.specs.{Greedy.picked, Greedy.lookedAt, Worth.LyndonWords, Worth.Worth, Places.setIn}
 use Rattle.set_laws.proofs.Worth.{picked-most, picked-worth}
 use Rattle.set_laws.proofs.Places.{place-laid, length-set-in, set-in-at}
-use Rattle.guard_spec.specs.declared.Rule.{Rule}
-use Rattle.guard_spec.specs.declared.Rule.the-variants.{Plain, Guarded}
+use Rattle.guard_spec.specs.{declared.Rule.Rule, declared.Rule.the-variants.Plain, declared.Rule.the-variants.Guarded}
 use Rattle.guard_spec.specs.Choice.{guarded, guardedLooked, chosenBy}
 use Rattle.guard_spec.specs.Worth.{GuardedWorth}
-use Rattle.guard_laws.proofs.Sides.{none-mirrored, none-even}
-use Rattle.guard_laws.proofs.Worth.{guarded-most, guarded-worth}
+use Rattle.guard_laws.proofs.{Sides.none-mirrored, Sides.none-even, Worth.guarded-most, Worth.guarded-worth}
 use Rattle.set_pick_spec.specs.Says.{SetChosen, Chosen, GuardChosen}
 
 -- the places hold the set that was to be chosen

@@ -2,18 +2,13 @@
 --     clear-more             the test against one word more
 --     may-in                 read from the places, the test of a rule is that of the definition
 --     not-clear-in, may-guarded    what the rule makes of what is told of the fronts, and of the other sides
-use Prim.Native.Nat.{ℕ, _≤_}
-use mathlib.Core.Path.{_≡_, refl, sym, ap, _∙_}
-use mathlib.Core.Bool.{Bool, true, false, _&&_}
-use mathlib.Core.List.{List, [], _∷_, _++_}
-use lib.ListN.{length, getD}
+use Rattle.words.proofs.Plain.{ℕ, _≤_, _≡_, refl, sym, ap, _∙_, Bool, true, false, _&&_, List, [], _∷_, _++_, length, getD}
 use Rattle.words.specs.Search.{allBelow}
 use Rattle.words.proofs.Split.{not-left}
 use Rattle.rings.specs.Alike.{mirrored}
 use Rattle.set_spec.specs.Greedy.{farFrom, clear}
 use Rattle.set_laws.proofs.Lists.{length-more, at-old, at-new}
-use Rattle.guard_spec.specs.declared.Rule.{Rule}
-use Rattle.guard_spec.specs.declared.Rule.the-variants.{Plain, Guarded}
+use Rattle.guard_spec.specs.{declared.Rule.Rule, declared.Rule.the-variants.Plain, declared.Rule.the-variants.Guarded}
 use Rattle.guard_spec.specs.Choice.{joins, mayJoin}
 use Rattle.set_clear_inner.specs.Says.{HoldsSet, Comparable, clearIn}
 use Rattle.set_clear_inner.proofs.Clear.{all-cong, clear-in}

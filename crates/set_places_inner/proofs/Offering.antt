@@ -1,21 +1,15 @@
 -- Offering a ring: what is put into the places.
 --     offer-no, offer-yes   the ring is not taken, or it is
 --     copied-over           a ring copied over its part of the places, or counts over theirs of the tallies
-use Prim.Native.Nat.{ℕ, _+_, _-_, _*_, _<_, _≤_}
-use mathlib.Core.Path.{_≡_, refl, sym, _∙_}
-use mathlib.Core.Bool.{Bool, true, false}
-use mathlib.Core.List.{List, _++_}
-use native.Mathlib.Omega.{arith}
-use lib.ListN.{length, getD, take, drop, length-drop}
-use lib.Seq.{ext-getD, getD-take, getD-drop, length-take-le, drop-drop}
+use Rattle.words.proofs.Plain.{ℕ, _+_, _-_, _*_, _<_, _≤_, arith, _≡_, refl, sym, _∙_, Bool, true, false, List, _++_, length, getD, take, drop, length-drop}
+use Rattle.words.proofs.Plain.{ext-getD, getD-take, getD-drop, length-take-le, drop-drop}
 use Rattle.words.proofs.Split.{lt, eq, gt, tri}
 use Rattle.word_copy_laws.proofs.Copy.{copied}
 use Rattle.set_far_inner.proofs.Far.{counts-sixteen}
 use Rattle.set_laws.proofs.Lists.{length-more, at-old, at-new}
 use Rattle.set_laws.proofs.Choice.{offered-yes, offered-no}
 use Rattle.set_laws.proofs.Places.{over, over-length, over-before, over-inside, put-laid}
-use Rattle.guard_spec.specs.declared.Rule.{Rule}
-use Rattle.guard_spec.specs.Choice.{mayJoin}
+use Rattle.guard_spec.specs.{declared.Rule.Rule, Choice.mayJoin}
 use Rattle.set_clear_inner.specs.Says.{tallyAt, Comparable}
 use Rattle.set_clear_inner.proofs.Clear.{stock-length}
 use Rattle.set_places_inner.specs.Says.{OfferSays, mayIn}

@@ -1,15 +1,10 @@
 -- What the program reads: the output for what was read is that for the whole input, and it lies within the buffer.
 --     input-full, input-ended, input-by    where the buffer is full, where the input ended, by what was read
 --     input-inside                         the output lies within the buffer
-use Prim.Native.Nat.{ℕ, _≤_}
-use mathlib.Core.Path.{_≡_, ap}
-use mathlib.Core.List.{List}
-use native.Mathlib.Omega.{arith}
-use lib.ListN.{length, take}
+use Rattle.words.proofs.Plain.{ℕ, _≤_, arith, _≡_, ap, List, length, take}
 use Rattle.guard_spec.specs.declared.Rule.{Rule}
 use Rattle.set_text_spec.specs.Prints.{PrintedBy}
-use Rattle.set_text_spec.proofs.First.{printed-first}
-use Rattle.set_text_spec.proofs.Unique.{printed-inside, printed-length}
+use Rattle.set_text_spec.proofs.{First.printed-first, Unique.printed-inside, Unique.printed-length}
 use Rattle.program_reading_inner.specs.declared.Most.{Most}
 use Rattle.program_reading_inner.specs.declared.Most.the-variants as M
 use Rattle.set_program_inner.specs.Says.{setLineBytes, InputSays}

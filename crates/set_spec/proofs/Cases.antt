@@ -1,7 +1,5 @@
 -- Sets worked out by hand, and computed from the definitions.
-use mathlib.Core.Path.{_≡_, refl}
-use mathlib.Core.List.{[], _∷_}
-use lib.ListN.{length, take, drop, replicate}
+use Rattle.words.proofs.Plain.{_≡_, refl, [], _∷_, length, take, drop, replicate}
 use Rattle.rings.specs.Open.{open-all}
 use Rattle.set_spec.specs.Greedy.{greedyBy, lookedBy, farFrom, clear, kept, lyndons, picked, lookedAt}
 use Rattle.set_spec.specs.Places.{sectorOf, laid}

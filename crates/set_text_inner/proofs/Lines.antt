@@ -3,17 +3,9 @@
 --     lines-start, lines-room, lines-on     the loop over the rings
 --     taken-room                            there is room for the last line
 --     word-room, number-room, full-room, placed-full, short-room, placed-short-of     the last line, piece after piece
-use Prim.Native.Nat.{ℕ, _+_, _-_, _*_, _<_, _≤_}
-use mathlib.Core.Path.{_≡_, refl}
-use mathlib.Core.Bool.{Bool, true, false}
-use mathlib.Core.List.{List, map, _++_}
-use native.Mathlib.Omega.{arith}
-use native.Mathlib.Numerals.{add-one}
-use lib.ListN.{length, take, drop, length-append, length-map}
-use Rattle.text_spec.specs.Ascii.{ascii}
-use Rattle.text_spec.specs.Decimal.{decimal}
-use Rattle.text_spec.specs.Text.{hexOf}
-use Rattle.text_spec.specs.Put.{Placed}
+use Rattle.words.proofs.Plain.{ℕ, _+_, _-_, _*_, _<_, _≤_, add-one, arith, _≡_, refl, Bool, true, false, List, map, _++_, length, take, drop, length-append}
+use Rattle.words.proofs.Plain.{length-map}
+use Rattle.text_spec.specs.{Ascii.ascii, Decimal.decimal, Text.hexOf, Put.Placed}
 use Rattle.text_spec.proofs.Put.{placed-append, placed-length}
 use Rattle.set_spec.specs.Places.{placeAt, setIn}
 use Rattle.set_text_spec.specs.Text.{ringText, ringTexts, fullText, takenText}

@@ -1,12 +1,7 @@
 -- A line's first characters decide its output: a line has at most 16, so of a longer input 17 characters tell that it is malformed.
 --     prints-first       the output for the first m characters of s, m at least 17, is the output for s
 --     printed-first      and so it is of the buffer
-use Prim.Native.Nat.{ℕ, _<_, _≤_}
-use mathlib.Core.List.{List}
-use native.Mathlib.Omega.{arith}
-use native.Mathlib.Decide.{decLt}
-use lib.ListN.{length, take, length-take}
-use lib.Seq.{take-all}
+use Rattle.words.proofs.Plain.{ℕ, _<_, _≤_, arith, decLt, List, length, take, length-take, take-all}
 use Rattle.set_line_spec.specs.Line.{SpellsSet}
 use Rattle.set_line_spec.proofs.Four.{set-line-short}
 use Rattle.guard_spec.specs.declared.Rule.{Rule}

@@ -2,12 +2,8 @@
 --     rings-more          one ring more is one line more
 --     length-rings        the lines of rings of at most 24 sectors
 --     length-taken        the last line
-use Prim.Native.Nat.{ℕ, zero, suc, _+_, _*_, _≤_}
-use mathlib.Core.Path.{_≡_, refl, sym, ap, _∙_}
-use mathlib.Core.Bool.{Bool, true, false}
-use mathlib.Core.List.{List, [], _∷_, _++_, append-assoc, append-nil}
-use native.Mathlib.Omega.{arith}
-use lib.ListN.{length, length-append, length-map, length-take}
+use Rattle.words.proofs.Plain.{ℕ, zero, suc, _+_, _*_, _≤_, arith, _≡_, refl, sym, ap, _∙_, Bool, true, false, List, [], _∷_, _++_, append-assoc, append-nil}
+use Rattle.words.proofs.Plain.{length, length-append, length-map, length-take}
 use Rattle.text_spec.proofs.Digits.{length-decimal}
 use Rattle.set_spec.specs.Places.{placeAt, setIn}
 use Rattle.set_text_spec.specs.Text.{ringText, ringTexts, fullText, takenText}

@@ -2,12 +2,7 @@
 --     one-text         no line has two outputs
 --     one-printed      no two answers, nor two buffers, fit one call
 --     printed-inside   the output lies within the buffer
-use Prim.Native.Nat.{ℕ, _+_, _≤_}
-use mathlib.Core.Path.{_≡_, sym, ap, _∙_}
-use mathlib.Core.List.{List}
-use native.Mathlib.Omega.{arith}
-use lib.ListN.{length}
-use lib.Seq.{sets}
+use Rattle.words.proofs.Plain.{ℕ, _+_, _≤_, arith, _≡_, sym, ap, _∙_, List, length, sets}
 use Rattle.refusal.specs.Numbers.{numberOf}
 use Rattle.text_spec.specs.Text.{refusedLine}
 use Rattle.text_spec.proofs.Put.{placed-length}

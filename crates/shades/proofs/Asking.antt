@@ -2,26 +2,16 @@
 --     first-asks, first-found     what filling the output asks, and what it leaves there
 --     cap-asks    what lowering the reading to the shades that are counted asks
 --     next-asks, next-found, next-done    what the search for the next ring asks from there, and what it answers
-use Prim.Native.Nat.{ℕ, _<_}
-use mathlib.Core.Path.{_≡_, sym, ap, _∙_}
-use mathlib.Core.Bool.{true, false}
-use mathlib.Core.Option.{none, some}
-use mathlib.Core.List.{List}
-use native.Mathlib.Omega.{arith}
-use lib.ListN.{length, take}
-use lib.Seq.{take-all}
-use Rattle.rings.specs.Counts.{countedNecklace}
-use Rattle.rings.specs.Steps.{firstOf, nextOf}
-use Rattle.refusal.specs.Order.{Passed}
-use Rattle.refusal.specs.Calls.{countedFirst, countedNext}
+use Rattle.words.proofs.Plain.{ℕ, _<_, arith, _≡_, sym, ap, _∙_, true, false, none, some, List, length, take, take-all}
+use Rattle.rings.specs.{Counts.countedNecklace, Steps.firstOf, Steps.nextOf}
+use Rattle.refusal.specs.{Order.Passed, Calls.countedFirst, Calls.countedNext}
 use Rattle.words.specs.Sum.{sumOf}
 use Rattle.shades_laws.proofs.Letters.{letters}
 use Rattle.shades_fill_inner.specs.Fillable.{Fillable}
 use Rattle.shades_cap_inner.specs.Capped.{CountedTo, Cappable, Capped}
 use Rattle.shades_cap_inner.proofs.Capping.{counted-long, sum-counted, some-counted, capped-reading, capped-next}
-use Rattle.shades_next_inner.specs.declared.Sought.{Sought}
+use Rattle.shades_next_inner.specs.{declared.Sought.Sought, Above.Finds}
 use Rattle.shades_raise_inner.specs.Ready.{Ready}
-use Rattle.shades_next_inner.specs.Above.{Finds}
 use Rattle.shades.proofs.Least.{first-letters}
 
 module _ (n k : ℕ) (cs : List ℕ) (passed : Passed (countedFirst n k cs)) where

@@ -2,27 +2,14 @@
 --     sorted-least       a sorted word is not greater than any word with the same letters
 --     sorted-necklace    so it is a necklace
 --     first-letters      so the letters of the counts in increasing order are the first ring
-use Prim.Native.Nat.{ℕ, suc, _<_, _≤_}
-use mathlib.Core.Path.{_≡_, refl, sym, ap, _∙_}
-use mathlib.Core.Bool.{true, false}
-use mathlib.Core.Option.{some}
-use mathlib.Core.List.{List, [], _∷_}
-use native.Mathlib.Omega.{arith}
-use lib.ListN.{length, getD, take, drop, List·getD-eq-default, take-append-drop}
-use Rattle.words.specs.Order.{before, upTo}
-use Rattle.words.specs.Turn.{turn}
-use Rattle.words.specs.Readings.{Reading}
+use Rattle.words.proofs.Plain.{ℕ, suc, _<_, _≤_, arith, _≡_, refl, sym, ap, _∙_, true, false, some, List, [], _∷_, length, getD, take, drop}
+use Rattle.words.proofs.{Plain.List·getD-eq-default, Plain.take-append-drop, Search.all-of, Sequence.sec, Readings.first-is}
+use Rattle.words.specs.{Order.before, Order.upTo, Turn.turn, Readings.Reading, Sum.sumOf}
 use Rattle.words.proofs.Split.{lt, eq, gt, tri, both}
-use Rattle.words.proofs.Search.{all-of}
-use Rattle.words.proofs.Sequence.{sec}
 use Rattle.words.proofs.Lex.{before-eq, before-gt, before-irrefl, not-before}
-use Rattle.words.proofs.Readings.{first-is}
-use Rattle.rings.specs.Necklace.{necklace, notAboveTurn}
+use Rattle.rings.specs.{Necklace.necklace, Necklace.notAboveTurn, Steps.firstOf}
 use Rattle.rings.specs.Counts.{occurs, hasCounts, countedNecklace}
-use Rattle.rings.specs.Steps.{firstOf}
-use Rattle.words.specs.Sum.{sumOf}
-use Rattle.shades_laws.proofs.Pool.{Sorted}
-use Rattle.shades_laws.proofs.Copies.{occurs-append}
+use Rattle.shades_laws.proofs.{Pool.Sorted, Copies.occurs-append}
 use Rattle.shades_laws.proofs.Letters.{letters, occurs-letters, sorted-letters, length-letters}
 use Rattle.shades_tally_inner.proofs.Tallying.{occurs-none, occurs-here, occurs-other, occurs-at, counts-end}
 use Rattle.shades_raise_inner.specs.Places.{CountedRing}

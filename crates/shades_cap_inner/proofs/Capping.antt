@@ -6,24 +6,14 @@
 --     sum-counted       the counts up to it have the sum of all
 --     ring-fewer, ring-more    the rings of the counts up to it are the rings of the counts
 --     capped-next       so the next ring is the same
-use Prim.Native.Nat.{ℕ, _<_, _≤_}
-use mathlib.Core.Path.{_≡_, refl, sym, _∙_}
-use mathlib.Core.Bool.{Bool, true}
-use mathlib.Core.Option.{Option, none, some}
-use mathlib.Core.List.{List, []}
-use native.Mathlib.Omega.{arith}
-use lib.ListN.{length, getD, take, List·getD-eq-default}
-use lib.Seq.{length-take-le, getD-take}
-use Rattle.words.specs.Order.{before}
+use Rattle.words.proofs.Plain.{ℕ, _<_, _≤_, arith, _≡_, refl, sym, _∙_, Bool, true, Option, none, some, List, [], length, getD, take, List·getD-eq-default}
+use Rattle.words.proofs.{Plain.length-take-le, Plain.getD-take, Sequence.sec, Sequence.Less, Lex.before-less, Lex.less-before}
+use Rattle.words.specs.{Order.before, Sum.sumOf}
 use Rattle.words.specs.Readings.{Reading, first, readings}
-use Rattle.words.specs.Sum.{sumOf}
 use Rattle.words.proofs.Split.{lt, eq, gt, tri, both, both-left, both-right, refuted, clash, agree}
-use Rattle.words.proofs.Sequence.{sec, Less}
-use Rattle.words.proofs.Lex.{before-less, less-before}
 use Rattle.words.proofs.Readings.{first-some, first-is, nothing-first, first-nothing}
-use Rattle.rings.specs.Necklace.{necklace}
+use Rattle.rings.specs.{Necklace.necklace, Steps.aboveOf, Steps.nextOf}
 use Rattle.rings.specs.Counts.{occurs, hasCounts, countedNecklace}
-use Rattle.rings.specs.Steps.{aboveOf, nextOf}
 use Rattle.shades_tally_inner.proofs.Tallying.{counts-at, counts-end, occurs-at, occurs-past}
 use Rattle.shades_tally_inner.proofs.Leaving.{sum-le}
 use Rattle.shades_cap_inner.specs.Capped.{CountedTo, Capped}

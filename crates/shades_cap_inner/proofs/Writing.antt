@@ -3,12 +3,8 @@
 --     count-down             one shade more has none
 --     Filled s k at out i    out has the sectors of s before `at`, and k - 1 from there up to i
 --     fill-start, fill-more, fill-end    sector after sector
-use Prim.Native.Nat.{ℕ, _+_, _-_, _<_, _≤_}
-use mathlib.Core.Path.{_≡_, _∙_}
-use mathlib.Core.List.{List, _++_}
-use native.Mathlib.Omega.{arith}
-use lib.ListN.{length, getD, take, drop, set, replicate, length-set, length-append, length-replicate, List·getD-append}
-use lib.Seq.{length-take-le, getD-take, getD-set-same, getD-set-other}
+use Rattle.words.proofs.Plain.{ℕ, _+_, _-_, _<_, _≤_, arith, _≡_, _∙_, List, _++_, length, getD, take, drop, set, replicate, length-set, length-append}
+use Rattle.words.proofs.Plain.{length-replicate, List·getD-append, length-take-le, getD-take, getD-set-same, getD-set-other}
 use Rattle.words.proofs.Split.{lt, eq, gt, tri}
 use Rattle.word_copy_laws.proofs.Copy.{laid}
 use Rattle.check_numbers_inner.specs.Scan.{Scanned}

@@ -5,25 +5,14 @@
 --     Testing al rem first q a f e num pre next              the arrays hold the groups of a pool for al and the letters that rem counts
 --     test-start, test-stuck, test-dropped, test-pushed, test-chained, test-under, test-over, test-on, test-longer      the loop
 --     Bounds, test-bounds                                    what its numbers are bounded by
-use Prim.Native.Nat.{ℕ, zero, suc, _+_, _-_, _<_, _≤_}
-use mathlib.Core.Path.{_≡_, refl, sym, ap, _∙_, subst}
-use mathlib.Core.Bool.{Bool, true, false, true≢false}
-use mathlib.Core.List.{List, [], _∷_, _++_}
-use native.Mathlib.Omega.{arith}
-use native.Mathlib.Numerals.{add-one}
-use lib.ListN.{length, getD, take, drop, set, replicate, length-set, length-replicate, length-drop, take-append-drop}
-use lib.Seq.{getD-set-same, getD-set-other, length-take-le, take-suc}
-use lib.Dec.{eqb}
-use borrow.Author.Tests.{eq-eqb, ne-eqb}
-use Rattle.words.specs.Order.{before}
-use Rattle.words.specs.Sum.{sumOf}
+use Rattle.words.proofs.Plain.{ℕ, zero, suc, _+_, _-_, _<_, _≤_, add-one, arith, _≡_, refl, sym, ap, _∙_, subst, Bool, true, false, true≢false, List, [], _∷_}
+use Rattle.words.proofs.Plain.{_++_, eqb, length, getD, take, drop, set, replicate, length-set, length-replicate, length-drop, take-append-drop, getD-set-same}
+use Rattle.words.proofs.Plain.{getD-set-other, length-take-le, take-suc, eq-eqb, ne-eqb}
+use Rattle.words.specs.{Order.before, Sum.sumOf}
 use Rattle.words.proofs.Split.{lt, eq, gt, tri}
-use Rattle.words.proofs.Sequence.{sec}
-use Rattle.words.proofs.Lex.{before-gt, before-irrefl}
-use Rattle.rings.specs.Necklace.{necklace, lyndon}
-use Rattle.rings.specs.Counts.{occurs}
-use Rattle.ring_laws.proofs.Run.{Lyn}
-use Rattle.ring_laws.proofs.Lyndon.{of-lyndon, lyndon-pos}
+use Rattle.words.proofs.{Sequence.sec, Lex.before-gt, Lex.before-irrefl}
+use Rattle.rings.specs.{Necklace.necklace, Necklace.lyndon, Counts.occurs}
+use Rattle.ring_laws.proofs.{Run.Lyn, Lyndon.of-lyndon, Lyndon.lyndon-pos}
 use Rattle.shades_laws.proofs.Under.{_≪_, here, Short, opening, before-place}
 use Rattle.shades_laws.proofs.Made.{Completed, made-none}
 use Rattle.shades_laws.proofs.Letters.{letters, occurs-letters, length-letters}

@@ -1,13 +1,8 @@
 -- Writing the letters of given counts, in increasing order, into an array.
 --     Putting w₀ i e x w j    from place i up to place j the letter x is written, up to e it shall be
 --     Filling w₀ cs w l b     the letters of the first b counts are written; they are l
-use Prim.Native.Nat.{ℕ, suc, _+_, _-_, _<_, _≤_}
-use mathlib.Core.Path.{_≡_, refl, sym, ap, _∙_}
-use mathlib.Core.List.{List, [], _∷_, _++_, append-assoc, append-nil}
-use native.Mathlib.Omega.{arith}
-use native.Mathlib.Numerals.{add-one}
-use lib.ListN.{length, getD, take, set, replicate, length-set, replicate-append-replicate}
-use lib.Seq.{take-suc-set, take-all}
+use Rattle.words.proofs.Plain.{ℕ, suc, _+_, _-_, _<_, _≤_, add-one, arith, _≡_, refl, sym, ap, _∙_, List, [], _∷_, _++_, append-assoc, append-nil, length, getD}
+use Rattle.words.proofs.Plain.{take, set, replicate, length-set, replicate-append-replicate, take-suc-set, take-all}
 use Rattle.shades_laws.proofs.Sums.{sum-take-suc, sum-take-le}
 use Rattle.words.specs.Sum.{sumOf}
 use Rattle.shades_laws.proofs.Letters.{letters, letters-suc, lettersFrom}
@@ -30,8 +25,7 @@ put-more w₀ i e x w j room p h = record {
   from = omega (arith, p .from);
   to = omega arith;
   done =
-      rw (add-one j)
-      (take-suc-set w j x (omega (arith, p .long))
+      rw (add-one j) (take-suc-set w j x (omega (arith, p .long))
       ∙ ap (λ u. u ++ x ∷ []) (p .done)
       ∙ append-assoc (take i w₀) (replicate (j - i) x) (x ∷ [])
       ∙ ap (λ u. take i w₀ ++ u) (replicate-append-replicate (j - i) 1 x)

@@ -2,21 +2,13 @@
 --     read al xs          the words of xs one behind the other, and then al
 --     Clear al t xs       no ending of xs, read on into al, lies under t
 -- In order: what keeps a list clear; a last word that is too small; the letters that complete al to a necklace stand clear.
-use Prim.Native.Nat.{ℕ, _+_, _-_, _<_}
-use mathlib.Core.Path.{_≡_, refl, sym, ap, _∙_, subst}
-use mathlib.Core.Bool.{true, false}
-use mathlib.Core.List.{List, [], _∷_, _++_, append-assoc, append-nil}
-use native.Mathlib.Omega.{arith}
-use lib.ListN.{length, getD, take, drop, length-append}
-use lib.Seq.{getD-append-add, drop-append-seam, take-append-seam}
-use Rattle.words.specs.Order.{before, upTo}
-use Rattle.words.specs.Turn.{turn}
-use Rattle.words.proofs.Search.{all-at}
+use Rattle.words.proofs.Plain.{ℕ, _+_, _-_, _<_, arith, _≡_, refl, sym, ap, _∙_, subst, true, false, List, [], _∷_, _++_, append-assoc, append-nil, length}
+use Rattle.words.proofs.Plain.{getD, take, drop, length-append, getD-append-add, drop-append-seam, take-append-seam, not-true}
+use Rattle.words.specs.{Order.before, Order.upTo, Turn.turn}
+use Rattle.words.proofs.{Search.all-at, Split.clash}
 use Rattle.words.proofs.Sequence.{sec, from, recast}
-use Rattle.words.proofs.Split.{clash}
 use Rattle.rings.specs.Necklace.{necklace, notAboveTurn}
 use Rattle.ring_laws.proofs.Run.{Lyn}
-use borrow.Author.Tests.{not-true}
 use Rattle.shades_laws.proofs.Under.{_≪_, _≼_, Short, lower, opening, under-trans, under-longer, under-extended, under-behind, upto-behind, upto-under, under-before, less-under}
 use Rattle.words.proofs.Readings.{All, nothing, also}
 use Rattle.shades_laws.proofs.Copies.{singles}

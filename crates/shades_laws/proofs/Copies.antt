@@ -4,18 +4,12 @@
 --     Found y xs             the list cut at a copy of y
 -- A rearrangement is told by counting, so that taking a word out on both sides is arithmetic.
 -- In order: more laws of All; copies; rearrangements; the single letters of a word.
-use Prim.Native.Nat.{ℕ, zero, suc, _+_, _<_}
-use mathlib.Core.Path.{_≡_, refl, sym, ap, _∙_, subst}
-use mathlib.Core.List.{List, [], _∷_, _++_}
-use native.Mathlib.Omega.{arith}
-use lib.ListN.{replicate}
-use lib.Dec.{eqb}
+use Rattle.words.proofs.Plain.{ℕ, zero, suc, _+_, _<_, arith, _≡_, refl, sym, ap, _∙_, subst, List, [], _∷_, _++_, eqb, replicate}
 use Rattle.words.specs.Order.{same}
 use Rattle.words.specs.Readings.{bit, total, count}
 use Rattle.words.proofs.Split.{passes, fails, test}
-use Rattle.words.proofs.Lex.{same-refl, same-true}
+use Rattle.words.proofs.{Lex.same-refl, Lex.same-true, Count.total-append}
 use Rattle.words.proofs.Readings.{All, nothing, also}
-use Rattle.words.proofs.Count.{total-append}
 use Rattle.rings.specs.Counts.{occurs}
 
 -- what holds of each word holds of each but the first

@@ -4,11 +4,7 @@
 --     Stands s g y        y is a copy of s, or above s and at most g
 --     Exchanged ..        a clear list that has s ++ g in place of one s and one g
 -- In order: the words above s; the last copy of s in a list; the three ways to join; the exchange.
-use Prim.Native.Nat.{ℕ, _+_, _<_}
-use mathlib.Core.Path.{_≡_, refl, sym, ap, _∙_, subst}
-use mathlib.Core.List.{List, [], _∷_, _++_, append-assoc}
-use native.Mathlib.Omega.{arith}
-use lib.ListN.{length, length-append}
+use Rattle.words.proofs.Plain.{ℕ, _+_, _<_, arith, _≡_, refl, sym, ap, _∙_, subst, List, [], _∷_, _++_, append-assoc, length, length-append}
 use Rattle.shades_laws.proofs.Under.{_≪_, _≼_, is, under, under-trans, under-irrefl, under-longer, under-extended, under-behind, under-upto}
 use Rattle.words.proofs.Readings.{All, nothing, also, all-left, all-right, all-append, all-weaken}
 use Rattle.shades_laws.proofs.Copies.{each-rest, each-at, copies, copies-cons, copies-append, Found, found}

@@ -6,19 +6,13 @@
 -- In order: the groups as a list; joining many copies at once (`joins`); the steps: an empty last group goes (`group-dropped`), the last group takes a copy of s for each of its
 -- words (`group-pushed`), each copy of s takes a word of the last group (`group-taken`); where it ends (`group-stuck`, `group-low`, `group-yes`); the letters of counts
 -- as groups (`group-start`).
-use Prim.Native.Nat.{ℕ, zero, suc, _+_, _-_, _<_, _≤_}
-use mathlib.Core.Path.{_≡_, refl, sym, ap, _∙_, subst}
-use mathlib.Core.Bool.{true, false}
-use mathlib.Core.List.{List, [], _∷_, _++_, append-assoc, append-nil}
-use native.Mathlib.Omega.{arith}
-use lib.ListN.{length, getD, replicate, length-append, length-replicate}
-use Rattle.words.specs.Order.{before}
-use Rattle.words.specs.Sum.{sumOf}
+use Rattle.words.proofs.Plain.{ℕ, zero, suc, _+_, _-_, _<_, _≤_, arith, _≡_, refl, sym, ap, _∙_, subst, true, false, List, [], _∷_, _++_, append-assoc}
+use Rattle.words.proofs.Plain.{append-nil, length, getD, replicate, length-append, length-replicate}
+use Rattle.words.specs.{Order.before, Sum.sumOf}
 use Rattle.words.proofs.Split.{lt, eq, gt, tri}
 use Rattle.words.proofs.Sequence.{sec}
 use Rattle.words.proofs.Readings.{All, nothing, also, all-weaken, all-append}
-use Rattle.rings.specs.Necklace.{necklace}
-use Rattle.rings.specs.Counts.{occurs}
+use Rattle.rings.specs.{Necklace.necklace, Counts.occurs}
 use Rattle.ring_laws.proofs.Run.{Lyn}
 use Rattle.shades_laws.proofs.Under.{_≪_, _≼_, here, is, under, under-trans, under-longer, under-extended, under-behind, Short, before-short}
 use Rattle.shades_laws.proofs.Copies.{each-replicate, copies, copies-first, found, singles}
@@ -49,8 +43,7 @@ spread-same : (w w′ : ℕ → List ℕ) (m m′ : ℕ → ℕ) (f c : ℕ) →
 unfolding spread
 spread-same w w′ m m′ f zero p q = refl
 spread-same w w′ m m′ f (suc c) p q =
-    rw (p f (omega arith) (omega arith), q f (omega arith) (omega arith))
-    (ap (λ x. replicate (m′ f) (w′ f) ++ x)
+    rw (p f (omega arith) (omega arith), q f (omega arith) (omega arith)) (ap (λ x. replicate (m′ f) (w′ f) ++ x)
     (spread-same w w′ m m′ (suc f) c (λ i h k. p i (omega arith) (omega arith)) (λ i h k. q i (omega arith) (omega arith))))
 
 -- what holds of each group's word
@@ -239,8 +232,7 @@ module _ {al u s : List ℕ} {q : ℕ} {w : ℕ → List ℕ} {m : ℕ → ℕ} 
     where
       becomes : spread w′ m′ f (suc c) ≡ replicate (m g) (s ++ w g) ++ spread w m (suc f) c
       becomes =
-          rw (front, number)
-          (ap (λ x. replicate (m g) (s ++ w g) ++ x)
+          rw (front, number) (ap (λ x. replicate (m g) (s ++ w g) ++ x)
           (spread-same w′ w m′ m (suc f) c (λ i a b. words-same i (omega arith) (omega arith)) (λ i a b. numbers-same i (omega arith) (omega arith))))
 
       -- the word in front lies under each of the others
@@ -352,17 +344,14 @@ group-start al cs o b w m lyn h none z room words numbers = record {
   beyond = λ g j e p q. past (subst (λ x. x ≪ w j) (words b h) (letter-under (o + b) j (omega arith) (omega arith) (omega arith)));
   few = omega (arith, sym (ap length whole), length-append (replicate (getD cs b 0) (b ∷ [])) rest, length-replicate (getD cs b 0) (b ∷ []), length-singles (letters cs), length-letters 0 cs);
   pool =
-      subst (Pool al (letters cs)) whole
-      (pool-start al (letters cs) lyn
-      (omega (
+      subst (Pool al (letters cs)) whole (pool-start al (letters cs) lyn (omega (
         arith,
         length-letters 0 cs,
         ap length whole,
         length-append (replicate (getD cs b 0) (b ∷ [])) rest,
         length-replicate (getD cs b 0) (b ∷ []),
         length-singles (letters cs),
-      ))
-      (sorted-letters 0 cs));
+      )) (sorted-letters 0 cs));
 }
   where
     rest : List (List ℕ)

@@ -1,16 +1,11 @@
 -- The letters of given counts in increasing order: what a pool starts from.
 --     lettersFrom, letters    specs/Letters, passed on
 -- In order: how many there are, how often each stands there, and that they do not fall.
-use Prim.Native.Nat.{ℕ, zero, suc, _+_, _<_, _≤_}
-use mathlib.Core.Path.{_≡_, refl, sym, ap, _∙_}
-use mathlib.Core.List.{List, [], _∷_, _++_, append-assoc, append-nil}
-use native.Mathlib.Omega.{arith}
-use lib.ListN.{length, getD, take, replicate, length-append, length-replicate}
-use borrow.Author.Tests.{eq-eqb, ne-eqb}
+use Rattle.words.proofs.Plain.{ℕ, zero, suc, _+_, _<_, _≤_, arith, _≡_, refl, sym, ap, _∙_, List, [], _∷_, _++_, append-assoc, append-nil, length, getD, take}
+use Rattle.words.proofs.Plain.{replicate, length-append, length-replicate, eq-eqb, ne-eqb}
 use Rattle.words.proofs.Sequence.{sec}
 use Rattle.rings.specs.Counts.{occurs}
-use Rattle.shades_laws.proofs.Copies.{occurs-append}
-use Rattle.shades_laws.proofs.Pool.{Sorted}
+use Rattle.shades_laws.proofs.{Copies.occurs-append, Pool.Sorted}
 use Rattle.words.specs.Sum.{sumOf}
 unfoldable pub use Rattle.shades_laws.specs.Letters.{lettersFrom}
 pub use Rattle.shades_laws.specs.Letters.{letters}

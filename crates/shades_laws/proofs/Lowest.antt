@@ -2,12 +2,8 @@
 --     Ends t e       t lies under each ending of e that is not empty
 --     Lowest w       w is not empty, and lies under each of its proper endings
 -- In order: endings; joining (`lowest-join`); the bridge to `Lyn` of `ring_laws`, Run (`lowest-of`, `lowest-lyn`).
-use Prim.Native.Nat.{ℕ, zero, suc, _+_, _-_, _<_}
-use mathlib.Core.Path.{_≡_, refl, sym, ap, _∙_, subst}
-use mathlib.Core.List.{List, [], _∷_, _++_, append-assoc}
-use native.Mathlib.Omega.{arith}
-use lib.ListN.{length, getD, take, drop, length-append, length-drop, take-append-drop}
-use lib.Seq.{getD-append-add, getD-drop, length-take-le}
+use Rattle.words.proofs.Plain.{ℕ, zero, suc, _+_, _-_, _<_, arith, _≡_, refl, sym, ap, _∙_, subst, List, [], _∷_, _++_, append-assoc, length, getD, take, drop}
+use Rattle.words.proofs.Plain.{length-append, length-drop, take-append-drop, getD-append-add, getD-drop, length-take-le}
 use Rattle.words.proofs.Sequence.{sec, from, Less, recast}
 use Rattle.ring_laws.proofs.Run.{Lyn}
 use Rattle.shades_laws.proofs.Under.{_≪_, here, later, Short, lower, opening, under-trans, under-longer, under-extended, under-behind, less-under}

@@ -3,22 +3,15 @@
 --     Made w xs           each word of the list is lowest, and together they have the letters of w
 --     Completed al w      a word with the letters of w that completes al to a necklace
 -- In order: words that climb from al; how the words are made (`made-start`, `made-join`); the necklace (`made-whole`, `made-none`).
-use Prim.Native.Nat.{ℕ, zero, suc, _+_, _<_}
-use mathlib.Core.Path.{_≡_, refl, sym, ap, _∙_, subst}
-use mathlib.Core.Bool.{true, false}
-use mathlib.Core.List.{List, [], _∷_, _++_, append-nil}
-use native.Mathlib.Omega.{arith}
-use lib.ListN.{length, replicate, length-append, List·getD-append}
+use Rattle.words.proofs.Plain.{ℕ, zero, suc, _+_, _<_, arith, _≡_, refl, sym, ap, _∙_, subst, true, false, List, [], _∷_, _++_, append-nil, length, replicate}
+use Rattle.words.proofs.{Plain.length-append, Plain.List·getD-append, Sequence.sec}
 use Rattle.words.specs.Order.{before, upTo}
-use Rattle.words.proofs.Sequence.{sec}
 use Rattle.words.proofs.Lex.{upTo-refl, before-upTo, not-before}
 use Rattle.words.proofs.Readings.{All, nothing, also, all-weaken, all-append, all-left, all-right}
-use Rattle.rings.specs.Necklace.{necklace}
-use Rattle.rings.specs.Counts.{occurs}
+use Rattle.rings.specs.{Necklace.necklace, Counts.occurs}
 use Rattle.ring_laws.proofs.Run.{Lyn}
 use Rattle.shades_laws.proofs.Under.{_≼_, is, under, under-before, before-place, Short, lower, opening}
-use Rattle.shades_laws.proofs.Copies.{singles, occurs-append}
-use Rattle.shades_laws.proofs.Clear.{read, read-singles}
+use Rattle.shades_laws.proofs.{Copies.singles, Copies.occurs-append, Clear.read, Clear.read-singles}
 use Rattle.shades_laws.proofs.Exchange.{Over, higher, longer}
 use Rattle.shades_laws.proofs.Shape.{Rising, flat, step, Shape}
 use Rattle.shades_laws.proofs.Lowest.{Lowest, lowest-letter, lowest-join, lowest-of}
@@ -60,8 +53,7 @@ shape-climbs x s xs p k h = subst (Climbs x) (sym (p .whole)) (go (subst (All Lo
   where
     go : All Lowest (s ∷ (replicate (p .extra) s ++ p .rest)) → Climbs x (s ∷ (replicate (p .extra) s ++ p .rest))
     go (also l ls) =
-        up h l
-        (copies-climb (p .extra) s l
+        up h l (copies-climb (p .extra) s l
         (rising-climbs s (all-weaken (λ y o. before-upTo s y (short-before (over-short o))) (p .above))
         (all-right (replicate (p .extra) s) (p .rest) ls) (p .rising)))
 

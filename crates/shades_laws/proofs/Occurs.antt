@@ -2,12 +2,7 @@
 --     occurs-none                 not at all in no sectors
 --     occurs-here, occurs-other   once more where it stands at the front, and as often where another stands there
 --     occurs-past                 not at all where it is past the greatest
-use Prim.Native.Nat.{ℕ, suc, _<_, _≤_}
-use mathlib.Core.Path.{_≡_, refl, _∙_}
-use mathlib.Core.List.{List, [], _∷_}
-use native.Mathlib.Omega.{arith}
-use lib.ListN.{length}
-use borrow.Author.Tests.{eq-eqb, ne-eqb}
+use Rattle.words.proofs.Plain.{ℕ, suc, _<_, _≤_, arith, _≡_, refl, _∙_, List, [], _∷_, length, eq-eqb, ne-eqb}
 use Rattle.words.proofs.Sequence.{sec}
 use Rattle.rings.specs.Counts.{occurs}
 

@@ -5,21 +5,14 @@
 --     Arranged al v xs    a rearrangement of the pool that stands clear of al ++ v
 --     Pool al w xs        what holds of the pool at each step: its order, and that each necklace that begins with al and ends with the letters of w leaves an arrangement
 -- The laws that a loop needs: `pool-start`, `join-pool`, `pool-stuck`, `pool-yes`; told by groups of equal words in Groups.
-use Prim.Native.Nat.{ℕ, zero, suc, _+_, _-_, _<_, _≤_}
-use mathlib.Core.Path.{_≡_, refl, sym, ap, _∙_, subst}
-use mathlib.Core.Bool.{true, false}
-use mathlib.Core.List.{List, [], _∷_, _++_, append-assoc}
-use native.Mathlib.Omega.{arith}
-use lib.ListN.{length, getD, set, take, replicate, length-append, length-replicate, getD-replicate, List·getD-append}
-use lib.Seq.{getD-at, take-append-seam, getD-append-seam, set-append-seam}
+use Rattle.words.proofs.Plain.{ℕ, zero, suc, _+_, _-_, _<_, _≤_, arith, _≡_, refl, sym, ap, _∙_, subst, true, false, List, [], _∷_, _++_, append-assoc, length}
+use Rattle.words.proofs.Plain.{getD, set, take, replicate, length-append, length-replicate, getD-replicate, List·getD-append, getD-at, take-append-seam}
+use Rattle.words.proofs.{Plain.getD-append-seam, Plain.set-append-seam, Sequence.sec, Lex.same-refl}
 use Rattle.words.specs.Order.{before}
 use Rattle.words.proofs.Split.{lt, eq, gt, tri}
-use Rattle.words.proofs.Sequence.{sec}
-use Rattle.rings.specs.Necklace.{necklace}
-use Rattle.rings.specs.Counts.{occurs}
+use Rattle.rings.specs.{Necklace.necklace, Counts.occurs}
 use Rattle.ring_laws.proofs.Run.{Lyn}
 use Rattle.shades_laws.proofs.Under.{_≪_, _≼_, here, is, under, upto-trans, Short, before-short}
-use Rattle.words.proofs.Lex.{same-refl}
 use Rattle.words.proofs.Readings.{All, nothing, also, all-weaken, all-append}
 use Rattle.shades_laws.proofs.Copies.{each-replicate, each-rearranged, copies, copies-none, copies-cons, copies-append, copies-first, Rearranged, singles, singles-rearranged}
 use Rattle.shades_laws.proofs.Clear.{read, Clear, over, onto, short-last, letters-clear}

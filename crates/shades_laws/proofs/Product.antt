@@ -3,21 +3,15 @@
 --     Powered w       w is some lowest word, once or more
 --     Climbs x xs     x and the words of xs do not fall, and each of xs is lowest
 -- In order: powers (`again-lowest`: u once or more in front of a greater lowest word); the product (`product`); a power of a lowest word is a necklace.
-use Prim.Native.Nat.{ℕ, zero, suc, _+_, _*_}
-use mathlib.Core.Path.{_≡_, refl, sym, ap, _∙_, subst}
-use mathlib.Core.Bool.{true}
-use mathlib.Core.List.{List, [], _∷_, _++_, append-assoc, append-nil}
-use native.Mathlib.Omega.{arith}
+use Rattle.words.proofs.Plain.{ℕ, zero, suc, _+_, _*_, arith, _≡_, refl, sym, ap, _∙_, subst, true, List, [], _∷_, _++_, append-assoc, append-nil, length, getD}
+use Rattle.words.proofs.Plain.{length-append, List·getD-append, getD-append-add}
 use native.Mathlib.Nat.{mul-mod-left, suc-mul}
-use lib.ListN.{length, getD, length-append, List·getD-append}
-use lib.Seq.{getD-append-add}
 use Rattle.words.specs.Order.{before, upTo}
 use Rattle.words.proofs.Split.{passes, fails, test}
 use Rattle.words.proofs.Sequence.{sec, place}
 use Rattle.words.proofs.Lex.{upTo-refl, before-upTo, upTo-split, upTo-trans}
 use Rattle.rings.specs.Necklace.{necklace}
-use Rattle.ring_laws.proofs.Run.{Run, lyn-through}
-use Rattle.ring_laws.proofs.Lyndon.{run-necklace}
+use Rattle.ring_laws.proofs.{Run.Run, Run.lyn-through, Lyndon.run-necklace}
 use Rattle.shades_laws.proofs.Under.{Short, opening, before-short, under-before}
 use Rattle.shades_laws.proofs.Clear.{read}
 use Rattle.shades_laws.proofs.Lowest.{Lowest, lowest-long, join-under, lowest-join, lowest-lyn}
@@ -126,8 +120,7 @@ power-run q u k = record {
 -- a power of a lowest word is a necklace
 pub powered-necklace : (w : List ℕ) → Powered w → necklace w ≡ true
 powered-necklace w p =
-    rw (p .whole)
-    (run-necklace (again (suc (p .times)) (p .base) []) (length (p .base)) (power-run (p .times) (p .base) (p .low))
+    rw (p .whole) (run-necklace (again (suc (p .times)) (p .base) []) (length (p .base)) (power-run (p .times) (p .base) (p .low))
     (rw (again-long (suc (p .times)) (p .base)) (mul-mod-left (suc (p .times)) (length (p .base)))))
 
 -- a lowest word and lowest words that climb from it are a necklace

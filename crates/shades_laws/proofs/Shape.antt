@@ -6,11 +6,7 @@
 --     Shape s xs          the order of a pool whose least word is s
 --     Ladder s g xs       the same of a pool that is more than copies of s: g is its last word, xs the words between
 -- In order: rising lists; the last word; the shape, how it arises (`settle`) and how joining s with g keeps it (`shape-first`, `shape-later`).
-use Prim.Native.Nat.{ℕ, suc, _<_}
-use mathlib.Core.Path.{_≡_, refl, sym, ap, _∙_, subst}
-use mathlib.Core.List.{List, [], _∷_, _++_}
-use native.Mathlib.Omega.{arith}
-use lib.ListN.{length, length-append, replicate}
+use Rattle.words.proofs.Plain.{ℕ, suc, _<_, arith, _≡_, refl, sym, ap, _∙_, subst, List, [], _∷_, _++_, length, length-append, replicate}
 use Rattle.shades_laws.proofs.Under.{_≪_, _≼_, here, later, is, under, under-longer, under-behind, under-upto, upto-behind, upto-trans}
 use Rattle.words.proofs.Readings.{All, nothing, also, all-left, all-right, all-weaken, all-append}
 use Rattle.shades_laws.proofs.Copies.{each-zip, each-replicate}

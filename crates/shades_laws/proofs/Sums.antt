@@ -1,10 +1,6 @@
 -- Sums of the first counts of a list.
-use Prim.Native.Nat.{ℕ, zero, suc, _+_, _-_, _<_, _≤_}
-use mathlib.Core.Path.{_≡_, refl, sym, ap, _∙_}
-use mathlib.Core.List.{List, [], _∷_, _++_}
-use native.Mathlib.Omega.{arith}
-use lib.ListN.{length, getD, take, drop}
-use lib.Seq.{take-suc, take-add}
+use Rattle.words.proofs.Plain.{ℕ, zero, suc, _+_, _-_, _<_, _≤_, arith, _≡_, refl, sym, ap, _∙_, List, [], _∷_, _++_, length, getD, take, drop, take-suc}
+use Rattle.words.proofs.Plain.{take-add}
 use Rattle.words.specs.Sum.{sumOf}
 
 -- lengths one behind the other add up

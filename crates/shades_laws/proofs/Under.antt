@@ -3,14 +3,8 @@
 --     v ≪ w, v ≼ w    specs/Under, passed on
 --     Short v w       v lies under w, or w goes on where v ends: what `before` of `words` tests
 -- In order: the two relations and what may be put around them; their bridges to `before` and to the first difference of sequences.
-use Prim.Native.Nat.{ℕ, zero, suc, _<_, _≤_}
-use mathlib.Core.Path.{_≡_, refl, ap, _∙_}
-use mathlib.Core.Bool.{true, _&&_, false≢true}
-use mathlib.Core.List.{List, [], _∷_, _++_}
-use native.Mathlib.Omega.{arith}
-use lib.ListN.{length}
-use lib.Dec.{ltb, eqb}
-use borrow.Author.Tests.{ltb-true, eqb-true, lt-ltb, eq-eqb}
+use Rattle.words.proofs.Plain.{ℕ, zero, suc, _<_, _≤_, arith, _≡_, refl, ap, _∙_, true, _&&_, false≢true, List, [], _∷_, _++_, ltb, eqb, length, ltb-true}
+use Rattle.words.proofs.Plain.{eqb-true, lt-ltb, eq-eqb}
 use Rattle.words.specs.Order.{before}
 use Rattle.words.proofs.Split.{left, right, either, either-left, either-right, both, both-left, both-right}
 use Rattle.words.proofs.Sequence.{sec, Less}
@@ -109,8 +103,7 @@ before-place [] (b ∷ w) j p q h l = refl
 before-place (a ∷ v) [] j p q h l = absurd (omega arith)
 before-place (a ∷ v) (b ∷ w) zero p q h l = either-left (ltb a b) (eqb a b && before v w) (lt-ltb a b (l (omega arith)))
 before-place (a ∷ v) (b ∷ w) (suc j) p q h l =
-    either-right (ltb a b) (eqb a b && before v w)
-    (both (eqb a b) (before v w) (eq-eqb a b (h 0 (omega arith)))
+    either-right (ltb a b) (eqb a b && before v w) (both (eqb a b) (before v w) (eq-eqb a b (h 0 (omega arith)))
     (before-place v w j (omega arith) (omega arith) (λ m k. h (suc m) (omega arith)) (λ k. l (omega arith))))
 
 -- ---- the first difference of sequences

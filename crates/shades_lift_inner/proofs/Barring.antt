@@ -8,23 +8,13 @@
 --     raised-lyndon      raising a sector of a prenecklace and cutting behind it gives a Lyndon word
 --     left-start, left-more, left-end     the least shade that is left
 --     lift-none, lift-asks, lift-found, lift-not    the shades above that at a place
-use Prim.Native.Nat.{ℕ, zero, suc, _+_, _-_, _<_, _≤_}
-use mathlib.Core.Path.{_≡_, refl, sym, _∙_, subst}
-use mathlib.Core.Bool.{Bool, true, false, true≢false}
-use mathlib.Core.List.{List, [], _∷_, _++_, append-assoc}
-use native.Mathlib.Omega.{arith}
-use native.Mathlib.Numerals.{add-one}
-use lib.ListN.{length, getD, take, set, length-set, length-append, List·getD-append, List·getD-eq-default}
-use lib.Seq.{getD-set-same, getD-set-other, take-suc-set, length-take-le, getD-take, getD-at, set-out}
+use Rattle.words.proofs.Plain.{ℕ, zero, suc, _+_, _-_, _<_, _≤_, add-one, arith, _≡_, refl, sym, _∙_, subst, Bool, true, false, true≢false, List, [], _∷_, _++_}
+use Rattle.words.proofs.Plain.{append-assoc, length, getD, take, set, length-set, length-append, List·getD-append, List·getD-eq-default, getD-set-same}
+use Rattle.words.proofs.Plain.{getD-set-other, take-suc-set, length-take-le, getD-take, getD-at, set-out}
 use Rattle.words.proofs.Split.{lt, eq, gt, tri}
 use Rattle.words.proofs.Sequence.{sec}
-use Rattle.rings.specs.Necklace.{lyndon}
-use Rattle.rings.specs.Prenecklace.{prenecklace}
-use Rattle.rings.specs.Counts.{occurs}
-use Rattle.ring_laws.proofs.Run.{Lyn, pre-through}
-use Rattle.ring_laws.proofs.Raise.{raise-lyn}
-use Rattle.ring_laws.proofs.Words.{pre-of}
-use Rattle.ring_laws.proofs.Lyndon.{lyndon-of}
+use Rattle.rings.specs.{Necklace.lyndon, Prenecklace.prenecklace, Counts.occurs}
+use Rattle.ring_laws.proofs.{Run.Lyn, Run.pre-through, Raise.raise-lyn, Words.pre-of, Lyndon.lyndon-of}
 use Rattle.words.specs.Sum.{sumOf}
 use Rattle.shades_completable_inner.specs.Completion.{Completing, Hopeless, Hopeful, Decides}
 use Rattle.shades_lift_inner.specs.Lifts.{Barred, Fitting, Allows, Possible, LeftFrom, Liftable, LiftedTo}
@@ -91,8 +81,7 @@ first-tell k rem few past x = elim (tri x k) [ lt h ↦ getD-take k rem x 0 h | 
 pub allows-part : (u : List ℕ) (b k : ℕ) (rem : List ℕ) (r : Bool) → b < k → k ≤ length rem → ((x : ℕ) → k ≤ x → getD rem x 0 ≡ 0) →
     (getD rem b 0 ≡ 0 → ⊥) → Decides (u ++ b ∷ []) (take k (lessOne rem b)) r → Allows u b rem r
 allows-part u b k rem r l few past z d =
-    allows-pool u b rem r (omega arith) z
-    (record {
+    allows-pool u b rem r (omega arith) z (record {
       yes = λ q. let h = d .yes q in record { rest = h .rest; letters = λ x. h .letters x ∙ told x; whole = h .whole };
       no = λ q y v c n. d .no q y v (λ x. c x ∙ sym (told x)) n;
     })

@@ -4,14 +4,8 @@
 --     lower-necklace   the words
 --     lower-fitting    what fits with a shade fits with each lesser one that is left
 --     barred-above     what is barred to a shade that is left is barred to each greater one
-use Prim.Native.Nat.{ℕ, zero, suc, _+_, _-_, _<_, _≤_}
-use mathlib.Core.Path.{_≡_, refl, sym, ap, _∙_, subst}
-use mathlib.Core.Bool.{true}
-use mathlib.Core.List.{List, [], _∷_, _++_, append-assoc}
-use native.Mathlib.Omega.{arith}
-use lib.ListN.{length, getD, length-append, List·getD-append}
-use lib.Seq.{getD-at}
-use lib.Dec.{eqb}
+use Rattle.words.proofs.Plain.{ℕ, zero, suc, _+_, _-_, _<_, _≤_, arith, _≡_, refl, sym, ap, _∙_, subst, true, List, [], _∷_, _++_, append-assoc, eqb, length}
+use Rattle.words.proofs.Plain.{getD, length-append, List·getD-append, getD-at}
 use Rattle.words.specs.Turn.{turn}
 use Rattle.words.proofs.Split.{lt, eq, gt, tri, both-left}
 use Rattle.words.proofs.Sequence.{sec, from, Less, below, alike, above, place, widen, cmp}

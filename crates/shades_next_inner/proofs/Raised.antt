@@ -3,24 +3,16 @@
 --     raised-none                    none, where a reading is its own answer
 --     raised-more                    one more for each place that is raised, where it lies further right than those before
 --     raised-settled, raised-from    none by repeating the longest beginning that is a prenecklace, and from there on as many as from the reading
-use Prim.Native.Nat.{ℕ, zero, suc, _+_, _-_, _<_, _≤_}
-use mathlib.Core.Path.{_≡_, refl, sym, ap, _∙_, subst}
-use mathlib.Core.Bool.{Bool, true, false, _&&_, not}
-use mathlib.Core.List.{List, [], _∷_}
-use native.Mathlib.Omega.{arith}
-use lib.ListN.{length, take}
-use lib.Seq.{ext-getD, length-take-le, getD-take}
-use Rattle.words.specs.Order.{upTo, same}
-use Rattle.words.specs.Readings.{bit}
+use Rattle.words.proofs.Plain.{ℕ, zero, suc, _+_, _-_, _<_, _≤_, arith, _≡_, refl, sym, ap, _∙_, subst, Bool, true, false, _&&_, not, List, [], _∷_, length}
+use Rattle.words.proofs.Plain.{take, ext-getD, length-take-le, getD-take}
+use Rattle.words.specs.{Order.upTo, Order.same, Readings.bit}
 use Rattle.words.proofs.Split.{lt, eq, gt, tri, both, both-left, not-left, not-right, agree, clash}
 use Rattle.words.proofs.Sequence.{sec}
 use Rattle.words.proofs.Lex.{same-refl, same-false, upTo-not-less}
 use Rattle.word_list_spec.specs.Passing.{countBelow}
-use Rattle.rings.specs.Necklace.{lyndon}
-use Rattle.rings.specs.Open.{open-all}
+use Rattle.rings.specs.{Necklace.lyndon, Open.open-all}
 use Rattle.ring_laws.proofs.Run.{Lyn, Run, run-shorter, run-through, lyn-through}
-use Rattle.ring_laws.proofs.Lyndon.{lyndon-of}
-use Rattle.ring_laws.proofs.Classes.{not-lyndon}
+use Rattle.ring_laws.proofs.{Lyndon.lyndon-of, Classes.not-lyndon}
 use Rattle.shades_next_inner.specs.Raised.{newWord, raisedTo}
 
 -- ---- counting numbers below n
@@ -135,8 +127,7 @@ raised-more start ring t l p long long₀ low inside run keeps rises fresh repea
 
     here : newWord start t l ≡ true
     here =
-        new-word start t l inside (run .lyn)
-        (λ e. upTo-not-less start ring (long₀ ∙ sym long) low (record {
+        new-word start t l inside (run .lyn) (λ e. upTo-not-less start ring (long₀ ∙ sym long) low (record {
           at = l;
           bound = omega arith;
           agree = λ m h. sym (keeps m h) ∙ sym (take-same start t (suc l) e m (omega arith));
@@ -160,8 +151,7 @@ module _ (w t : List ℕ) (e p : ℕ) (long : length t ≡ length w) (run : Run 
   pub raised-settled : raisedTo w t ≡ 0
   unfolding raisedTo
   raised-settled =
-      count-none (length t) (newWord w t)
-      (λ i h. elim (tri i e) [
+      count-none (length t) (newWord w t) (λ i h. elim (tri i e) [
         | lt q ↦ known-word w t i (begins i q)
         | eq q ↦ repeated-word w t p i run (omega arith) h
         | gt q ↦ repeated-word w t p i run (omega arith) h
@@ -171,8 +161,7 @@ module _ (w t : List ℕ) (e p : ℕ) (long : length t ≡ length w) (run : Run 
   pub raised-from : (u : List ℕ) → length u ≡ length t → upTo t u ≡ true → sec w e < sec t e → raisedTo w u ≡ raisedTo t u
   unfolding raisedTo newWord
   raised-from u size low rises =
-      count-same (length u) (newWord w u) (newWord t u)
-      (λ i h. elim (tri i e) [
+      count-same (length u) (newWord w u) (newWord t u) (λ i h. elim (tri i e) [
         | lt q ↦ ap (λ (x : List ℕ). lyndon (take (suc i) u) && not (same x (take (suc i) u))) (begins i q)
         | eq q ↦ late i h (omega arith)
         | gt q ↦ late i h (omega arith)

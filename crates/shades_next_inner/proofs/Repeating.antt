@@ -1,13 +1,7 @@
 -- Beginnings that are prenecklaces, and repeating one.
 --     Copying p s₀ s m    the first m sectors of s repeat the first p of s₀
 --     repeat-start, repeat-more, repeat-end    the copying
-use Prim.Native.Nat.{ℕ, _+_, _-_, _<_, _≤_}
-use mathlib.Core.Path.{_≡_, refl, sym, _∙_}
-use mathlib.Core.List.{List}
-use native.Mathlib.Omega.{arith}
-use native.Mathlib.Numerals.{add-one}
-use lib.ListN.{length, set, length-set}
-use lib.Seq.{getD-set-same, getD-set-other}
+use Rattle.words.proofs.Plain.{ℕ, _+_, _-_, _<_, _≤_, add-one, arith, _≡_, refl, sym, _∙_, List, length, set, length-set, getD-set-same, getD-set-other}
 use Rattle.words.proofs.Sequence.{sec}
 use Rattle.ring_laws.proofs.Run.{Run, lyn-self, same, run-through}
 use Rattle.shades_next_inner.specs.Runs.{Repeatable, Repeats}

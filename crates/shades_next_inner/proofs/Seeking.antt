@@ -10,34 +10,20 @@
 --     answers-soon                              so whatever the answer, at most n places were raised
 --     above-opening, above-asks                 the reading is a prenecklace; what repeating asks where it is none
 --     above-size, above-run, above-found, above-on, above-answers    its longest beginning that is one is repeated: that is the ring, or the search goes on from there
-use Prim.Native.Nat.{ℕ, zero, suc, _+_, _-_, _<_, _≤_}
-use mathlib.Core.Path.{_≡_, refl, sym, ap, _∙_, subst}
-use mathlib.Core.Bool.{true, false, true≢false}
-use mathlib.Core.Option.{some}
-use mathlib.Core.List.{List, _++_}
-use native.Mathlib.Omega.{arith}
-use lib.ListN.{length, take, drop, set, length-set, length-append, length-drop, length-take}
-use lib.Seq.{take-at, length-take-le, getD-take, getD-set-same, getD-set-other}
+use Rattle.words.proofs.Plain.{ℕ, zero, suc, _+_, _-_, _<_, _≤_, arith, _≡_, refl, sym, ap, _∙_, subst, true, false, true≢false, some, List, _++_, length, take}
+use Rattle.words.proofs.Plain.{drop, set, length-set, length-append, length-drop, length-take, take-at, length-take-le, getD-take, getD-set-same}
+use Rattle.words.proofs.{Plain.getD-set-other, Sequence.sec}
 use Rattle.words.specs.Order.{before, upTo, same}
 use Rattle.words.proofs.Split.{lt, eq, gt, tri, clash, test, passes, fails}
-use Rattle.words.proofs.Sequence.{sec}
 use Rattle.words.proofs.Lex.{same-refl, same-false, before-less, before-irrefl, before-upTo, upTo-refl, upTo-before-trans}
-use Rattle.rings.specs.Prenecklace.{lyn}
-use Rattle.rings.specs.Counts.{countedNecklace}
-use Rattle.rings.specs.Steps.{nextOf}
+use Rattle.rings.specs.{Prenecklace.lyn, Counts.countedNecklace, Steps.nextOf}
 use Rattle.ring_laws.proofs.Run.{Pre, Run, pre-shorter, lyn-through}
-use Rattle.ring_laws.proofs.Raise.{raise-lyn}
-use Rattle.ring_laws.proofs.Words.{pre-of}
-use Rattle.ring_laws.proofs.Lyndon.{run-prenecklace, run-lyn}
-use Rattle.ring_laws.proofs.FullWalk.{next-facts}
-use Rattle.shades_next_inner.specs.declared.Sought.{Sought}
+use Rattle.ring_laws.proofs.{Raise.raise-lyn, Words.pre-of, Lyndon.run-prenecklace, Lyndon.run-lyn, FullWalk.next-facts}
+use Rattle.shades_next_inner.specs.{declared.Sought.Sought, Runs.Repeatable, Runs.Repeats, Above.Finds, Raised.raisedTo}
 use Rattle.classify_inner.specs.Beginning.{LongestPrenecklace}
-use Rattle.shades_next_inner.specs.Runs.{Repeatable, Repeats}
 use Rattle.shades_raise_inner.specs.Places.{CountedRing, Blocked, Begun, Headed, PlaceFound}
-use Rattle.shades_next_inner.specs.Above.{Finds}
 use Rattle.shades_raise_inner.specs.Ready.{Ready, Opening}
 use Rattle.shades_next_inner.proofs.Stepping.{Step, step-none, step-found, step-on, Further, further-right, Lifts, raise-step, Settles, settles-keeps, settles-rises, settle-step}
-use Rattle.shades_next_inner.specs.Raised.{raisedTo}
 use Rattle.shades_next_inner.proofs.Raised.{raised-few, raised-none, raised-more, raised-settled, raised-from}
 
 -- ---- a new ring in the first n sectors
@@ -80,8 +66,7 @@ last-some n start ring i up r =
     rw (
       same-false (take n start) (take n ring) (λ e. clash (before (take n start) (take n ring)) up (subst (λ x. before (take n start) x ≡ false) e (before-irrefl (take n start)))),
       lastRaised,
-    )
-    (run-lyn (take n ring) i r)
+    ) (run-lyn (take n ring) i r)
 
 -- the next ring above `ring` is that above `start`; p is the place, counted from 1, that was raised last, or 0
 pub record Standing (cs : List ℕ) (n k : ℕ) (start ring : List ℕ) (p : ℕ) : Type 0 where
@@ -361,8 +346,7 @@ module _ {cs : List ℕ} {n k : ℕ} {start : List ℕ} (size : length start ≡
     settled-counts : (u : List ℕ) → nextOf (countedNecklace cs) k t ≡ some u → raisedTo t u ≡ raisedTo (take n start) u
     settled-counts u q =
         let f = next-facts (countedNecklace cs) k t u q in
-        sym
-        (raised-from (take n start) t e p (settled-long ∙ sym start-long) (rep .run)
+        sym (raised-from (take n start) t e p (settled-long ∙ sym start-long) (rep .run)
         (settles .opening .fits) (omega (arith, settled-long, settles .inside)) (settles-keeps n (take n start) t e p settles)
         u (f .0 .long) (before-upTo t u (f .1)) (settles-rises n (take n start) t e p settles))
 

@@ -5,28 +5,15 @@
 --     repeat-floor, repeat-shades       a prenecklace that begins like a repetition is not below it; the shades of a repetition
 --     Lifts, raise-step                 a place is raised, and what stands before it is repeated
 --     Settles, settles-within, settles-keeps, settles-rises, settle-step    the longest beginning that is a prenecklace is repeated
-use Prim.Native.Nat.{ℕ, suc, _-_, _%_, _<_, _≤_}
-use mathlib.Core.Path.{_≡_, refl, sym, _∙_, subst}
-use mathlib.Core.Bool.{true, false}
-use mathlib.Core.Option.{none, some}
-use mathlib.Core.List.{List}
-use native.Mathlib.Omega.{arith}
+use Rattle.words.proofs.Plain.{ℕ, suc, _-_, _%_, _<_, _≤_, arith, _≡_, refl, sym, _∙_, subst, true, false, none, some, List, length, ext-getD}
 use native.Mathlib.Nat.{mod-lt}
-use lib.ListN.{length}
-use lib.Seq.{ext-getD}
-use Rattle.words.specs.Order.{before, upTo}
-use Rattle.words.specs.Readings.{Reading, readings}
+use Rattle.words.specs.{Order.before, Order.upTo, Readings.Reading, Readings.readings}
 use Rattle.words.proofs.Split.{lt, eq, gt, tri, both, both-left, both-right, agree, clash, refuted}
 use Rattle.words.proofs.Sequence.{sec, Less, Cmp, below, alike, above, cmp, place, one-more, less-asym}
 use Rattle.words.proofs.Lex.{Lex, ahead, equal, behind, lex, before-less, less-before, not-less-upTo, before-trans, upTo-not-before}
 use Rattle.words.proofs.Readings.{all-weaken, readings-all, first-is, first-nothing, first-cong}
-use Rattle.rings.specs.Prenecklace.{prenecklace}
-use Rattle.rings.specs.Counts.{countedNecklace}
-use Rattle.rings.specs.Steps.{aboveOf, nextOf}
-use Rattle.ring_laws.proofs.Run.{Pre, Run}
-use Rattle.ring_laws.proofs.Repeat.{run-rep}
-use Rattle.ring_laws.proofs.Raise.{run-floor}
-use Rattle.ring_laws.proofs.Words.{pre-of, necklace-prenecklace}
+use Rattle.rings.specs.{Prenecklace.prenecklace, Counts.countedNecklace, Steps.aboveOf, Steps.nextOf}
+use Rattle.ring_laws.proofs.{Run.Pre, Run.Run, Repeat.run-rep, Raise.run-floor, Words.pre-of, Words.necklace-prenecklace}
 use Rattle.ring_laws.proofs.Lyndon.{run-prenecklace}
 use Rattle.shades_raise_inner.specs.Places.{CountedRing, Blocked}
 use Rattle.shades_raise_inner.proofs.Blocking.{ring-necklace}

@@ -3,18 +3,12 @@
 --     parts-under, parts-over, parts-whole       a beginning of al and a word that agrees with what follows in al
 --     Following al pre next first g a i c        the first a letters of al and the word of node g are the first c and the word of node i
 --     follow-start, follow-whole, follow-under, follow-over, follow-on, follow-letter    node after node
-use Prim.Native.Nat.{ℕ, suc, _+_, _-_, _<_, _≤_}
-use mathlib.Core.Path.{_≡_, refl, sym, ap, _∙_, subst}
-use mathlib.Core.Bool.{true, false}
-use mathlib.Core.List.{List, [], _∷_, _++_, append-assoc}
-use native.Mathlib.Omega.{arith}
-use native.Mathlib.Numerals.{add-one}
-use lib.ListN.{length, getD, take, drop, length-append, length-drop, take-append-drop}
-use lib.Seq.{length-take-le, getD-take, getD-drop, take-suc, take-add, take-all, ext-getD}
+use Rattle.words.proofs.Plain.{ℕ, suc, _+_, _-_, _<_, _≤_, add-one, arith, _≡_, refl, sym, ap, _∙_, subst, true, false, List, [], _∷_, _++_, append-assoc}
+use Rattle.words.proofs.Plain.{length, getD, take, drop, length-append, length-drop, take-append-drop, length-take-le, getD-take, getD-drop, take-suc, take-add}
+use Rattle.words.proofs.{Plain.take-all, Plain.ext-getD, Lex.before-asym, Lex.before-irrefl}
 use Rattle.words.specs.Order.{before}
 use Rattle.words.proofs.Split.{lt, eq, gt, tri, refuted}
 use Rattle.words.proofs.Sequence.{sec, one-more, place}
-use Rattle.words.proofs.Lex.{before-asym, before-irrefl}
 use Rattle.shades_laws.proofs.Under.{_≪_, under-longer, under-extended, under-behind, not-under-beginning, Short, lower, opening, under-before, before-short, difference-under}
 use Rattle.shades_pool_inner.specs.Chain.{Agree, Spelled, Chained, Ranked, Compares}
 
@@ -52,18 +46,13 @@ module _ (al y r : List ℕ) (c d : ℕ) (within : c ≤ length al) (same : (m :
   -- it is smaller at the first difference
   pub parts-under : d < length y → c + d < length al → sec y d < sec al (c + d) → whole ≪ al
   parts-under h k less =
-      subst (λ x. whole ≪ x) (take-append-drop c al)
-      (under-behind (take c al)
-      (under-longer r
+      subst (λ x. whole ≪ x) (take-append-drop c al) (under-behind (take c al) (under-longer r
       (difference-under y (drop c al) d h (omega (arith, length-drop c al)) (λ m l. same m l ∙ sym (getD-drop c al m 0)) (rw (getD-drop c al d 0) less))))
 
   -- it is greater there
   pub parts-over : d < length y → c + d < length al → sec al (c + d) < sec y d → before whole al ≡ false
   parts-over h k less =
-      before-asym al whole
-      (under-before
-      (subst (λ x. x ≪ whole) (take-append-drop c al)
-      (under-behind (take c al)
+      before-asym al whole (under-before (subst (λ x. x ≪ whole) (take-append-drop c al) (under-behind (take c al)
       (under-extended r
       (difference-under (drop c al) y d (omega (arith, length-drop c al)) h (λ m l. getD-drop c al m 0 ∙ sym (same m l)) (rw (getD-drop c al d 0) less))))))
 
@@ -133,16 +122,14 @@ module _ (al pre next : List ℕ) (first g a i c : ℕ) (p : Following al pre ne
       -- the first difference is smaller
       pub follow-under : sec al d < sec al (c + d) → Compares al pre next first g a 0
       follow-under k word s =
-          ranked-under al (take a al ++ word g) (omega (arith, p .within))
-          (rw (node-word word s)
+          ranked-under al (take a al ++ word g) (omega (arith, p .within)) (rw (node-word word s)
           (parts-under al (take l al) (word (getD next i 0)) c d (omega (arith, p .within)) same (rw long less) follow-in
           (rw (getD-take l al d 0 less) k)))
 
       -- or it is greater
       pub follow-over : (sec al d < sec al (c + d) → ⊥) → Compares al pre next first g a (length al)
       follow-over k word s =
-          ranked-over al (take a al ++ word g) (omega (arith, p .within))
-          (rw (node-word word s)
+          ranked-over al (take a al ++ word g) (omega (arith, p .within)) (rw (node-word word s)
           (parts-over al (take l al) (word (getD next i 0)) c d (omega (arith, p .within)) same (rw long less) follow-in (rw (getD-take l al d 0 less) (omega (arith, k′, differs)))))
         where
           k′ : sec al (c + d) ≤ sec al d
@@ -183,15 +170,13 @@ module _ (al pre next : List ℕ) (first g a i c : ℕ) (p : Following al pre ne
 
     pub letter-under : i - 64 < sec al c → Compares al pre next first g a 0
     letter-under k word s =
-        ranked-under al (take a al ++ word g) (omega (arith, p .within))
-        (rw (letter-word word s)
+        ranked-under al (take a al ++ word g) (omega (arith, p .within)) (rw (letter-word word s)
         (parts-under al ((i - 64) ∷ []) [] c 0 (omega (arith, p .within)) (λ m l. absurd (omega arith)) (omega arith) (omega (arith, p .within))
         (omega (arith, k, place (sec al) (c + 0) c (omega arith)))))
 
     pub letter-over : sec al c < i - 64 → Compares al pre next first g a (length al)
     letter-over k word s =
-        ranked-over al (take a al ++ word g) (omega (arith, p .within))
-        (rw (letter-word word s)
+        ranked-over al (take a al ++ word g) (omega (arith, p .within)) (rw (letter-word word s)
         (parts-over al ((i - 64) ∷ []) [] c 0 (omega (arith, p .within)) (λ m l. absurd (omega arith)) (omega arith) (omega (arith, p .within))
         (omega (arith, k, place (sec al) (c + 0) c (omega arith)))))
 

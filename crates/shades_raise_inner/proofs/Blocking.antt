@@ -7,22 +7,15 @@
 --     find-part, find-fits, find-start                               how far the first sectors fit into the counts
 --     Ahead, reach-start, reach-none, reach-asks, reach-stop, reach-more, reach-end    how far a ring may follow w
 --     find-asks, Tried, find-found, find-more, find-end              one place after the other, from there back
-use Prim.Native.Nat.{ℕ, suc, _+_, _-_, _<_, _≤_}
-use mathlib.Core.Path.{_≡_, refl, sym, ap, _∙_, subst}
-use mathlib.Core.Bool.{true, false}
-use mathlib.Core.List.{List, _∷_, _++_, append-assoc}
-use native.Mathlib.Omega.{arith}
-use lib.ListN.{length, getD, take, drop, set, take-append-drop, List·getD-append, List·getD-eq-default}
-use lib.Seq.{split-at, length-take-le, getD-take, getD-at, ext-getD, take-take}
+use Rattle.words.proofs.Plain.{ℕ, suc, _+_, _-_, _<_, _≤_, arith, _≡_, refl, sym, ap, _∙_, subst, true, false, List, _∷_, _++_, append-assoc, length, getD}
+use Rattle.words.proofs.Plain.{take, drop, set, take-append-drop, List·getD-append, List·getD-eq-default, split-at, length-take-le, getD-take, getD-at}
+use Rattle.words.proofs.{Plain.ext-getD, Plain.take-take, Sequence.sec}
 use Rattle.words.proofs.Split.{lt, eq, gt, tri, both, both-left, both-right}
-use Rattle.words.proofs.Sequence.{sec}
-use Rattle.rings.specs.Necklace.{necklace}
+use Rattle.rings.specs.{Necklace.necklace, Prenecklace.prenecklace}
 use Rattle.rings.specs.Counts.{occurs, hasCounts, countedNecklace}
-use Rattle.rings.specs.Prenecklace.{prenecklace}
 use Rattle.words.specs.Sum.{sumOf}
 use Rattle.ring_laws.proofs.Run.{pre-shorter, pre-through, lyn-through}
-use Rattle.ring_laws.proofs.Words.{pre-of, of-pre}
-use Rattle.ring_laws.proofs.Lyndon.{lyndon-of}
+use Rattle.ring_laws.proofs.{Words.pre-of, Words.of-pre, Lyndon.lyndon-of}
 use Rattle.shades_laws.proofs.Copies.{occurs-append}
 use Rattle.shades_lift_inner.specs.Lifts.{Barred, Fitting, Liftable, LiftedTo}
 use Rattle.shades_lift_inner.proofs.Barring.{counts-long, lessOne, first-tell}
@@ -37,8 +30,7 @@ use Rattle.shades_tally_inner.proofs.Leaving.{sum-le, remains-sum, remains-more
 -- a beginning of a prenecklace is a prenecklace
 pub beginning-pre : (w : List ℕ) (n m : ℕ) → m ≤ n → n ≤ length w → prenecklace (take n w) ≡ true → prenecklace (take m w) ≡ true
 beginning-pre w n m h room pre =
-    of-pre (take m w)
-    (rw (length-take-le m w (omega arith))
+    of-pre (take m w) (rw (length-take-le m w (omega arith))
     (pre-through (sec (take n w)) (sec (take m w)) m (λ i k. getD-take n w i 0 (omega arith) ∙ sym (getD-take m w i 0 k))
     (pre-shorter (sec (take n w)) n m h (rw (length-take-le n w room) at (pre-of (take n w) pre)))))
 

@@ -1,13 +1,8 @@
 -- No two answers, nor two outputs, fit one call.
-use Prim.Native.Nat.{ℕ}
-use mathlib.Core.Path.{_≡_, refl, sym, ap, _∙_}
-use mathlib.Core.List.{List}
-use native.Mathlib.Omega.{arith}
-use lib.ListN.{length}
+use Rattle.words.proofs.Plain.{ℕ, arith, _≡_, refl, sym, ap, _∙_, List, length}
 use Rattle.refusal.specs.Calls.{countedFirst, countedNext}
 use Rattle.refusal.proofs.Unique.{one-refusal, never-both}
-use Rattle.shades_spec.specs.Answers.{FirstSays, NextSays}
-use Rattle.shades_spec.specs.declared.FirstAnswer.{FirstAnswer}
+use Rattle.shades_spec.specs.{Answers.FirstSays, Answers.NextSays, declared.FirstAnswer.FirstAnswer}
 use Rattle.shades_spec.specs.declared.FirstAnswer.the-variants as F
 use Rattle.shades_spec.specs.declared.NextAnswer.{NextAnswer}
 use Rattle.shades_spec.specs.declared.NextAnswer.the-variants as N

@@ -4,13 +4,8 @@
 --     remains-more, remains-less    one sector more, and one less
 --     exceeds-one                   a sector of which none is left
 --     sum-le, remains-sum   what is left is no more than the counts
-use Prim.Native.Nat.{ℕ, zero, suc, _+_, _-_, _<_, _≤_}
-use mathlib.Core.Path.{_≡_, refl, sym, ap, _∙_, subst}
-use mathlib.Core.List.{List, [], _∷_, _++_}
-use native.Mathlib.Numerals.{add-one}
-use native.Mathlib.Omega.{arith}
-use lib.ListN.{length, getD, take, drop, set, replicate, length-set, length-replicate}
-use lib.Seq.{getD-set-same, getD-set-other, take-suc, take-add}
+use Rattle.words.proofs.Plain.{ℕ, zero, suc, _+_, _-_, _<_, _≤_, add-one, arith, _≡_, refl, sym, ap, _∙_, subst, List, [], _∷_, _++_, length, getD, take, drop}
+use Rattle.words.proofs.Plain.{set, replicate, length-set, length-replicate, getD-set-same, getD-set-other, take-suc, take-add}
 use Rattle.words.proofs.Split.{lt, eq, gt, tri}
 use Rattle.rings.specs.Counts.{occurs}
 use Rattle.ring_laws.proofs.FullWalk.{zeros-at}

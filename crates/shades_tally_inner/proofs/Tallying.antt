@@ -4,24 +4,14 @@
 --     occurs-at                           each shade of a word occurs in it
 --     counted-not, counted-is             a prenecklace with a known lyn is a necklace with given counts, or is not
 -- Occurs of `shades_laws` is passed on.
-use Prim.Native.Nat.{ℕ, zero, suc, _+_, _%_, _<_, _≤_}
-use mathlib.Core.Path.{_≡_, refl, sym, ap, _∙_}
-use mathlib.Core.Bool.{Bool, true, false}
-use mathlib.Core.List.{List, [], _∷_}
-use native.Mathlib.Omega.{arith}
-use native.Mathlib.Numerals.{add-one}
-use lib.ListN.{length, getD, take}
-use lib.Seq.{take-suc, take-all, ext-getD}
-use borrow.Author.Tests.{eq-eqb, ne-eqb}
+use Rattle.words.proofs.Plain.{ℕ, zero, suc, _+_, _%_, _<_, _≤_, add-one, arith, _≡_, refl, sym, ap, _∙_, Bool, true, false, List, [], _∷_, length, getD, take}
+use Rattle.words.proofs.Plain.{take-suc, take-all, ext-getD, eq-eqb, ne-eqb}
 use Rattle.words.specs.Search.{tab}
 use Rattle.words.proofs.Split.{lt, eq, gt, tri, refuted}
-use Rattle.words.proofs.Search.{length-tab, getD-tab}
-use Rattle.words.proofs.Sequence.{sec}
-use Rattle.words.proofs.Lex.{same-true, true-same}
+use Rattle.words.proofs.{Search.length-tab, Search.getD-tab, Sequence.sec, Lex.same-true, Lex.true-same}
 use Rattle.rings.specs.Necklace.{necklace}
 use Rattle.rings.specs.Counts.{occurs, countsOf, hasCounts, countedNecklace}
-use Rattle.ring_laws.proofs.Run.{Run}
-use Rattle.ring_laws.proofs.Lyndon.{run-necklace, necklace-run}
+use Rattle.ring_laws.proofs.{Run.Run, Lyndon.run-necklace, Lyndon.necklace-run}
 use Rattle.shades_laws.proofs.Copies.{occurs-append}
 pub use Rattle.shades_laws.proofs.Occurs.{occurs-none, occurs-here, occurs-other, occurs-past}
 
@@ -62,8 +52,7 @@ module _ (cs s : List ℕ) where
   pub counts-end : (i : ℕ) → length cs ≤ i → ((b : ℕ) → b < i → occurs b s ≡ getD cs b 0) → true ≡ hasCounts cs s
   unfolding hasCounts countsOf
   counts-end i l h =
-      sym
-      (true-same (tab (length cs) (λ x. occurs x s)) cs
+      sym (true-same (tab (length cs) (λ x. occurs x s)) cs
       (ext-getD 0 (tab (length cs) (λ x. occurs x s)) cs (length-tab (length cs) (λ x. occurs x s))
       (λ b k. let m : b < length cs = omega (arith, length-tab (length cs) (λ x. occurs x s)) in getD-tab (length cs) (λ x. occurs x s) b 0 m ∙ h b (omega arith))))
 

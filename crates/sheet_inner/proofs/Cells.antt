@@ -3,13 +3,7 @@
 --     home-le, home-fits    the reading turned home
 --     fits-skip, fits-where    a text where it is called for
 --     target-fits        the whole, where the page was computed
-use Prim.Native.Nat.{ℕ, _+_, _/_, _%_, _<_, _≤_}
-use mathlib.Core.Path.{_≡_, refl, sym, ap, _∙_}
-use mathlib.Core.Bool.{Bool, true, false, not, _||_}
-use mathlib.Core.List.{List, [], _++_}
-use native.Mathlib.Omega.{arith}
-use lib.Dec.{eqb}
-use lib.ListN.{length}
+use Rattle.words.proofs.Plain.{ℕ, _+_, _/_, _%_, _<_, _≤_, arith, _≡_, refl, sym, ap, _∙_, Bool, true, false, not, _||_, List, [], _++_, eqb, length}
 use Rattle.words.specs.Turn.{turn}
 use Rattle.rings.specs.Home.{shift, home}
 use Rattle.ring_home_laws.proofs.Home.{home-turn-of, shift-lt}

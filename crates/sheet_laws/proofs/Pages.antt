@@ -2,21 +2,12 @@
 --     cell-of, page-of, ends-of, goes-of    the place of a target on its page
 --     filled-page                           the targets that fill a page from place j on, and what follows
 --     sheet-pages                           the text of a sheet is its pages one after another
-use Prim.Native.Nat.{ℕ, zero, suc, _+_, _-_, _*_, _/_, _%_, _<_, _≤_}
-use mathlib.Core.Path.{_≡_, refl, sym, ap, _∙_}
-use mathlib.Core.Bool.{Bool, true, false, _||_}
-use mathlib.Core.Logic.{_⊎_, inl, inr, ⊎-elim}
-use mathlib.Core.List.{List, [], _∷_, _++_, append-nil, append-assoc}
-use native.Mathlib.Omega.{arith}
-use native.Mathlib.Decide.{decLt}
-use native.Mathlib.Numerals.{add-one}
+use Rattle.words.proofs.Plain.{ℕ, zero, suc, _+_, _-_, _*_, _/_, _%_, _<_, _≤_, add-one, arith, decLt, _≡_, refl, sym, ap, _∙_, _⊎_, inl, inr, ⊎-elim, Bool}
+use Rattle.words.proofs.Plain.{true, false, _||_, List, [], _∷_, _++_, append-nil, append-assoc, eqb, length, take, drop, length-take, length-drop}
+use Rattle.words.proofs.Plain.{take-append-drop, eq-eqb, ne-eqb}
 use native.Mathlib.Nat.{suc-mul, add-mul, one-mul, mul-add-mod-self-right, mod-eq-of-lt, mod-self, div-eq-of-lt-le}
-use lib.Dec.{eqb}
-use borrow.Author.Tests.{eq-eqb, ne-eqb}
-use lib.ListN.{length, take, drop, length-take, length-drop, take-append-drop}
 use Rattle.rings.specs.Home.{home}
-use Rattle.sheet_spec.specs.declared.Sheet.{Sheet}
-use Rattle.sheet_spec.specs.Layout.{perPage, FitsPage}
+use Rattle.sheet_spec.specs.{declared.Sheet.Sheet, Layout.perPage, Layout.FitsPage}
 use Rattle.sheet_spec.specs.Text.{leafHead, footText, cellText, whereTrue, pageOpening, closing, targetText, none, sheetFrom, sheetText, cellsFrom, pageText}
 use Rattle.sheet_spec.proofs.Rows.{per-some}
 use Rattle.sheet_laws.specs.Pages.{SheetPages, lastPage, fullPage}

@@ -1,16 +1,10 @@
 -- What is placed target after target is the sheet.
 --     placed-take        what stands in the buffer is the target's text
 --     placing-sheet      the texts one after another are the sheet's text
-use Prim.Native.Nat.{ℕ, suc, _+_, _≤_}
-use mathlib.Core.Path.{_≡_, refl, sym, ap, _∙_}
-use mathlib.Core.List.{List, [], _∷_, _++_}
-use native.Mathlib.Omega.{arith}
-use lib.ListN.{length, take, drop}
-use lib.Seq.{sets-eq, take-at}
+use Rattle.words.proofs.Plain.{ℕ, suc, _+_, _≤_, arith, _≡_, refl, sym, ap, _∙_, List, [], _∷_, _++_, length, take, drop, sets-eq, take-at}
 use Rattle.text_spec.specs.Put.{Placed}
-use Rattle.sheet_spec.specs.declared.Sheet.{Sheet}
+use Rattle.sheet_spec.specs.{declared.Sheet.Sheet, Says.TargetSays}
 use Rattle.sheet_spec.specs.Text.{none, targetText, sheetFrom, sheetText}
-use Rattle.sheet_spec.specs.Says.{TargetSays}
 use Rattle.sheet_laws.specs.Placing.{Placing, all, then}
 
 pub placed-take : (b t : List ℕ) (m : ℕ) (b′ : List ℕ) → Placed b 0 t m b′ → length t ≤ length b → take m b′ ≡ t

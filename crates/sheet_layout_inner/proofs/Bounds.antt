@@ -2,9 +2,7 @@
 --     per-most                a page has not many targets
 --     wide, cell-wide         the columns fit on the page
 --     cell-down               the rows' numbers stay small
-use Prim.Native.Nat.{ℕ, _+_, _*_, _/_, _%_, _<_, _≤_}
-use mathlib.Core.Path.{_≡_, ap, sym, _∙_}
-use native.Mathlib.Omega.{arith}
+use Rattle.words.proofs.Plain.{ℕ, _+_, _*_, _/_, _%_, _<_, _≤_, arith, _≡_, ap, sym, _∙_}
 use native.Mathlib.Nat.{mul-assoc, mul-le-mul-right, div-le-self, le-div-iff-mul-le, mod-lt}
 use Rattle.sheet_spec.specs.Layout.{pitch, rowsFor, perPage, FitsPage}
 

@@ -7,15 +7,8 @@
 --     reached-line                which line begins there
 --     reached-over, reached-inside    behind the last line, and before it
 --     relent-length               a buffer keeps its length where its beginning was lent
-use Prim.Native.Nat.{ℕ, zero, suc, _+_, _-_, _<_, _≤_}
-use mathlib.Core.Path.{_≡_, refl, sym, ap, _∙_}
-use mathlib.Core.List.{List, [], _∷_, _++_}
-use native.Mathlib.Omega.{arith}
-use native.Mathlib.Decide.{decLt}
-use native.Mathlib.Numerals.{add-one}
-use borrow.Author.Tests.{eq-eqb}
-use lib.ListN.{length, getD, take, drop, length-append, length-drop}
-use lib.Seq.{take-all, drop-drop, getD-take, length-take-le}
+use Rattle.words.proofs.Plain.{ℕ, zero, suc, _+_, _-_, _<_, _≤_, add-one, arith, decLt, _≡_, refl, sym, ap, _∙_, List, [], _∷_, _++_, length, getD, take, drop}
+use Rattle.words.proofs.Plain.{length-append, length-drop, take-all, drop-drop, getD-take, length-take-le, eq-eqb}
 use Rattle.text_words_spec.specs.Words.{PieceAt}
 use Rattle.text_words_spec.proofs.Pieces.{first-same, behind-same, none-some}
 use Rattle.stream_spec.specs.Lines.{ended, under, lastOf, linesFrom, lines, Plain, none, also, closed, Cuts, nones}

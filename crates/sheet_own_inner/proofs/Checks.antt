@@ -1,21 +1,12 @@
 -- The checks of lines.
 --     line-unread, line-checked    of one, which spells no ring, or that ring
 --     lines-more, lines-wrong      one line more passes, or it is the first that is refused
-use Prim.Native.Nat.{ℕ, _+_, _<_}
-use mathlib.Core.Path.{_≡_, refl, sym, subst}
-use mathlib.Core.Logic.{inl, inr}
-use mathlib.Core.List.{List, []}
-use native.Mathlib.Omega.{arith}
-use native.Mathlib.Decide.{decLt}
-use lib.ListN.{length, getD}
+use Rattle.words.proofs.Plain.{ℕ, _+_, _<_, arith, decLt, _≡_, refl, sym, subst, inl, inr, List, [], length, getD}
 use Rattle.text_words_spec.specs.Words.{Spelt}
-use Rattle.refusal.specs.declared.Refusal.{Refusal}
-use Rattle.refusal.specs.declared.Refusal.the-variants.{Line}
-use Rattle.refusal.specs.declared.Checked.{Checked}
+use Rattle.refusal.specs.{declared.Refusal.Refusal, declared.Refusal.the-variants.Line, declared.Checked.Checked}
 use Rattle.refusal.specs.declared.Checked.the-variants.{Good, Refused}
 use Rattle.refusal.specs.Order.{Passed, Given, CheckSays}
-use Rattle.sheet_spec.specs.declared.Sheet.{Sheet}
-use Rattle.sheet_spec.specs.Says.{targetRoom, sheetOrder}
+use Rattle.sheet_spec.specs.{declared.Sheet.Sheet, Says.targetRoom, Says.sheetOrder}
 use Rattle.sheet_print_spec.specs.Prints.{ringIn, lineOrder, ownOrder}
 use Rattle.sheet_print_spec.proofs.Rings.{ring-in}
 use Rattle.sheet_own_inner.specs.Says.{LinesPass, WrongLine}

@@ -2,17 +2,10 @@
 --     line-short                   a line that has passed is not longer than a ring
 --     line-placed, line-never      its target is placed, and never refused
 --     line-passed, line-step       the same of a line of a text
-use Prim.Native.Nat.{ℕ, _+_, _≤_}
-use mathlib.Core.Path.{_≡_, sym, subst}
-use mathlib.Core.Bool.{Bool, true, false}
-use mathlib.Core.List.{List, []}
-use native.Mathlib.Omega.{arith}
-use lib.Dec.{eqb}
-use lib.ListN.{length, getD}
+use Rattle.words.proofs.Plain.{ℕ, _+_, _≤_, arith, _≡_, sym, subst, Bool, true, false, List, [], eqb, length, getD}
 use Rattle.text_words_spec.proofs.Spelling.{spelt-long}
 use Rattle.stream_spec.specs.Lines.{lines}
-use Rattle.refusal.specs.declared.Refusal.{Refusal}
-use Rattle.refusal.specs.Order.{Passed}
+use Rattle.refusal.specs.{declared.Refusal.Refusal, Order.Passed}
 use Rattle.refusal.proofs.Unique.{never-both}
 use Rattle.text_spell_inner.specs.Says.{SpelledSays}
 use Rattle.picture_spec.specs.declared.Drawn.{Drawn}

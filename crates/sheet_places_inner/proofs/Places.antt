@@ -3,14 +3,8 @@
 --     passed-at, given-at      its checks, in the list of all
 --     step-placed              a target that is placed
 --     step-never               no target of a sheet that is ready is refused
-use Prim.Native.Nat.{ℕ, _+_, _-_, _*_, _<_, _≤_}
-use mathlib.Core.Path.{_≡_, refl, sym, subst}
-use mathlib.Core.Bool.{Bool}
-use mathlib.Core.List.{List}
-use native.Mathlib.Omega.{arith}
-use lib.ListN.{length, take, drop}
-use Rattle.refusal.specs.declared.Refusal.{Refusal}
-use Rattle.refusal.specs.Order.{Passed, Given}
+use Rattle.words.proofs.Plain.{ℕ, _+_, _-_, _*_, _<_, _≤_, arith, _≡_, refl, sym, subst, Bool, List, length, take, drop}
+use Rattle.refusal.specs.{declared.Refusal.Refusal, Order.Passed, Order.Given}
 use Rattle.refusal.proofs.Unique.{never-both}
 use Rattle.set_spec.specs.Places.{placeAt, setIn}
 use Rattle.set_laws.proofs.Places.{set-in-at}

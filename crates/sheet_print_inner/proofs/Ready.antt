@@ -6,36 +6,21 @@
 --     not-read, too-long, prepared-set, prepared-lines, prepared-none     what an input asks for
 --     steps-sheet                     the steps one after another are the sheet, whatever gives its rings
 --     steps-printed, own-printed      and they are what the input prints
-use Prim.Native.Nat.{ℕ, zero, suc, _+_, _-_, _*_, _<_, _≤_}
-use mathlib.Core.Path.{_≡_, refl, sym, ap, subst, _∙_}
-use mathlib.Core.Logic.{inl, inr}
-use mathlib.Core.Bool.{Bool, true, false, false≢true}
-use mathlib.Core.List.{List, [], _∷_, _++_, map}
-use native.Mathlib.Omega.{arith}
-use native.Mathlib.Decide.{decLt}
-use native.Mathlib.Numerals.{add-one}
-use lib.Dec.{eqb}
+use Rattle.words.proofs.Plain.{ℕ, zero, suc, _+_, _-_, _*_, _<_, _≤_, add-one, arith, decLt, _≡_, refl, sym, ap, subst, _∙_, inl, inr, Bool, true, false}
+use Rattle.words.proofs.Plain.{false≢true, List, [], _∷_, _++_, map, eqb, length, getD, take, drop, length-map, eq-eqb, ne-eqb}
 use Rattle.words.proofs.Split.{lt, eq, gt, tri}
-use borrow.Author.Tests.{eq-eqb, ne-eqb}
-use lib.ListN.{length, getD, take, drop, length-map}
 use Rattle.text_words_spec.specs.Words.{pieces, PieceAt}
 use Rattle.stream_spec.specs.Lines.{lines}
-use Rattle.refusal.specs.declared.Refusal.{Refusal}
-use Rattle.refusal.specs.declared.Refusal.the-variants.{Line, Set}
-use Rattle.refusal.specs.declared.Checked.{Checked}
-use Rattle.refusal.specs.declared.Checked.the-variants.{Good, Refused}
+use Rattle.refusal.specs.{declared.Refusal.Refusal, declared.Refusal.the-variants.Line, declared.Refusal.the-variants.Set}
+use Rattle.refusal.specs.{declared.Checked.Checked, declared.Checked.the-variants.Good, declared.Checked.the-variants.Refused}
 use Rattle.refusal.specs.Order.{Passed, Given, CheckSays}
 use Rattle.set_spec.specs.Places.{placeAt, setIn}
 use Rattle.set_laws.proofs.Places.{laid-length, length-set-in, set-in-at}
-use Rattle.guard_spec.specs.declared.Rule.{Rule}
-use Rattle.guard_spec.specs.Choice.{chosenBy}
-use Rattle.set_pick_spec.specs.Order.{setOrder}
-use Rattle.set_pick_spec.specs.Says.{SetChosen, SetAnswers}
+use Rattle.guard_spec.specs.{declared.Rule.Rule, Choice.chosenBy}
+use Rattle.set_pick_spec.specs.{Order.setOrder, Says.SetChosen, Says.SetAnswers}
 use Rattle.set_pick_spec.proofs.Worth.{rule-most, rule-set}
-use Rattle.sheet_spec.specs.declared.Source.{Source}
+use Rattle.sheet_spec.specs.{declared.Source.Source, declared.Sheet.Sheet, Text.sheetText, Text.sheetFrom}
 use Rattle.sheet_spec.specs.declared.Source.the-variants as S
-use Rattle.sheet_spec.specs.declared.Sheet.{Sheet}
-use Rattle.sheet_spec.specs.Text.{sheetText, sheetFrom}
 use Rattle.sheet_spec.specs.Text as text
 use Rattle.sheet_spec.specs.Says.{targetRoom, sheetOrder}
 use Rattle.sheet_laws.specs.Placing.{Placing, all, then}

@@ -2,13 +2,7 @@
 --     digit-in        the sector whose digit it is
 --     ring-in         a line that spells a ring spells `ringIn` of it
 --     rings-at        the ring of each of some lines
-use Prim.Native.Nat.{ℕ, zero, suc, _<_}
-use mathlib.Core.Path.{_≡_, refl, sym, ap, _∙_}
-use mathlib.Core.List.{List, [], _∷_, map}
-use native.Mathlib.Omega.{arith}
-use lib.Dec.{eqb}
-use lib.ListN.{length, getD}
-use borrow.Author.Tests.{eq-eqb, ne-eqb}
+use Rattle.words.proofs.Plain.{ℕ, zero, suc, _<_, arith, _≡_, refl, sym, ap, _∙_, List, [], _∷_, map, eqb, length, getD, eq-eqb, ne-eqb}
 use Rattle.words.proofs.Search.{least-is}
 use Rattle.text_spec.specs.Text.{hexOf}
 use Rattle.text_words_spec.specs.Words.{Nibbles, Spelt}

@@ -2,20 +2,10 @@
 --     a-ring, no-ring       the sectors of two lines, of which the second has a letter that is no digit
 --     no-reading            what the second prints
 --     two-rings             an input that asks for rings of one's own, its second line without a newline behind it
-use Prim.Native.Nat.{ℕ, _<_}
-use mathlib.Core.Path.{_≡_, refl, sym, ap, _∙_}
-use mathlib.Core.Bool.{not, false≢true}
-use mathlib.Core.Logic.{inl}
-use mathlib.Core.List.{List, [], _∷_}
-use native.Mathlib.Omega.{arith}
-use lib.Dec.{eqb}
-use lib.ListN.{getD}
-use borrow.Author.Tests.{eq-eqb}
-use Rattle.words.specs.Order.{same}
-use Rattle.words.specs.Search.{allBelow, least}
+use Rattle.words.proofs.Plain.{ℕ, _<_, arith, _≡_, refl, sym, ap, _∙_, inl, not, false≢true, List, [], _∷_, eqb, getD, eq-eqb}
+use Rattle.words.specs.{Order.same, Search.allBelow, Search.least}
 use Rattle.words.proofs.Search.{all-at}
-use Rattle.text_spec.specs.Ascii.{ascii}
-use Rattle.text_spec.specs.Decimal.{decimal, decimalIn}
+use Rattle.text_spec.specs.{Ascii.ascii, Decimal.decimal, Decimal.decimalIn}
 use Rattle.text_words_spec.specs.Words.{pieces, onto, PieceAt}
 use Rattle.stream_spec.specs.Lines.{ended, under, lastOf, linesFrom, lines}
 use Rattle.text_fill_spec.specs.Filled.{filledText}

@@ -1,11 +1,7 @@
 -- An input prints one text.
 --     one-wrong, one-said                    targets have one first refusal, and print one text
 --     one-chosen, one-by, one-input, one-printed
-use Prim.Native.Nat.{ℕ, _+_, _<_}
-use mathlib.Core.Path.{_≡_, refl, sym, ap, _∙_}
-use mathlib.Core.List.{List, []}
-use native.Mathlib.Omega.{arith}
-use lib.ListN.{length, take, drop}
+use Rattle.words.proofs.Plain.{ℕ, _+_, _<_, arith, _≡_, refl, sym, ap, _∙_, List, [], length, take, drop}
 use Rattle.text_words_spec.specs.Words.{pieces}
 use Rattle.stream_spec.specs.Lines.{lines}
 use Rattle.words.proofs.Split.{lt, eq, gt, tri}
@@ -14,14 +10,11 @@ use Rattle.refusal.specs.Order.{Checks, Passed, Given}
 use Rattle.refusal.proofs.Unique.{one-refusal, never-both}
 use Rattle.set_pick_spec.specs.Order.{setOrder}
 use Rattle.set_pick_spec.proofs.Unique.{askable-passed}
-use Rattle.sheet_spec.specs.declared.Source.{Source}
+use Rattle.sheet_spec.specs.{declared.Source.Source, declared.Sheet.Sheet, Text.sheetText}
 use Rattle.sheet_spec.specs.declared.Source.the-variants as S
-use Rattle.sheet_spec.specs.declared.Sheet.{Sheet}
-use Rattle.sheet_spec.specs.Text.{sheetText}
 use Rattle.sheet_words_spec.proofs.Unique.{one-sheet}
 use Rattle.desk_spec.specs.Texts.{refusalText}
-use Rattle.desk_spec.proofs.Questions.{place-one}
-use Rattle.desk_spec.proofs.Unique.{one-asked}
+use Rattle.desk_spec.proofs.{Questions.place-one, Unique.one-asked}
 use Rattle.sheet_print_spec.specs.Prints.{SheetSays, none, wrong, whole, chosenFor, ChosenPrints, refused, taken, ReadsSheet, PrintsBy, SheetPrints}
 
 module _ (m : ℕ) (order : ℕ → Checks) (told : ℕ → Refusal → List ℕ) (x : List ℕ) where

@@ -1,17 +1,12 @@
 -- What is written.
 --     line-inside, wrong-inside    a refusal's line lies within the buffer, which keeps its length
 --     ready-of, lines-ready    what an input asks for is ready, or refused
-use Prim.Native.Nat.{ℕ, _-_, _≤_}
-use mathlib.Core.Path.{_≡_}
-use mathlib.Core.List.{List}
-use native.Mathlib.Omega.{arith}
-use lib.ListN.{length, take, drop}
+use Rattle.words.proofs.Plain.{ℕ, _-_, _≤_, arith, _≡_, List, length, take, drop}
 use Rattle.stream_spec.specs.Lines.{lines}
 use Rattle.text_spec.proofs.Put.{placed-length}
 use Rattle.text_spec.specs.Put.{Placed}
 use Rattle.program_refusal_inner.specs.Room.{refusedLineRoom}
-use Rattle.sheet_spec.specs.declared.Sheet.{Sheet}
-use Rattle.sheet_spec.specs.Says.{targetRoom}
+use Rattle.sheet_spec.specs.{declared.Sheet.Sheet, Says.targetRoom}
 use Rattle.desk_texts_inner.specs.Says.{LinePrinted}
 use Rattle.sheet_print_inner.specs.declared.Answer.{Answer}
 use Rattle.sheet_print_inner.specs.declared.Answer.the-variants as A

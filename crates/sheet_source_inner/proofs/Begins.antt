@@ -1,11 +1,7 @@
 -- Where the lines begin that stand behind a line.
 --     behind-line    behind its newline
 --     behind-none    at the end, where the line has none
-use Prim.Native.Nat.{ℕ, zero, suc, _+_, _<_, _≤_}
-use mathlib.Core.Path.{_≡_, refl, sym, _∙_}
-use mathlib.Core.List.{List, [], _∷_}
-use native.Mathlib.Omega.{arith}
-use lib.ListN.{length, drop}
+use Rattle.words.proofs.Plain.{ℕ, zero, suc, _+_, _<_, _≤_, arith, _≡_, refl, sym, _∙_, List, [], _∷_, length, drop}
 use Rattle.sheet_source_inner.specs.Says.{BehindLine}
 
 pub behind-line : (s : List ℕ) (e : ℕ) → e < length s → BehindLine s e (e + 1)

@@ -1,7 +1,6 @@
 -- A page has a target.
 --     per-some      where the targets fit on it
-use Prim.Native.Nat.{ℕ, _*_, _<_, _≤_}
-use native.Mathlib.Omega.{arith}
+use Rattle.words.proofs.Plain.{ℕ, _*_, _<_, _≤_, arith}
 use native.Mathlib.Nat.{mul-pos, le-div-iff-mul-le}
 use Rattle.sheet_spec.specs.Layout.{pitch, rowsFor, perPage, FitsPage}
 

@@ -1,15 +1,9 @@
 -- Placing a target has one answer, and leaves the buffer in one way.
 --     one-placed
-use Prim.Native.Nat.{ℕ}
-use mathlib.Core.Path.{_≡_, sym, ap, _∙_}
-use mathlib.Core.Bool.{Bool}
-use mathlib.Core.List.{List}
-use lib.ListN.{length}
+use Rattle.words.proofs.Plain.{ℕ, _≡_, sym, ap, _∙_, Bool, List, length}
 use Rattle.refusal.proofs.Unique.{one-refusal, never-both}
-use Rattle.picture_spec.specs.declared.Drawn.{Drawn}
-use Rattle.picture_spec.specs.declared.Drawn.the-variants.{Whole, Refused}
-use Rattle.sheet_spec.specs.declared.Sheet.{Sheet}
-use Rattle.sheet_spec.specs.Says.{sheetOrder, TargetSays}
+use Rattle.picture_spec.specs.{declared.Drawn.Drawn, declared.Drawn.the-variants.Whole, declared.Drawn.the-variants.Refused}
+use Rattle.sheet_spec.specs.{declared.Sheet.Sheet, Says.sheetOrder, Says.TargetSays}
 
 module _ (o : Sheet) (w : List ℕ) (i : ℕ) (last : Bool) (b : List ℕ) where
   pub one-placed : (x y : Drawn) (u v : List ℕ) → TargetSays o w i last b x u → TargetSays o w i last b y v → (x ≡ y) × (u ≡ v)

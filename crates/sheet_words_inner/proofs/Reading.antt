@@ -6,32 +6,20 @@
 --     asked-on                           one word more
 --     columns-said, columns-none, columns-fit    the columns of a sheet
 --     reads-as                           what the line asks for
-use Prim.Native.Nat.{ℕ, zero, suc, _+_, _-_, _/_, _<_, _≤_}
-use mathlib.Core.Path.{_≡_, refl, sym, ap, _∙_}
-use mathlib.Core.Bool.{Bool, true, false}
-use mathlib.Core.List.{List, [], _∷_}
-use native.Mathlib.Omega.{arith}
-use native.Mathlib.Decide.{decLt}
+use Rattle.words.proofs.Plain.{ℕ, zero, suc, _+_, _-_, _/_, _<_, _≤_, arith, decLt, _≡_, refl, sym, ap, _∙_, Bool, true, false, List, [], _∷_, ltb, length}
+use Rattle.words.proofs.Plain.{take, drop, length-drop, take-all, drop-drop, lt-ltb, le-ltb}
 use native.Mathlib.Nat.{div-eq-of-lt}
-use lib.Dec.{ltb}
-use borrow.Author.Tests.{lt-ltb, le-ltb}
-use lib.ListN.{length, take, drop, length-drop}
-use lib.Seq.{take-all, drop-drop}
-use Rattle.words.specs.Order.{same}
-use Rattle.words.specs.Search.{least}
+use Rattle.words.specs.{Order.same, Search.least}
 use Rattle.words.proofs.Lex.{same-true, true-same, same-false}
 use Rattle.words.proofs.Split.{lt, eq, gt, tri}
 use Rattle.words.proofs.Search.{least-le, least-at, least-is}
-use Rattle.text_spec.specs.Ascii.{ascii}
-use Rattle.text_spec.specs.Decimal.{decimal}
+use Rattle.text_spec.specs.{Ascii.ascii, Decimal.decimal}
 use Rattle.text_spec.proofs.Digits.{decimal-one}
 use Rattle.text_words_spec.specs.Words.{pieces, PieceAt}
 use Rattle.text_words_spec.proofs.Pieces.{pieces-one, pieces-more}
 use Rattle.sheet_spec.specs.declared.Sheet.{Sheet}
-use Rattle.sheet_words_spec.specs.declared.Word.{Word}
+use Rattle.sheet_words_spec.specs.{declared.Word.Word, declared.Asked.Asked, declared.Awaits.Awaits}
 use Rattle.sheet_words_spec.specs.declared.Word.the-variants as W
-use Rattle.sheet_words_spec.specs.declared.Asked.{Asked}
-use Rattle.sheet_words_spec.specs.declared.Awaits.{Awaits}
 use Rattle.sheet_words_spec.specs.Words.{numberIn, calledBy, numberOrOther, wordOf, nothingAsked, meant, asked, columnsFor, withColumns, fitted, EndsWith}
 use Rattle.sheet_words_inner.specs.Says.{wordsFrom, WordAt, EndsAs, ReadsAs}
 
@@ -129,8 +117,7 @@ word-at t at e h q =
       from = omega arith;
       within = omega (arith, p .within, l);
       first =
-          rw d
-          (inside t at h
+          rw d (inside t at h
           ∙ elim (decLt e (length (drop at t))) [
             | yes z ↦
                 let w : wordsFrom t (at + e + 1) ≡ pieces 32 (drop (at + e + 1) t) = inside t (at + e + 1) (omega (arith, l, z)) in

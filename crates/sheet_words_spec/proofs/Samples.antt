@@ -1,13 +1,9 @@
 -- Lines worked out by hand: antt computes each.
 --     a-guarded-set, a-larger-plain-set, own-rings     what they ask for
 --     plain-of-own, three-numbers, five-numbers        what asks for nothing
-use Prim.Native.Nat.{ℕ}
-use mathlib.Core.Path.{_≡_, refl}
-use mathlib.Core.List.{List, [], _∷_}
-use Rattle.words.specs.Order.{same}
-use Rattle.words.specs.Search.{least}
-use Rattle.text_spec.specs.Ascii.{ascii}
-use Rattle.text_spec.specs.Decimal.{decimal, decimalIn}
+use Rattle.words.proofs.Plain.{ℕ, _≡_, refl, List, [], _∷_}
+use Rattle.words.specs.{Order.same, Search.least}
+use Rattle.text_spec.specs.{Ascii.ascii, Decimal.decimal, Decimal.decimalIn}
 use Rattle.picture_spec.specs.declared.Tone.the-variants.{Managed, Levels}
 use Rattle.sheet_spec.specs.declared.Sheet.{Sheet}
 use Rattle.sheet_spec.specs.declared.Source.the-variants as S

@@ -1,8 +1,6 @@
 -- Words ask for one sheet.
 --     one-sheet
-use mathlib.Core.Path.{_≡_, sym, _∙_}
-use mathlib.Core.List.{List}
-use Prim.Native.Nat.{ℕ}
+use Rattle.words.proofs.Plain.{ℕ, _≡_, sym, _∙_, List}
 use Rattle.sheet_spec.specs.declared.Sheet.{Sheet}
 use Rattle.sheet_words_spec.specs.declared.Awaits.{Awaits}
 use Rattle.sheet_words_spec.specs.declared.Awaits.the-variants as A

@@ -1,14 +1,8 @@
 -- A target's text lies within the buffer, which keeps its length.
-use Prim.Native.Nat.{ℕ, _≤_}
-use mathlib.Core.Path.{_≡_}
-use mathlib.Core.Bool.{Bool}
-use mathlib.Core.List.{List}
-use native.Mathlib.Omega.{arith}
-use lib.ListN.{length}
+use Rattle.words.proofs.Plain.{ℕ, _≤_, arith, _≡_, Bool, List, length}
 use Rattle.text_spec.proofs.Put.{placed-length}
 use Rattle.picture_spec.specs.declared.Drawn.the-variants.{Whole}
-use Rattle.sheet_spec.specs.declared.Sheet.{Sheet}
-use Rattle.sheet_spec.specs.Says.{targetRoom, TargetSays}
+use Rattle.sheet_spec.specs.{declared.Sheet.Sheet, Says.targetRoom, Says.TargetSays}
 
 pub step-inside : (o : Sheet) (w : List ℕ) (i : ℕ) (last : Bool) (b : List ℕ) (m : ℕ) (b′ : List ℕ) → targetRoom ≤ length b →
     TargetSays o w i last b (Whole m) b′ → (m ≤ length b) × (length b′ ≡ length b)

@@ -1,8 +1,6 @@
 -- Whether targets fit on a page, as the check tells it.
 --     fit-no, fit-yes
-use Prim.Native.Nat.{ℕ}
-use mathlib.Core.Path.{_≡_}
-use mathlib.Core.Bool.{Bool, true, false, not, true≢false, false≢true}
+use Rattle.words.proofs.Plain.{ℕ, _≡_, Bool, true, false, not, true≢false, false≢true}
 use Rattle.sheet_spec.specs.Layout.{FitsPage}
 use Rattle.sheets.specs.Says.{FitSays}
 

@@ -1,11 +1,8 @@
 -- Where the checks have passed, what is seen is the answer.
-use Prim.Native.Nat.{ℕ}
-use mathlib.Core.List.{List}
+use Rattle.words.proofs.Plain.{ℕ, List}
 use Rattle.refusal.specs.Order.{Passed}
-use Rattle.sight_spec.specs.declared.Sighting.{Sighting}
+use Rattle.sight_spec.specs.{declared.Sighting.Sighting, Rings.sightOrder, Says.Seen, Says.SightSays}
 use Rattle.sight_spec.specs.declared.Sighting.the-variants.{Front, Back, Several, Unknown, Refused}
-use Rattle.sight_spec.specs.Rings.{sightOrder}
-use Rattle.sight_spec.specs.Says.{Seen, SightSays}
 
 pub passed-seen : (rs r : List ℕ) (k e : ℕ) (a : Sighting) → Passed (sightOrder r rs k) → Seen rs r e a → SightSays rs r k e a
 passed-seen rs r k e (Front t i x) p s = (p, s)

@@ -1,12 +1,7 @@
 -- The numbers are good: what the check of the sectors says is the answer.
-use Prim.Native.Nat.{ℕ, _%_}
-use mathlib.Core.Path.{_≡_}
-use mathlib.Core.Logic.{inr}
-use mathlib.Core.List.{List}
-use lib.ListN.{length}
+use Rattle.words.proofs.Plain.{ℕ, _%_, _≡_, inr, List, length}
 use Rattle.words.specs.Readings.{Sized, Shaded}
-use Rattle.refusal.specs.declared.Checked.{Checked}
-use Rattle.refusal.specs.declared.Checked.the-variants.{Good, Refused}
+use Rattle.refusal.specs.{declared.Checked.Checked, declared.Checked.the-variants.Good, declared.Checked.the-variants.Refused}
 use Rattle.refusal.specs.Order.{CheckSays}
 use Rattle.sight_spec.specs.Rings.{sightOrder}
 use Rattle.sight_checks_inner.specs.Says.{SectorsSay}

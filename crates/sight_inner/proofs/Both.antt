@@ -3,11 +3,7 @@
 --     front-alone, back-alone        one from one side, and none from the other
 --     two-front, two-back, two-each  two from the front, two from behind, or one from each
 --     many-front, many-behind, one-each, nobody, seen-front, seen-back    the answers, from what the code's two searches say
-use Prim.Native.Nat.{ℕ, _+_, _-_, _/_, _<_, _≤_}
-use mathlib.Core.Path.{_≡_, refl, sym, ap, subst, _∙_}
-use mathlib.Core.List.{List, [], reverse}
-use native.Mathlib.Omega.{arith}
-use lib.ListN.{length, getD, length-reverse}
+use Rattle.words.proofs.Plain.{ℕ, _+_, _-_, _/_, _<_, _≤_, arith, _≡_, refl, sym, ap, subst, _∙_, List, [], reverse, length, getD, length-reverse}
 use Rattle.words.proofs.Split.{lt, eq, gt, tri}
 use Rattle.rings.specs.Alike.{apart}
 use Rattle.guard_spec.specs.Sides.{sides}
@@ -16,9 +12,8 @@ use Rattle.guard_laws.proofs.Sides.{Long, length-sides, front-at, back-at}
 use Rattle.sight_spec.specs.Rings.{ringAt, ringsIn}
 use Rattle.sight_spec.specs.Says.{Alone, Two, None, SeenFront, SeenBack}
 use Rattle.sight_spec.proofs.Rings.{length-first, ring-length, rings-long}
-use Rattle.sight_near_inner.specs.declared.Near.{Near}
+use Rattle.sight_near_inner.specs.{declared.Near.Near, Says.NearSays}
 use Rattle.sight_near_inner.specs.declared.Near.the-variants.{Nobody, One, Many}
-use Rattle.sight_near_inner.specs.Says.{NearSays}
 use Rattle.sight_turn_inner.specs.Says.{Turns}
 
 -- ---- readings ts of n sectors, and r

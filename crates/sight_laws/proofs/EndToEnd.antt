@@ -3,13 +3,9 @@
 --     laid-below                each sector is one of a ring
 --     rings-laid                cut into rings they are the rings
 --     laid-passed               a reading of as many sectors and they pass the checks
-use Prim.Native.Nat.{ℕ, zero, suc, _+_, _-_, _*_, _/_, _%_, _<_}
-use mathlib.Core.Path.{_≡_, refl, ap, _∙_}
-use mathlib.Core.List.{List, [], _∷_, _++_}
-use native.Mathlib.Omega.{arith}
+use Rattle.words.proofs.Plain.{ℕ, zero, suc, _+_, _-_, _*_, _/_, _%_, _<_, arith, _≡_, refl, ap, _∙_, List, [], _∷_, _++_, length, getD, length-append}
+use Rattle.words.proofs.Plain.{List·getD-append, ext-getD, take-at, drop-append-add, getD-append-add}
 use native.Mathlib.Nat.{mul-suc, mul-div-right, mul-mod-right}
-use lib.ListN.{length, getD, length-append, List·getD-append}
-use lib.Seq.{ext-getD, take-at, drop-append-add, getD-append-add}
 use Rattle.words.specs.Readings.{Sized, Shaded, Reading}
 use Rattle.words.proofs.Split.{lt, eq, gt, tri}
 use Rattle.refusal.specs.Order.{Passed}

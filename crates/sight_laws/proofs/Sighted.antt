@@ -5,32 +5,22 @@
 --     sighted-once     never several, where 2 e is below d
 --     front-missed     with x misread, where x and e together are below d, that ring, from the front, turned by i, or Unknown: never another and never the wrong side
 --     back-missed      the same from behind
-use Prim.Native.Nat.{ℕ, _+_, _*_, _<_, _≤_}
-use mathlib.Core.Path.{_≡_, refl, sym, ap, subst, _∙_}
-use mathlib.Core.Bool.{Bool}
-use mathlib.Core.List.{List, [], reverse}
-use native.Mathlib.Omega.{arith}
-use lib.ListN.{length, getD, length-reverse}
-use Rattle.words.specs.Turn.{turn}
-use Rattle.words.specs.Readings.{Reading}
+use Rattle.words.proofs.Plain.{ℕ, _+_, _*_, _<_, _≤_, arith, _≡_, refl, sym, ap, subst, _∙_, Bool, List, [], reverse, length, getD, length-reverse}
+use Rattle.words.specs.{Turn.turn, Readings.Reading}
 use Rattle.rings.specs.Alike.{differing, apart, mirrored}
-use Rattle.refusal.specs.Order.{Passed}
-use Rattle.refusal.specs.declared.Checked.the-variants.{Good}
+use Rattle.refusal.specs.{Order.Passed, declared.Checked.the-variants.Good}
 use Rattle.home_spec.specs.Turns.{nearestTurn, Steady}
 use Rattle.home_turns_laws.proofs.Nearest.{nearest-at, nearest-is}
-use Rattle.set_spec.specs.Worth.{Spread}
-use Rattle.set_spec.specs.Places.{placeAt, setIn}
+use Rattle.set_spec.specs.{Worth.Spread, Places.placeAt, Places.setIn}
 use Rattle.set_laws.proofs.Places.{length-set-in, set-in-at}
 use Rattle.guard_spec.specs.Sides.{sides}
-use Rattle.guard_laws.proofs.Mirror.{turn-near, other-side}
-use Rattle.guard_laws.proofs.Sides.{Long}
+use Rattle.guard_laws.proofs.{Mirror.turn-near, Mirror.other-side, Sides.Long}
 use Rattle.set_pick_spec.specs.Says.{GuardChosen}
 use Rattle.set_pick_spec.proofs.Worth.{guard-worth}
 use Rattle.set_layout_spec.specs.Layout.{endToEnd, LayoutSays}
-use Rattle.sight_spec.specs.declared.Sighting.{Sighting}
+use Rattle.sight_spec.specs.{declared.Sighting.Sighting, Says.SightSays}
 use Rattle.sight_spec.specs.declared.Sighting.the-variants.{Front, Back, Several, Unknown}
 use Rattle.sight_spec.specs.Rings.{ringAt, ringsIn, sightOrder}
-use Rattle.sight_spec.specs.Says.{SightSays}
 use Rattle.sight_laws.proofs.EndToEnd.{laid-at, rings-laid, laid-passed}
 use Rattle.sight_laws.proofs.Tells.{OrUnknown, told, missed, never-several, front-or-none, back-or-none, front-means, back-means, front-seen-not, back-seen-not}
 

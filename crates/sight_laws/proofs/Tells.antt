@@ -3,11 +3,7 @@
 --     front-or-none, back-or-none    where the sectors misread and those looked for are together below the distance, it is that ring or Unknown: never another, nor from the wrong side
 --     front-seen-not, back-seen-not  it is not Unknown where no more are misread than are looked for, guarded or not
 --     front-means, back-means    turned as the answer says, the reading, or its reversal, differs from the ring at as many places as it says, and these are no more than may be misread
-use Prim.Native.Nat.{ℕ, _+_, _*_, _/_, _<_, _≤_}
-use mathlib.Core.Path.{_≡_, refl, sym}
-use mathlib.Core.List.{List, [], reverse}
-use native.Mathlib.Omega.{arith}
-use lib.ListN.{length, getD, length-reverse}
+use Rattle.words.proofs.Plain.{ℕ, _+_, _*_, _/_, _<_, _≤_, arith, _≡_, refl, sym, List, [], reverse, length, getD, length-reverse}
 use Rattle.words.specs.Turn.{turn}
 use Rattle.words.proofs.Split.{lt, eq, gt, tri}
 use Rattle.rings.specs.Alike.{differing, apart, mirrored}
@@ -97,8 +93,7 @@ module _ (rs r : List ℕ) (k e d x : ℕ) (p : Passed (sightOrder r rs k)) (g :
   back-or-none t h near =
       settled (length rings + t) (omega (arith, length-sides rings)) (rw (back-at rings t h, placed t h) near)
       (λ o. told (one-sight rs r k e a (Back t (nearestTurn (reverse r) (ringAt (length r) rs t)) (apart r (mirrored (ringAt (length r) rs t)))) s
-      (p, record { target = h; alone = o; turned = refl; misread = refl })))
-      (λ o. missed (one-sight rs r k e a Unknown s (p, o)))
+      (p, record { target = h; alone = o; turned = refl; misread = refl }))) (λ o. missed (one-sight rs r k e a Unknown s (p, o)))
 
 -- what an answer means, guarded or not
 module _ (rs r : List ℕ) (k e t i x : ℕ) where

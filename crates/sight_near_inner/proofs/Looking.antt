@@ -3,14 +3,8 @@
 --     far-start, far-on, far-found, far-end         the search for the first ring that is near
 --     part-near, part-far                           what is told of the part of the rings that the code lends
 --     near-none, near-one, near-two                 which are near, by two searches
-use Prim.Native.Nat.{ℕ, suc, _+_, _-_, _*_, _/_, _<_, _≤_, min}
-use mathlib.Core.Path.{_≡_, refl, sym, ap, _∙_}
-use mathlib.Core.Bool.{Bool, true, false}
-use mathlib.Core.List.{List, []}
-use native.Mathlib.Omega.{arith}
-use lib.ListN.{length, getD, take, drop}
-use lib.Dec.{ltb}
-use borrow.Author.Tests.{ltb-true, ltb-false}
+use Rattle.words.proofs.Plain.{ℕ, suc, _+_, _-_, _*_, _/_, _<_, _≤_, min, arith, _≡_, refl, sym, ap, _∙_, Bool, true, false, List, [], ltb, length, getD, take}
+use Rattle.words.proofs.Plain.{drop, ltb-true, ltb-false}
 use Rattle.words.proofs.Split.{lt, eq, gt, tri}
 use Rattle.rings.specs.Alike.{apart}
 use Rattle.ring_home_laws.proofs.Alike.{apart-le}

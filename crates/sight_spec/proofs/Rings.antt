@@ -2,13 +2,9 @@
 --     length-first, first-at      how many the first m rings are, and the ring number j of them
 --     ring-fits                   the ring number j lies inside
 --     ring-length, rings-long     it has n sectors
-use Prim.Native.Nat.{ℕ, zero, suc, _+_, _*_, _/_, _<_, _≤_}
-use mathlib.Core.Path.{_≡_, refl, sym, ap, _∙_}
-use mathlib.Core.List.{List, [], _∷_, _++_}
-use native.Mathlib.Omega.{arith}
+use Rattle.words.proofs.Plain.{ℕ, zero, suc, _+_, _*_, _/_, _<_, _≤_, arith, _≡_, refl, sym, ap, _∙_, List, [], _∷_, _++_, length, getD, drop, length-drop}
+use Rattle.words.proofs.Plain.{length-take-le}
 use native.Mathlib.Nat.{mul-div-le, mul-le-mul-left, mul-suc}
-use lib.ListN.{length, getD, drop, length-drop}
-use lib.Seq.{length-take-le}
 use Rattle.words.proofs.Split.{lt, eq, gt, tri}
 use Rattle.set_laws.proofs.Lists.{length-more, at-old, at-new}
 use Rattle.guard_laws.proofs.Sides.{Long}

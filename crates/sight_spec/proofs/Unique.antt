@@ -1,19 +1,13 @@
 -- No two different answers satisfy the contract of a sighting.
 --     one-alone, alone-two    one that is alone is the only one, and there are not two
 --     one-sight               the call has one answer
-use Prim.Native.Nat.{ℕ, _+_}
-use mathlib.Core.Path.{_≡_, refl, ap}
-use mathlib.Core.List.{List}
-use native.Mathlib.Omega.{arith}
-use lib.ListN.{length}
+use Rattle.words.proofs.Plain.{ℕ, _+_, arith, _≡_, refl, ap, List, length}
 use Rattle.words.proofs.Split.{lt, eq, gt, tri}
-use Rattle.refusal.specs.declared.Refusal.{Refusal}
-use Rattle.refusal.specs.Order.{Given, Passed}
+use Rattle.refusal.specs.{declared.Refusal.Refusal, Order.Given, Order.Passed}
 use Rattle.refusal.proofs.Unique.{one-refusal, never-both}
 use Rattle.guard_spec.specs.Sides.{sides}
-use Rattle.sight_spec.specs.declared.Sighting.{Sighting}
+use Rattle.sight_spec.specs.{declared.Sighting.Sighting, Rings.ringsIn, Rings.sightOrder}
 use Rattle.sight_spec.specs.declared.Sighting.the-variants.{Front, Back, Several, Unknown, Refused}
-use Rattle.sight_spec.specs.Rings.{ringsIn, sightOrder}
 use Rattle.sight_spec.specs.Says.{Alone, Two, None, SeenFront, SeenBack, SightSays}
 
 -- ---- among any readings

@@ -1,9 +1,5 @@
 -- The part of the rings that the code lends is the ring.
-use Prim.Native.Nat.{ℕ, _+_, _-_, _*_}
-use mathlib.Core.Path.{_≡_, refl}
-use mathlib.Core.List.{List}
-use native.Mathlib.Omega.{arith}
-use lib.ListN.{take, drop}
+use Rattle.words.proofs.Plain.{ℕ, _+_, _-_, _*_, arith, _≡_, refl, List, take, drop}
 use Rattle.sight_spec.specs.Rings.{ringAt}
 
 pub part-ring : (rs : List ℕ) (n j at end : ℕ) → at ≡ n * j → end ≡ at + n → take (end - at) (drop at rs) ≡ ringAt n rs j

@@ -1,12 +1,5 @@
 -- The table's 256 entries, and one computed test that carries the rule to each of them.
-use Prim.Native.Nat.{ℕ, _<_}
-use mathlib.Core.Path.{_≡_, refl, _∙_}
-use native.Mathlib.Omega.{arith}
-use mathlib.Core.Bool.{Bool, true}
-use mathlib.Core.List.{List, [], _∷_}
-use lib.Dec.{eqb}
-use lib.ListN.{getD}
-use borrow.Author.Tests.{eqb-true}
+use Rattle.words.proofs.Plain.{ℕ, _<_, arith, _≡_, refl, _∙_, Bool, true, List, [], _∷_, eqb, getD, eqb-true}
 use Rattle.words.specs.Search.{allBelow}
 use Rattle.words.proofs.Search.{all-at}
 use Rattle.rings.specs.Open.{open-all}

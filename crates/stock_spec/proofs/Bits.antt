@@ -4,22 +4,12 @@
 --     bits-of-byte         a reading of 2 shades is kept by its byte
 --     home-kept            so the table's byte is the home reading, with nothing lost
 --     home-d0              the home reading of D0 is 0D (hexadecimal)
-use Prim.Native.Nat.{ℕ, zero, suc, _+_, _*_, _/_, _%_, _^_, _<_, _≤_}
-use mathlib.Core.Path.{_≡_, refl, ap, _∙_}
-use mathlib.Core.List.{List, [], _∷_, _++_}
-use native.Mathlib.Omega.{arith}
+use Rattle.words.proofs.Plain.{ℕ, zero, suc, _+_, _*_, _/_, _%_, _^_, _<_, _≤_, arith, decLt, _≡_, refl, ap, _∙_, List, [], _∷_, _++_, eqb, length, getD, take}
+use Rattle.words.proofs.Plain.{drop, length-append, length-take, length-drop, List·getD-eq-default, getD-take, getD-drop, eqb-true}
 use native.Mathlib.Nat.{mod-lt, mul-add-div-right, mul-add-mod-self-right, pow-succ', mul-assoc, one-le-pow, div-eq-of-lt, mod-eq-of-lt, mul-le-mul-right, add-zero}
-use native.Mathlib.Decide.{decLt}
-use lib.Dec.{eqb}
-use lib.ListN.{length, getD, take, drop, length-append, length-take, length-drop, List·getD-eq-default}
-use lib.Seq.{getD-take, getD-drop}
-use borrow.Author.Tests.{eqb-true}
-use Rattle.words.specs.Readings.{Reading}
-use Rattle.words.specs.Search.{allBelow}
-use Rattle.words.specs.Turn.{turn}
+use Rattle.words.specs.{Readings.Reading, Search.allBelow, Turn.turn}
 use Rattle.words.proofs.Search.{all-at}
-use Rattle.rings.specs.Home.{home, shift}
-use Rattle.rings.specs.Open.{open-all}
+use Rattle.rings.specs.{Home.home, Home.shift, Open.open-all}
 use Rattle.stock_spec.specs.Stock.{bits, bitsOf, byteOfSectors, homeByte}
 
 -- each sector, and what is read past the end, is 0 or 1

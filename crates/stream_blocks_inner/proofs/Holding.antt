@@ -1,17 +1,11 @@
 -- One byte more of a line, by what holding it says.
 --     held-ends    it ends the line, of which nothing was changed
 --     held-kept    it is kept with the line, or passed over
-use Prim.Native.Nat.{ℕ, _≤_}
-use mathlib.Core.Path.{_≡_}
-use mathlib.Core.List.{List}
-use native.Mathlib.Omega.{arith}
-use lib.ListN.{length, take, length-set}
+use Rattle.words.proofs.Plain.{ℕ, _≤_, arith, _≡_, List, length, take, length-set}
 use Rattle.text_spec.specs.Ascii.{newline}
-use Rattle.stream_spec.specs.Texts.{Relation}
-use Rattle.stream_spec.specs.Blocks.{ByteSays}
+use Rattle.stream_spec.specs.{Texts.Relation, Blocks.ByteSays}
 use Rattle.stream_spec.proofs.Taking.{byte-kept, byte-passed}
-use Rattle.stream_steps_inner.specs.declared.Held.{Held}
-use Rattle.stream_steps_inner.specs.declared.Held.the-variants.{Ended, Bytes}
+use Rattle.stream_steps_inner.specs.{declared.Held.Held, declared.Held.the-variants.Ended, declared.Held.the-variants.Bytes}
 use Rattle.stream_steps_inner.specs.Says.{ByteHeld, put, passed, HeldSays}
 
 module _ (c m : ℕ) (w : List ℕ) (r : Held) (w′ : List ℕ) where

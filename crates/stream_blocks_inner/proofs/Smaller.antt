@@ -1,11 +1,6 @@
 -- The smaller of two numbers.
 --     smaller-first, smaller-second, smaller-left, smaller-right    it is one of them, and no greater than either
-use Prim.Native.Nat.{ℕ, _<_, _≤_}
-use mathlib.Core.Path.{_≡_}
-use mathlib.Core.Bool.{true, false}
-use native.Mathlib.Omega.{arith}
-use lib.Dec.{ltb}
-use borrow.Author.Tests.{lt-ltb, le-ltb, ltb-true, ltb-false}
+use Rattle.words.proofs.Plain.{ℕ, _<_, _≤_, arith, _≡_, true, false, ltb, lt-ltb, le-ltb, ltb-true, ltb-false}
 use Rattle.words.proofs.Split.{passes, fails, test}
 use Rattle.stream_blocks_inner.specs.Says.{smaller}
 

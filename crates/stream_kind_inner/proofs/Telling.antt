@@ -1,16 +1,12 @@
 -- Only the first bytes of a line tell what it prints.
 --     said-tells                            by the program
 --     one-said, said-prints, said-anyhow    what an input prints, however it was cut
-use Prim.Native.Nat.{ℕ}
-use mathlib.Core.Path.{_≡_}
-use mathlib.Core.List.{List, []}
+use Rattle.words.proofs.Plain.{ℕ, _≡_, List, []}
 use Rattle.stream_spec.specs.Texts.{Prints, Tells, BlockRun}
-use Rattle.stream_spec.proofs.Unique.{one-prints}
-use Rattle.stream_spec.proofs.Cut.{run-prints, cut-anyhow}
+use Rattle.stream_spec.proofs.{Unique.one-prints, Cut.run-prints, Cut.cut-anyhow}
 use Rattle.report_laws.proofs.Kept.{report-tells}
 use Rattle.desk_inner.proofs.Telling.{desk-tells}
-use Rattle.stream_kind_inner.specs.declared.Kind.{Kind}
-use Rattle.stream_kind_inner.specs.declared.Kind.the-variants.{Count, Desk}
+use Rattle.stream_kind_inner.specs.{declared.Kind.Kind, declared.Kind.the-variants.Count, declared.Kind.the-variants.Desk}
 use Rattle.stream_kind_inner.specs.Says.{Said, mostOf}
 
 pub said-tells : (kind : Kind) → Tells (Said kind) (mostOf kind)

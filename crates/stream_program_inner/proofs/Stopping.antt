@@ -4,21 +4,14 @@
 --     take-room, line-room                                  there is room for the texts of what was read
 --     first-room, first-long                                the first bytes of a buffer, as a block and as a line
 --     got-inside                                            what was read is inside the block
-use Prim.Native.Nat.{ℕ, suc, _+_, _*_, _<_, _≤_}
-use mathlib.Core.Path.{_≡_, refl, sym, ap, _∙_}
-use mathlib.Core.Bool.{Bool, true, false, false≢true}
-use mathlib.Core.List.{List}
-use native.Mathlib.Omega.{arith}
+use Rattle.words.proofs.Plain.{ℕ, suc, _+_, _*_, _<_, _≤_, add-one, arith, _≡_, refl, sym, ap, _∙_, Bool, true, false, false≢true, List, length, take}
+use Rattle.words.proofs.Plain.{length-take}
 use native.Mathlib.Nat.{mul-le-mul-right}
-use native.Mathlib.Numerals.{add-one}
-use lib.ListN.{length, take, length-take}
-use Rattle.program_reading_inner.specs.declared.Got.{Got}
+use Rattle.program_reading_inner.specs.{declared.Got.Got, Says.GotSays}
 use Rattle.program_reading_inner.specs.declared.Got.the-variants.{Bytes, Over, Failed}
-use Rattle.program_reading_inner.specs.Says.{GotSays}
 use Rattle.stream_steps_inner.specs.Says.{GoesOn}
 use Rattle.stream_spec.specs.Blocks.{BlockSays, EndSays}
-use Rattle.stream_kind_inner.specs.declared.Kind.{Kind}
-use Rattle.stream_kind_inner.specs.Says.{Said, mostOf}
+use Rattle.stream_kind_inner.specs.{declared.Kind.Kind, Says.Said, Says.mostOf}
 use Rattle.stream_program_inner.specs.Says.{BehindRead, ReadAnswered, TurnsMade, more}
 
 -- bytes were read, and another turn is made

@@ -3,13 +3,7 @@
 --     ended-append, under-append    two blocks
 --     ended-on, ended-same, under-on, under-same    one byte more behind a block: it ends the line under way, or it is added to it
 --     last-some, last-none          a line under way that has bytes is a line
-use Prim.Native.Nat.{ℕ, _<_}
-use mathlib.Core.Path.{_≡_, refl, ap, _∙_}
-use mathlib.Core.Bool.{true, false}
-use mathlib.Core.List.{List, [], _∷_, _++_, append-nil}
-use native.Mathlib.Omega.{arith}
-use lib.Dec.{eqb}
-use lib.ListN.{length}
+use Rattle.words.proofs.Plain.{ℕ, _<_, arith, _≡_, refl, ap, _∙_, true, false, List, [], _∷_, _++_, append-nil, eqb, length}
 use Rattle.words.proofs.Split.{passes, fails, test}
 use Rattle.text_spec.specs.Ascii.{newline}
 use Rattle.stream_spec.specs.Lines.{ended, under, lastOf}

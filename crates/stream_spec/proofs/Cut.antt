@@ -6,14 +6,8 @@
 --     run-lines       a run prints what the lines from its state on print
 --     run-prints      a run from the start prints what the whole input prints
 --     cut-anyhow      so two runs of one input print the same, whatever blocks they had
-use Prim.Native.Nat.{ℕ, zero, suc, _≤_}
-use mathlib.Core.Path.{_≡_, refl, sym, ap, subst, _∙_}
-use mathlib.Core.Bool.{true, false}
-use mathlib.Core.List.{List, [], _∷_, _++_, append-assoc}
-use native.Mathlib.Omega.{arith}
-use lib.Dec.{eqb}
-use lib.ListN.{length, take, length-take}
-use lib.Seq.{take-take}
+use Rattle.words.proofs.Plain.{ℕ, zero, suc, _≤_, arith, _≡_, refl, sym, ap, subst, _∙_, true, false, List, [], _∷_, _++_, append-assoc, eqb, length, take}
+use Rattle.words.proofs.Plain.{length-take, take-take}
 use Rattle.words.proofs.Split.{passes, fails, test}
 use Rattle.text_spec.specs.Ascii.{newline}
 use Rattle.stream_spec.specs.Lines.{ended, under, lastOf, linesFrom, lines}

@@ -2,13 +2,7 @@
 --     ended-count    as many lines end in it as it has newlines, whatever line was under way
 --     open-last      a line is under way behind it exactly where bytes follow its last newline
 --     lines-count    so there are as many lines as newlines, and one more where bytes follow the last
-use Prim.Native.Nat.{ℕ, _+_}
-use mathlib.Core.Path.{_≡_, refl}
-use mathlib.Core.Bool.{true, false}
-use mathlib.Core.List.{List, [], _∷_, _++_}
-use native.Mathlib.Omega.{arith}
-use lib.Dec.{eqb}
-use lib.ListN.{length, length-append}
+use Rattle.words.proofs.Plain.{ℕ, _+_, arith, _≡_, refl, true, false, List, [], _∷_, _++_, eqb, length, length-append}
 use Rattle.words.specs.Readings.{bit}
 use Rattle.words.proofs.Split.{passes, fails, test}
 use Rattle.text_spec.specs.Ascii.{newline}

@@ -1,7 +1,5 @@
 -- The lines of small inputs, worked out by hand.
-use mathlib.Core.Path.{_≡_, refl}
-use mathlib.Core.List.{List, [], _∷_, _++_}
-use Prim.Native.Nat.{ℕ}
+use Rattle.words.proofs.Plain.{ℕ, _≡_, refl, List, [], _∷_, _++_}
 use Rattle.text_spec.specs.Ascii.{ascii}
 use Rattle.stream_spec.specs.Lines.{ended, under, lastOf, linesFrom, lines}
 

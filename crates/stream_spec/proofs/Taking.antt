@@ -6,25 +6,16 @@
 --     taking-end                 the end of the block
 --     end-none, end-some         the end of the input
 --     blocks-run, end-run        so blocks that are taken are a run
-use Prim.Native.Nat.{ℕ, zero, suc, _+_, _*_, _<_, _≤_}
-use mathlib.Core.Path.{_≡_, refl, sym, ap, subst, _∙_}
-use mathlib.Core.Bool.{true, false}
-use mathlib.Core.List.{List, [], _∷_, _++_}
-use native.Mathlib.Omega.{arith}
+use Rattle.words.proofs.Plain.{ℕ, zero, suc, _+_, _*_, _<_, _≤_, add-one, arith, _≡_, refl, sym, ap, subst, _∙_, true, false, List, [], _∷_, _++_, eqb, length}
+use Rattle.words.proofs.Plain.{getD, take, drop, set, length-append, length-take, length-drop, length-set, take-suc, take-suc-set, take-all, take-take, take-at}
+use Rattle.words.proofs.Plain.{sets-eq, drop-append-add, drop-drop, eq-eqb, ne-eqb}
 use native.Mathlib.Nat.{suc-mul, mul-le-mul-right}
-use native.Mathlib.Numerals.{add-one}
-use lib.Dec.{eqb}
-use lib.ListN.{length, getD, take, drop, set, length-append, length-take, length-drop, length-set}
-use lib.Seq.{take-suc, take-suc-set, take-all, take-take, take-at, sets-eq, drop-append-add, drop-drop}
-use borrow.Author.Tests.{eq-eqb, ne-eqb}
-use Rattle.text_spec.specs.Ascii.{newline}
-use Rattle.text_spec.specs.Put.{Placed}
+use Rattle.text_spec.specs.{Ascii.newline, Put.Placed}
 use Rattle.stream_spec.specs.Lines.{ended, under, lastOf}
 use Rattle.stream_spec.specs.Texts.{Relation, Texts, done, Tells, BlockRun, over, block}
 use Rattle.stream_spec.specs.Blocks.{Puts, ByteSays, ends, kept, BlockSays, EndSays}
 use Rattle.stream_spec.proofs.Bytes.{ended-none, under-none, ended-on, ended-same, under-on, under-same, last-some, last-none}
-use Rattle.stream_spec.proofs.Unique.{texts-append, texts-one}
-use Rattle.stream_spec.proofs.Cut.{kept-on}
+use Rattle.stream_spec.proofs.{Unique.texts-append, Unique.texts-one, Cut.kept-on}
 
 -- ---- one byte of a line of which `len` bytes are held in a slice of `most`
 

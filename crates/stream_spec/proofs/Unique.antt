@@ -3,9 +3,7 @@
 --     one-prints     an input
 --     texts-append   what two groups of lines print
 --     texts-one      what one line prints
-use Prim.Native.Nat.{ℕ}
-use mathlib.Core.Path.{_≡_, refl, sym, ap, subst, _∙_}
-use mathlib.Core.List.{List, [], _∷_, _++_, append-assoc, append-nil}
+use Rattle.words.proofs.Plain.{ℕ, _≡_, refl, sym, ap, subst, _∙_, List, [], _∷_, _++_, append-assoc, append-nil}
 use Rattle.stream_spec.specs.Lines.{lines}
 use Rattle.stream_spec.specs.Texts.{Relation, Texts, done, more, Prints}
 

@@ -3,12 +3,7 @@
 --     ended-whole                 with their newlines, and with what is under way behind them, they are the input
 --     cut-is                      so `ended` and `under` cut the input as `Cuts` says
 --     cut-one                     and nothing else does
-use Prim.Native.Nat.{ℕ}
-use mathlib.Core.Path.{_≡_, refl, sym, ap, _∙_}
-use mathlib.Core.Bool.{true, false}
-use mathlib.Core.List.{List, [], _∷_, _++_, append-assoc, append-nil}
-use lib.Dec.{eqb}
-use borrow.Author.Tests.{eq-eqb, ne-eqb, eqb-true, eqb-false}
+use Rattle.words.proofs.Plain.{ℕ, _≡_, refl, sym, ap, _∙_, true, false, List, [], _∷_, _++_, append-assoc, append-nil, eqb, eq-eqb, ne-eqb, eqb-true, eqb-false}
 use Rattle.words.proofs.Split.{passes, fails, test}
 use Rattle.text_spec.specs.Ascii.{newline}
 use Rattle.stream_spec.specs.Lines.{ended, under, Plain, none, also, Plains, nones, alsos, closed, Cuts}

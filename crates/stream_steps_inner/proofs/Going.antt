@@ -1,12 +1,7 @@
 -- Whether another read follows.
 --     goes-unwritten, goes-over, goes-failed, goes-bytes    by what a read gave, and whether its texts were written
 --     goes-less                                             where it goes on, another read can be counted
-use Prim.Native.Nat.{ℕ, _<_}
-use mathlib.Core.Path.{_≡_, refl, sym}
-use mathlib.Core.Bool.{Bool, true, false, false≢true}
-use native.Mathlib.Omega.{arith}
-use lib.Dec.{ltb}
-use borrow.Author.Tests.{ltb-true, ltb-false}
+use Rattle.words.proofs.Plain.{ℕ, _<_, arith, _≡_, refl, sym, Bool, true, false, false≢true, ltb, ltb-true, ltb-false}
 use Rattle.words.proofs.Split.{passes, fails, test}
 use Rattle.program_reading_inner.specs.declared.Got.{Got}
 use Rattle.program_reading_inner.specs.declared.Got.the-variants.{Bytes, Over, Failed}

@@ -3,22 +3,15 @@
 --     written-long      what is written has k ^ n sectors
 --     written-once      each reading of n and k stands at exactly one place of it
 --     written-told      n neighbouring sectors of it, round its end too, tell their place: no other answer fits
-use Prim.Native.Nat.{ℕ, _^_, _<_, _≤_}
-use mathlib.Core.Path.{_≡_, refl, sym, subst}
-use mathlib.Core.List.{List}
-use native.Mathlib.Omega.{arith}
-use lib.ListN.{length}
+use Rattle.words.proofs.Plain.{ℕ, _^_, _<_, _≤_, arith, _≡_, refl, sym, subst, List, length}
 use Rattle.words.specs.Readings.{Reading}
 use Rattle.limits_spec.specs.Limits.{Listable}
-use Rattle.strip_spec.specs.Strip.{strip}
+use Rattle.strip_spec.specs.{Strip.strip, declared.Written.Written, declared.Position.Position, Says.StripSays, Says.PlaceSays}
 use Rattle.strip_spec.specs.Places.{window, OnceEach, OnePlace}
 use Rattle.strip_laws.proofs.Pieces.{length-strip, strip-shades}
 use Rattle.strip_laws.proofs.Once.{window-reading, once, window-place}
-use Rattle.strip_spec.specs.declared.Written.{Written}
 use Rattle.strip_spec.specs.declared.Written.the-variants as W
-use Rattle.strip_spec.specs.declared.Position.{Position}
 use Rattle.strip_spec.specs.declared.Position.the-variants as P
-use Rattle.strip_spec.specs.Says.{StripSays, PlaceSays}
 use Rattle.strip_spec.proofs.Unique.{never-refused, one-telling}
 use Rattle.strip.proofs.Telling.{reading-passed}
 

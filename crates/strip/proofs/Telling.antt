@@ -2,22 +2,12 @@
 --     passed-reading, reading-passed    a reading that passed 1, 2, 3 is one of n and k, and the other way
 --     passed-listable                   and where k ^ n is not above 4096 its strip can be written
 --     place-asked                       so that what `place_in` asks of the strip and the reading holds
-use Prim.Native.Nat.{ℕ, _^_, _<_, _≤_}
-use mathlib.Core.Path.{_≡_, refl, sym, subst, _∙_}
-use mathlib.Core.Bool.{false}
-use mathlib.Core.List.{List, _++_}
-use native.Mathlib.Omega.{arith}
-use lib.ListN.{length, getD, take}
-use lib.Dec.{ltb}
-use borrow.Author.Tests.{ltb-false}
+use Rattle.words.proofs.Plain.{ℕ, _^_, _<_, _≤_, arith, _≡_, refl, sym, subst, _∙_, false, List, _++_, ltb, length, getD, take, ltb-false}
 use Rattle.words.specs.Readings.{Sized, Shaded, Reading}
-use Rattle.refusal.specs.Order.{Passed}
-use Rattle.refusal.specs.Calls.{oneReading}
+use Rattle.refusal.specs.{Order.Passed, Calls.oneReading}
 use Rattle.limits_spec.specs.Limits.{Listable}
-use Rattle.strip_spec.specs.Strip.{strip}
-use Rattle.strip_spec.specs.Places.{OnePlace}
-use Rattle.strip_laws.proofs.Pieces.{length-strip}
-use Rattle.strip_laws.proofs.Once.{one-place}
+use Rattle.strip_spec.specs.{Strip.strip, Places.OnePlace}
+use Rattle.strip_laws.proofs.{Pieces.length-strip, Once.one-place}
 
 pub passed-reading : (w : List ℕ) (k : ℕ) → Passed (oneReading w k) → Reading (length w) k w
 passed-reading w k p = record { long = refl; shades = p .0 .0 .0 .1 }

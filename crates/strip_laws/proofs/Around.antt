@@ -7,16 +7,9 @@
 --     Tail n t x s K                s is the strip of K sectors from the necklace x on; begins: it begins with x; ends: its last n sectors are t
 --     Found n t x s K w             w stands in the strip from x on, or round its end; seam, keep, new, new-last: what is found from y on, and the turns of x
 --     settle         each turn of x is a turn by some j in its last copy
-use Prim.Native.Nat.{ℕ, zero, suc, _+_, _-_, _≤_, _<_}
-use mathlib.Core.Path.{_≡_, refl, sym, _∙_}
-use mathlib.Core.Bool.{true, false}
-use native.Mathlib.Omega.{arith}
-use native.Mathlib.Decide.{decLt}
-use lib.Dec.{ltb}
-use borrow.Author.Tests.{lt-ltb, le-ltb}
+use Rattle.words.proofs.Plain.{ℕ, zero, suc, _+_, _-_, _≤_, _<_, arith, decLt, _≡_, refl, sym, _∙_, true, false, ltb, lt-ltb, le-ltb}
 use Rattle.words.proofs.Sequence.{from, Less, Cmp, below, alike, above, cmp, widen, place}
-use Rattle.ring_laws.proofs.Run.{Pre, Lyn}
-use Rattle.ring_laws.proofs.Repeat.{Turned}
+use Rattle.ring_laws.proofs.{Run.Pre, Run.Lyn, Repeat.Turned}
 
 -- the first q of x, then only t
 pub record Lifted (t n : ℕ) (x : ℕ → ℕ) (q : ℕ) (g : ℕ → ℕ) : Type 0 where

@@ -3,30 +3,16 @@
 --     link                   what Around uses of a necklace and the next one
 --     Built n t z x s        s is the strip from the necklace x on, and each turn of each necklace from x on, but for the last, is found in it
 --     join, finish, build    a necklace in front; the last but one; the whole walk
-use Prim.Native.Nat.{ℕ, suc, _+_, _-_, _≤_, _<_}
-use mathlib.Core.Path.{_≡_, refl, sym, ap, _∙_}
-use mathlib.Core.Bool.{true}
-use mathlib.Core.Option.{none, some}
-use mathlib.Core.List.{List, [], _∷_, _++_, map}
-use native.Mathlib.Omega.{arith}
-use native.Mathlib.Decide.{decLt}
-use lib.ListN.{length, length-append, List·getD-append}
-use lib.Seq.{getD-take, getD-append-add}
-use Rattle.words.specs.Search.{tab}
-use Rattle.words.specs.Order.{before, upTo}
-use Rattle.words.specs.Readings.{Reading}
-use Rattle.words.proofs.Split.{both, clash}
-use Rattle.words.proofs.Search.{length-tab, getD-tab}
+use Rattle.words.proofs.Plain.{ℕ, suc, _+_, _-_, _≤_, _<_, arith, decLt, _≡_, refl, sym, ap, _∙_, true, none, some, List, [], _∷_, _++_, map, length}
+use Rattle.words.proofs.Plain.{length-append, List·getD-append, getD-take, getD-append-add}
+use Rattle.words.specs.{Search.tab, Order.before, Order.upTo, Readings.Reading}
+use Rattle.words.proofs.{Split.both, Split.clash, Search.length-tab, Search.getD-tab, Readings.nothing-first}
 use Rattle.words.proofs.Sequence.{sec, Less, recast, place}
 use Rattle.words.proofs.Lex.{ahead, equal, behind, lex, before-less, less-before, before-not-upTo, upTo-not-before}
-use Rattle.words.proofs.Readings.{nothing-first}
 use Rattle.rings.specs.Necklace.{necklace, period}
 use Rattle.rings.specs.Steps.{aboveOf, nextOf, FullWalk, done, step}
-use Rattle.ring_laws.proofs.Run.{Lyn, lyn-through}
-use Rattle.ring_laws.proofs.Repeat.{Turned, Neck}
+use Rattle.ring_laws.proofs.{Run.Lyn, Run.lyn-through, Repeat.Turned, Repeat.Neck, Lyndon.lyndon-of, Classes.lyndon-necklace}
 use Rattle.ring_laws.proofs.Words.{pre-of, of-neck, necklace-prenecklace}
-use Rattle.ring_laws.proofs.Lyndon.{lyndon-of}
-use Rattle.ring_laws.proofs.Classes.{lyndon-necklace}
 use Rattle.ring_laws.proofs.FullWalk.{next-facts}
 use Rattle.ring_home_laws.proofs.Period.{period-pos, period-le}
 use Rattle.ring_total_laws.proofs.OneRing.{Ring}

@@ -2,32 +2,17 @@
 --     whole     the whole strip is built
 --     found     each reading stands inside the strip or round its end
 --     placed    so it is a window of it
-use Prim.Native.Nat.{ℕ, suc, _+_, _-_, _%_, _≤_, _<_}
-use mathlib.Core.Path.{_≡_, refl, sym, ap, subst, _∙_}
-use mathlib.Core.Bool.{true}
-use mathlib.Core.List.{List}
-use native.Mathlib.Omega.{arith}
-use native.Mathlib.Decide.{decLt}
+use Rattle.words.proofs.Plain.{ℕ, suc, _+_, _-_, _%_, _≤_, _<_, arith, decLt, _≡_, refl, sym, ap, subst, _∙_, true, List, length, getD, ext-getD}
 use native.Mathlib.Nat.{mod-eq-of-lt, add-mod-left}
-use lib.ListN.{length, getD}
-use lib.Seq.{ext-getD}
-use Rattle.words.specs.Search.{tab}
-use Rattle.words.specs.Order.{upTo}
-use Rattle.words.specs.Turn.{turn}
-use Rattle.words.specs.Readings.{Reading}
-use Rattle.words.proofs.Search.{length-tab, getD-tab}
-use Rattle.words.proofs.Sequence.{sec}
-use Rattle.words.proofs.Lex.{not-less-upTo}
-use Rattle.rings.specs.Necklace.{necklace, period}
-use Rattle.rings.specs.Home.{home}
-use Rattle.ring_laws.proofs.Repeat.{Turned}
-use Rattle.ring_laws.proofs.Words.{turned}
+use Rattle.words.specs.{Search.tab, Order.upTo, Turn.turn, Readings.Reading}
+use Rattle.words.proofs.{Search.length-tab, Search.getD-tab, Sequence.sec, Lex.not-less-upTo}
+use Rattle.rings.specs.{Necklace.necklace, Necklace.period, Home.home}
+use Rattle.ring_laws.proofs.{Repeat.Turned, Words.turned}
 use Rattle.ring_laws.proofs.FullWalk.{zeros, zeros-at, zeros-reading, zeros-necklace, length-zeros, walk-exists}
 use Rattle.ring_home_laws.proofs.Period.{period-pos, period-le}
 use Rattle.ring_home_laws.proofs.Home.{home-reading, home-necklace, home-home, one-home-turn}
 use Rattle.ring_total_laws.proofs.OneRing.{Ring}
-use Rattle.strip_spec.specs.Strip.{strip}
-use Rattle.strip_spec.specs.Places.{window}
+use Rattle.strip_spec.specs.{Strip.strip, Places.window}
 use Rattle.strip_laws.proofs.Around.{Found, begins, ends, settle}
 use Rattle.strip_laws.proofs.Pieces.{period-round, strip-walk}
 use Rattle.strip_laws.proofs.Built.{only-top, Built, build}

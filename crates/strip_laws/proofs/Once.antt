@@ -4,26 +4,19 @@
 --     once               each reading of n and k stands at exactly one place of the strip
 --     one-place          that place, and no other
 --     window-place       n neighbouring sectors tell their place
-use Prim.Native.Nat.{ℕ, zero, suc, _+_, _%_, _^_, _≤_, _<_}
-use mathlib.Core.Path.{_≡_, refl, sym, ap, subst, _∙_}
-use mathlib.Core.Bool.{Bool, true}
-use mathlib.Core.List.{List, [], _∷_}
-use native.Mathlib.Omega.{arith}
+use Rattle.words.proofs.Plain.{ℕ, zero, suc, _+_, _%_, _^_, _≤_, _<_, arith, _≡_, refl, sym, ap, subst, _∙_, Bool, true, List, [], _∷_, length, getD}
 use native.Mathlib.Nat.{mul-one, mod-lt}
-use lib.ListN.{length, getD}
 use Rattle.words.specs.Order.{same}
 use Rattle.words.specs.Readings.{Reading, readings, bit, total, count}
 use Rattle.words.proofs.Split.{lt, eq, gt, tri}
-use Rattle.words.proofs.Search.{length-tab, getD-tab}
-use Rattle.words.proofs.Lex.{true-same}
+use Rattle.words.proofs.{Search.length-tab, Search.getD-tab, Lex.true-same}
 use Rattle.words.proofs.Readings.{All, nothing, also, all-weaken, readings-all, each-reading}
 use Rattle.words.proofs.Count.{sumBelow, sum-cong, count-one}
 use Rattle.ring_total_laws.proofs.Totals.{below-const, total-below, readings-size}
 use Rattle.strip_spec.specs.Strip.{strip}
 use Rattle.word_list_spec.specs.Passing.{countBelow}
 use Rattle.strip_spec.specs.Places.{window, occurrences, OnceEach, OnePlace}
-use Rattle.strip_laws.proofs.Pieces.{length-strip, strip-shades}
-use Rattle.strip_laws.proofs.Found.{placed}
+use Rattle.strip_laws.proofs.{Pieces.length-strip, Pieces.strip-shades, Found.placed}
 
 -- ---- sums and totals that are as small as they can be
 

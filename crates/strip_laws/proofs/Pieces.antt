@@ -4,30 +4,19 @@
 --     roots-rise                    of two necklaces, the greater has the greater root (a beginning comes first)
 --     words-are-roots, strip-walk   the strip's words are the roots of the walk's necklaces, so the strip is these roots, joined
 --     length-strip, strip-shades    it has k ^ n sectors, each a shade; for every n and k of at least 1
-use Prim.Native.Nat.{ℕ, zero, suc, _+_, _^_, _≤_, _<_, _∣_}
-use mathlib.Core.Path.{_≡_, refl, sym, ap, subst, _∙_}
-use mathlib.Core.Bool.{true}
-use mathlib.Core.Option.{none, some}
-use mathlib.Core.List.{List, [], _∷_, _++_, map, append-assoc, map-append}
-use native.Mathlib.Omega.{arith}
+use Rattle.words.proofs.Plain.{ℕ, zero, suc, _+_, _^_, _≤_, _<_, _∣_, arith, _≡_, refl, sym, ap, subst, _∙_, true, none, some, List, [], _∷_, _++_, map}
+use Rattle.words.proofs.Plain.{append-assoc, map-append, eqb, length, getD, take, length-append, getD-take, length-take-le, eq-eqb, eqb-true}
 use native.Mathlib.Nat.{dvd-of-mod-eq-zero, le-of-dvd}
-use lib.ListN.{length, getD, take, length-append}
-use lib.Seq.{getD-take, length-take-le}
-use lib.Dec.{eqb}
-use borrow.Author.Tests.{eq-eqb, eqb-true}
-use Rattle.words.specs.Order.{before}
-use Rattle.words.specs.Readings.{Reading, total}
+use Rattle.words.specs.{Order.before, Readings.Reading, Readings.total}
 use Rattle.words.proofs.Split.{both, both-left, both-right}
-use Rattle.words.proofs.Sequence.{sec, Less}
+use Rattle.words.proofs.{Sequence.sec, Sequence.Less, Count.total-cong, Count.total-map}
 use Rattle.words.proofs.Lex.{before-less, before-lt, before-eq}
 use Rattle.words.proofs.Readings.{All, nothing, also, all-weaken, all-map, all-left, all-right, Increasing, empty, more}
-use Rattle.words.proofs.Count.{total-cong, total-map}
 use Rattle.rings.specs.Necklace.{necklace, period, lyndon}
 use Rattle.rings.specs.Next.{repeated}
 use Rattle.rings.specs.Steps.{nextOf, FullWalk, done, step}
-use Rattle.ring_laws.proofs.Repeat.{Turned}
+use Rattle.ring_laws.proofs.{Repeat.Turned, Lyndon.lyndon-pos}
 use Rattle.ring_laws.proofs.Words.{pre-of, turned, necklace-prenecklace}
-use Rattle.ring_laws.proofs.Lyndon.{lyndon-pos}
 use Rattle.ring_laws.proofs.FullWalk.{zeros, zeros-reading, zeros-necklace, next-facts, walk-exists, walk-increasing}
 use Rattle.ring_home_laws.proofs.Period.{period-pos, period-le, period-divides, period-turn}
 use Rattle.ring_total_laws.proofs.OneRing.{Ring, walk-rings, walk-all, period-sum}

@@ -5,13 +5,8 @@
 --     standing-room           and has room there
 --     standing-next           the next necklace goes behind it
 --     standing-done           where there is none the strip is full
-use Prim.Native.Nat.{ℕ, _+_, _≤_, _<_}
-use mathlib.Core.Path.{_≡_, refl, sym, ap, _∙_}
-use mathlib.Core.Option.{none, some}
-use mathlib.Core.List.{List, [], _∷_, _++_, map, append-assoc, map-append}
-use native.Mathlib.Omega.{arith}
-use lib.ListN.{length, getD, length-append}
-use lib.Seq.{getD-take}
+use Rattle.words.proofs.Plain.{ℕ, _+_, _≤_, _<_, arith, _≡_, refl, sym, ap, _∙_, none, some, List, [], _∷_, _++_, map, append-assoc, map-append, length, getD}
+use Rattle.words.proofs.Plain.{length-append, getD-take}
 use Rattle.rings.specs.Necklace.{necklace, period}
 use Rattle.rings.specs.Steps.{nextOf, FullWalk, done, step}
 use Rattle.ring_laws.proofs.FullWalk.{zeros, zeros-reading, zeros-necklace, next-facts, walk-exists}

@@ -4,15 +4,8 @@
 --     agrees-all, agrees-not                 all of them, so that w stands there; one that does not
 --     Passed s w p                           w stands at no place before p
 --     passed-more, passed-hit, passed-all    one place more; w stands there; there is no place left
-use Prim.Native.Nat.{ℕ, _+_, _%_, _≤_, _<_}
-use mathlib.Core.Path.{_≡_, refl, sym, ap, _∙_}
-use mathlib.Core.Bool.{true, false}
-use mathlib.Core.List.{List}
-use native.Mathlib.Omega.{arith}
-use lib.ListN.{length, getD}
-use lib.Seq.{ext-getD}
-use Rattle.words.specs.Search.{tab}
-use Rattle.words.specs.Order.{same}
+use Rattle.words.proofs.Plain.{ℕ, _+_, _%_, _≤_, _<_, arith, _≡_, refl, sym, ap, _∙_, true, false, List, length, getD, ext-getD}
+use Rattle.words.specs.{Search.tab, Order.same}
 use Rattle.words.proofs.Split.{lt, eq, gt, tri, clash}
 use Rattle.words.proofs.Search.{length-tab, getD-tab}
 use Rattle.words.proofs.Lex.{same-true, true-same, same-false}
@@ -30,15 +23,13 @@ module _ (s : List ℕ) (p : ℕ) (w : List ℕ) where
   unfolding window
   agrees-all i b a =
       let long = length-tab (length w) (λ h. getD s ((p + h) % length s) 0) in
-      sym
-      (true-same (tab (length w) (λ h. getD s ((p + h) % length s) 0)) w
+      sym (true-same (tab (length w) (λ h. getD s ((p + h) % length s) 0)) w
       (ext-getD 0 (tab (length w) (λ h. getD s ((p + h) % length s) 0)) w long (λ j h. getD-tab (length w) (λ h. getD s ((p + h) % length s) 0) j 0 (omega (arith, long)) ∙ a j (omega (arith, long)))))
 
   pub agrees-not : (i : ℕ) → i < length w → (getD s ((p + i) % length s) 0 ≡ getD w i 0 → ⊥) → false ≡ same (window (length w) s p) w
   unfolding window
   agrees-not i b f =
-      sym
-      (same-false (tab (length w) (λ h. getD s ((p + h) % length s) 0)) w
+      sym (same-false (tab (length w) (λ h. getD s ((p + h) % length s) 0)) w
       (λ e. f (sym (getD-tab (length w) (λ h. getD s ((p + h) % length s) 0) i 0 b) ∙ ap (λ (u : List ℕ). getD u i 0) e)))
 
 module _ (s w : List ℕ) where

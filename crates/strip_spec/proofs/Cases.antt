@@ -1,13 +1,10 @@
 -- Strips worked out by hand (02, request l), proved of the definitions themselves: one table, one claim. A row's words are decimal numerals with the number of
 -- their sectors before them, as in the table of `rings`. The first two rows are the request's.
-use Prim.Native.Nat.{ℕ, _^_}
-use mathlib.Core.Path.{_≡_, refl}
-use mathlib.Core.List.{List, [], _∷_}
+use Rattle.words.proofs.Plain.{ℕ, _^_, _≡_, refl, List, [], _∷_}
 use Rattle.words.specs.Table.{Hold}
 use Rattle.rings.proofs.Cases.{digits, ring}
 use Rattle.strip_spec.specs.Strip.{dictionary, stripWords, strip}
-use Rattle.strip_spec.specs.Places.{window, occurrences}
-use Rattle.strip_spec.specs.Open.{open-strips}
+use Rattle.strip_spec.specs.{Places.window, Places.occurrences, Open.open-strips}
 
 -- the shapes of a row
 pub data Case : Type 0 where

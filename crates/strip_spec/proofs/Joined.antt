@@ -2,12 +2,8 @@
 --     joined-append, length-joined    a list in two parts; how many sectors there are
 --     joined-at                       a word stands where the ones before it end
 --     joined-shades                   each sector is a shade
-use Prim.Native.Nat.{ℕ, _+_, _-_, _≤_, _<_}
-use mathlib.Core.Path.{_≡_, refl, sym, ap, _∙_}
-use mathlib.Core.List.{List, [], _∷_, _++_, append-assoc}
-use native.Mathlib.Omega.{arith}
-use lib.ListN.{length, getD, length-append, List·getD-append}
-use lib.Seq.{getD-append-add}
+use Rattle.words.proofs.Plain.{ℕ, _+_, _-_, _≤_, _<_, arith, _≡_, refl, sym, ap, _∙_, List, [], _∷_, _++_, append-assoc, length, getD, length-append}
+use Rattle.words.proofs.Plain.{List·getD-append, getD-append-add}
 use Rattle.words.specs.Readings.{Reading, total}
 use Rattle.words.proofs.Split.{lt, eq, gt, tri}
 use Rattle.words.proofs.Readings.{All, nothing, also}

@@ -2,13 +2,8 @@
 --     In v ws                                      v is a word of the list
 --     in-all, in-left, in-right, in-map, in-count  its laws
 --     one-list                                     two increasing lists with the same words are one list
-use Prim.Native.Nat.{ℕ, _<_}
-use mathlib.Core.Path.{_≡_, refl, sym, ap}
-use mathlib.Core.Bool.{true}
-use mathlib.Core.List.{List, [], _∷_, _++_, map}
-use native.Mathlib.Omega.{arith}
-use Rattle.words.specs.Order.{before, same}
-use Rattle.words.specs.Readings.{total, count}
+use Rattle.words.proofs.Plain.{ℕ, _<_, arith, _≡_, refl, sym, ap, true, List, [], _∷_, _++_, map}
+use Rattle.words.specs.{Order.before, Order.same, Readings.total, Readings.count}
 use Rattle.words.proofs.Split.{passes, fails, test, clash}
 use Rattle.words.proofs.Lex.{before-asym, before-irrefl, same-true}
 use Rattle.words.proofs.Readings.{All, nothing, also, Increasing, empty, more}

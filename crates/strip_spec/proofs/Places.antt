@@ -1,7 +1,5 @@
 -- A reading that stands at one place of a strip has no other.
-use Prim.Native.Nat.{ℕ}
-use mathlib.Core.Path.{_≡_}
-use mathlib.Core.List.{List}
+use Rattle.words.proofs.Plain.{ℕ, _≡_, List}
 use Rattle.strip_spec.specs.Places.{OnePlace}
 
 pub places-one : (s w : List ℕ) (p q : ℕ) → OnePlace s w p → OnePlace s w q → p ≡ q

@@ -2,20 +2,14 @@
 --     never-refused   a strip that can be written is not refused
 --     one-writing     two answers to one writing are one, and so are the outputs
 --     one-telling     two answers to one reading are one
-use Prim.Native.Nat.{ℕ, _^_}
-use mathlib.Core.Path.{_≡_, refl, sym, ap, _∙_}
-use mathlib.Core.List.{List}
-use lib.ListN.{length}
-use Rattle.refusal.specs.declared.Refusal.{Refusal}
-use Rattle.refusal.specs.Order.{Given}
+use Rattle.words.proofs.Plain.{ℕ, _^_, _≡_, refl, sym, ap, _∙_, List, length}
+use Rattle.refusal.specs.{declared.Refusal.Refusal, Order.Given}
 use Rattle.refusal.proofs.Unique.{one-refusal, never-both}
 use Rattle.limits_spec.specs.Limits.{Listable}
 use Rattle.limits_spec.proofs.Unique.{listable-passed}
-use Rattle.strip_spec.specs.Strip.{strip}
+use Rattle.strip_spec.specs.{Strip.strip, declared.Written.Written, declared.Position.Position}
 use Rattle.strip_spec.proofs.Places.{places-one}
-use Rattle.strip_spec.specs.declared.Written.{Written}
 use Rattle.strip_spec.specs.declared.Written.the-variants as W
-use Rattle.strip_spec.specs.declared.Position.{Position}
 use Rattle.strip_spec.specs.declared.Position.the-variants as P
 use Rattle.strip_spec.specs.Says.{stripOrder, StripSays, placeOrder, PlaceSays}
 

@@ -2,17 +2,9 @@
 --     dictionary-all, dictionary-in, dictionary-increasing    the dictionary holds words of at most n sectors and of k shades, each of them, in increasing order
 --     kept-in                                                 what passes of a list is kept
 --     words-only, words-each, words-increasing                the same of the strip's words
-use Prim.Native.Nat.{ℕ, zero, suc, _%_, _≤_, _<_, _∣_}
-use mathlib.Core.Path.{_≡_, refl, sym, ap, _∙_}
-use mathlib.Core.Bool.{Bool, true}
-use mathlib.Core.List.{List, [], _∷_, map}
-use native.Mathlib.Omega.{arith}
+use Rattle.words.proofs.Plain.{ℕ, zero, suc, _%_, _≤_, _<_, _∣_, arith, _≡_, refl, sym, ap, _∙_, Bool, true, List, [], _∷_, map, eqb, length, eq-eqb, eqb-true}
 use native.Mathlib.Nat.{le-of-dvd, mod-eq-zero-of-dvd, dvd-of-mod-eq-zero}
-use lib.ListN.{length}
-use lib.Dec.{eqb}
-use borrow.Author.Tests.{eq-eqb, eqb-true}
-use Rattle.words.specs.Order.{before}
-use Rattle.words.specs.Readings.{Reading, fan}
+use Rattle.words.specs.{Order.before, Readings.Reading, Readings.fan}
 use Rattle.words.proofs.Split.{passes, fails, test, lt, eq, gt, tri, both, both-left, both-right}
 use Rattle.words.proofs.Readings.{All, nothing, also, all-of-each, all-weaken, Increasing, empty, more, increasing-fan, fan-all, reading-cons, reading-rest}
 use Rattle.word_list_spec.specs.Passing.{kept}

@@ -1,12 +1,7 @@
 -- One word laid down, sector after sector.
 --     laid-none    none yet
 --     laid-more    one sector more
-use Prim.Native.Nat.{ℕ, _+_, _<_}
-use mathlib.Core.Path.{_≡_, refl, sym, ap, _∙_}
-use mathlib.Core.List.{List}
-use native.Mathlib.Omega.{arith}
-use lib.ListN.{length, getD, set, length-set}
-use lib.Seq.{getD-set-same, getD-set-other}
+use Rattle.words.proofs.Plain.{ℕ, _+_, _<_, arith, _≡_, refl, sym, ap, _∙_, List, length, getD, set, length-set, getD-set-same, getD-set-other}
 use Rattle.words.proofs.Split.{lt, eq, gt, tri}
 use Rattle.strip_write_inner.specs.Laying.{LaidDown}
 

@@ -4,29 +4,16 @@
 --     writing-start, writing-width, writing-room        at the all-zero ring; the ring's length; the room that is left
 --     writing-on, writing-end                           one necklace further; behind the last
 --     zeros-asked, zeros-long                           the first n of 64 zeros are the all-zero ring
-use Prim.Native.Nat.{ℕ, zero, suc, _+_, _-_, _^_, _≤_, _<_}
-use mathlib.Core.Path.{_≡_, refl, sym, ap, subst, _∙_}
-use mathlib.Core.Bool.{true}
-use mathlib.Core.Option.{none, some}
-use mathlib.Core.List.{List, _∷_}
-use native.Mathlib.Omega.{arith}
-use native.Mathlib.Decide.{decLt}
+use Rattle.words.proofs.Plain.{ℕ, zero, suc, _+_, _-_, _^_, _≤_, _<_, arith, decLt, _≡_, refl, sym, ap, subst, _∙_, true, none, some, List, _∷_, length, getD}
+use Rattle.words.proofs.Plain.{take, replicate, ext-getD}
 use native.Mathlib.Nat.{mod-one}
-use lib.ListN.{length, getD, take, replicate}
-use lib.Seq.{ext-getD}
 use Rattle.words.specs.Readings.{Reading}
 use Rattle.words.proofs.Sequence.{sec}
-use Rattle.rings.specs.Necklace.{necklace, period}
-use Rattle.rings.specs.Prenecklace.{lyn}
-use Rattle.rings.specs.Steps.{nextOf}
-use Rattle.ring_laws.proofs.Run.{Run}
-use Rattle.ring_laws.proofs.Words.{necklace-prenecklace}
-use Rattle.ring_laws.proofs.Lyndon.{period-run}
-use Rattle.ring_laws.proofs.Classes.{period-lyn}
+use Rattle.rings.specs.{Necklace.necklace, Necklace.period, Prenecklace.lyn, Steps.nextOf}
+use Rattle.ring_laws.proofs.{Run.Run, Words.necklace-prenecklace, Lyndon.period-run, Classes.period-lyn}
 use Rattle.ring_laws.proofs.FullWalk.{zeros, zeros-at, length-zeros, zeros-reading, zeros-prenecklace, next-facts}
 use Rattle.ring_home_laws.proofs.Period.{period-pos, period-le}
-use Rattle.walk_kind_laws.specs.declared.Kind.the-variants.{Necklace}
-use Rattle.walk_kind_laws.specs.Kinds.{kindOf, ReadyToStep}
+use Rattle.walk_kind_laws.specs.{declared.Kind.the-variants.Necklace, Kinds.kindOf, Kinds.ReadyToStep}
 use Rattle.limits_spec.specs.Limits.{Listable}
 use Rattle.strip_spec.specs.Strip.{strip}
 use Rattle.strip_laws.proofs.Pieces.{length-strip}

@@ -4,17 +4,10 @@
 --     room-number, room-ring, room-other    there is room for one character more
 --     filling-number, filling-ring, filling-other    it is placed
 --     filling-end                           all of t
-use Prim.Native.Nat.{ℕ, zero, suc, _+_, _-_, _<_, _≤_}
-use mathlib.Core.Path.{_≡_, refl, sym, ap, _∙_}
-use mathlib.Core.Logic.{⊎-elim}
-use mathlib.Core.List.{List, [], _∷_, _++_, map, append-assoc, append-nil}
-use native.Mathlib.Omega.{arith}
-use native.Mathlib.Numerals.{add-one}
-use lib.ListN.{length, getD, take, drop, set, length-append, length-map, length-drop, length-take, drop-of-length-le}
-use lib.Seq.{drop-cons, drop-drop, getD-drop, take-all}
-use Rattle.text_spec.specs.Decimal.{decimal}
-use Rattle.text_spec.specs.Text.{hexOf}
-use Rattle.text_spec.specs.Put.{Placed}
+use Rattle.words.proofs.Plain.{ℕ, zero, suc, _+_, _-_, _<_, _≤_, add-one, arith, _≡_, refl, sym, ap, _∙_, ⊎-elim, List, [], _∷_, _++_, map, append-assoc}
+use Rattle.words.proofs.Plain.{append-nil, length, getD, take, drop, set, length-append, length-map, length-drop, length-take, drop-of-length-le, drop-cons}
+use Rattle.words.proofs.Plain.{drop-drop, getD-drop, take-all}
+use Rattle.text_spec.specs.{Decimal.decimal, Text.hexOf, Put.Placed}
 use Rattle.text_spec.proofs.Put.{placed-none, placed-append, placed-length}
 use Rattle.text_fill_spec.specs.Filled.{filledText}
 use Rattle.text_fill_spec.proofs.Laws.{fill-number, fill-ring, fill-other}

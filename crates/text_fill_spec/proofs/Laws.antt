@@ -3,19 +3,11 @@
 --     filled-plain                          a text with no slot is itself
 --     slots-same, slots-other               how often a character stands in a text
 --     filled-short                          how long a filledText text gets
-use Prim.Native.Nat.{ℕ, zero, suc, _+_, _*_, _^_, _<_, _≤_}
-use mathlib.Core.Path.{_≡_, refl, sym, ap, _∙_}
-use mathlib.Core.Bool.{true, false}
-use mathlib.Core.List.{List, [], _∷_, _++_, map, append-assoc}
-use native.Mathlib.Omega.{arith}
+use Rattle.words.proofs.Plain.{ℕ, zero, suc, _+_, _*_, _^_, _<_, _≤_, arith, _≡_, refl, sym, ap, _∙_, true, false, List, [], _∷_, _++_, map, append-assoc, eqb}
+use Rattle.words.proofs.Plain.{length, getD, take, drop, length-append, length-map, length-take, getD-drop, eq-eqb, ne-eqb, eqb-true, eqb-false}
 use native.Mathlib.Nat.{mul-suc}
-use lib.Dec.{eqb}
-use lib.ListN.{length, getD, take, drop, length-append, length-map, length-take}
-use lib.Seq.{getD-drop}
-use borrow.Author.Tests.{eq-eqb, ne-eqb, eqb-true, eqb-false}
 use Rattle.words.proofs.Split.{passes, fails, test}
-use Rattle.text_spec.specs.Decimal.{decimal}
-use Rattle.text_spec.specs.Text.{hexOf}
+use Rattle.text_spec.specs.{Decimal.decimal, Text.hexOf}
 use Rattle.text_spec.proofs.Digits.{length-decimal}
 use Rattle.text_fill_spec.specs.Filled.{filledText, slots, longest}
 

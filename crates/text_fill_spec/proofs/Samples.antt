@@ -1,9 +1,6 @@
 -- Filled texts worked out by hand.
-use Prim.Native.Nat.{ℕ}
-use mathlib.Core.Path.{_≡_, refl}
-use mathlib.Core.List.{List, [], _∷_}
-use Rattle.text_spec.specs.Ascii.{ascii}
-use Rattle.text_spec.specs.Decimal.{decimalIn, decimal}
+use Rattle.words.proofs.Plain.{ℕ, _≡_, refl, List, [], _∷_}
+use Rattle.text_spec.specs.{Ascii.ascii, Decimal.decimalIn, Decimal.decimal}
 use Rattle.text_fill_spec.specs.Filled.{filledText}
 
 -- numbers and a ring, each in its place

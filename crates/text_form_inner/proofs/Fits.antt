@@ -4,11 +4,7 @@
 --     fits-room          what is left of the room
 --     fits-length        the buffer keeps its length
 --     fits-more          a greater room
-use Prim.Native.Nat.{ℕ, _+_, _≤_}
-use mathlib.Core.Path.{_≡_}
-use mathlib.Core.List.{List, [], _++_}
-use native.Mathlib.Omega.{arith}
-use lib.ListN.{length, length-append}
+use Rattle.words.proofs.Plain.{ℕ, _+_, _≤_, arith, _≡_, List, [], _++_, length, length-append}
 use Rattle.text_spec.proofs.Put.{placed-none, placed-append, placed-length}
 use Rattle.text_form_inner.specs.Fits.{Fits}
 

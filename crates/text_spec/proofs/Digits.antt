@@ -7,15 +7,9 @@
 --     value-decimal, decimal-one     the text of x spells x; two numbers with one text are one
 --     spelled, numeral               digits with no leading zero are the text of what they spell
 --     decimal-digits, decimal-lead, length-decimal      the text has only digits, no leading zero, and at most m of them below 10 ^ m
-use Prim.Native.Nat.{ℕ, zero, suc, _+_, _-_, _*_, _/_, _%_, _^_, _<_, _≤_}
-use mathlib.Core.Path.{_≡_, refl, sym, ap, _∙_}
-use mathlib.Core.List.{List, [], _∷_, _++_, append-assoc, append-nil}
-use native.Mathlib.Omega.{arith}
+use Rattle.words.proofs.Plain.{ℕ, zero, suc, _+_, _-_, _*_, _/_, _%_, _^_, _<_, _≤_, arith, decLt, _≡_, refl, sym, ap, _∙_, List, [], _∷_, _++_, append-assoc}
+use Rattle.words.proofs.Plain.{append-nil, length, getD, length-append, List·getD-append, getD-append-add, lt-ltb, le-ltb}
 use native.Mathlib.Nat.{div-lt-self, div-add-mod, mod-lt, pow-succ', one-le-pow}
-use native.Mathlib.Decide.{decLt}
-use lib.ListN.{length, getD, length-append, List·getD-append}
-use lib.Seq.{getD-append-add}
-use borrow.Author.Tests.{lt-ltb, le-ltb}
 use Rattle.io.specs.Digits.{glyph, digits, Fewest}
 use Rattle.text_spec.specs.Decimal.{digit, decimalIn, decimal}
 
@@ -88,8 +82,7 @@ value-append x (a ∷ s) t = value-append (x * 10 + (a - 48)) s t
 pub value-decimal : (x : ℕ) → valueFrom 0 (decimal x) ≡ x
 unfolding valueFrom
 value-decimal =
-    decimal-rec (λ x. valueFrom 0 (decimal x) ≡ x)
-    (λ x h. rw (decimal-short x h) (omega arith))
+    decimal-rec (λ x. valueFrom 0 (decimal x) ≡ x) (λ x h. rw (decimal-short x h) (omega arith))
     (λ x h p. rw (decimal-more x h, value-append 0 (decimal (x / 10)) (digit (x % 10) ∷ []), p) (omega (arith, div-add-mod x 10)))
 
 -- two numbers with one text are one

@@ -6,17 +6,10 @@
 --     length-two, length-first, length-last, length-refused, length-ring, ring-two     how long the lines are, and of which pieces
 --     zero-line, zero-room, placed-zero      the line of a ring that comes with 0 moves and has period 1
 --     room-first, room-moves, room-second, room-period, room-end, placed-ring        a ring's line piece after piece
-use Prim.Native.Nat.{ℕ, zero, suc, _+_, _/_, _%_, _<_, _≤_}
-use mathlib.Core.Path.{_≡_, refl, sym, ap, _∙_}
-use mathlib.Core.List.{List, [], _∷_, _++_, map, append-assoc}
-use native.Mathlib.Omega.{arith}
-use native.Mathlib.Numerals.{add-one}
-use lib.ListN.{length, getD, take, set, length-append, length-map, length-set}
-use lib.Seq.{sets, length-sets, take-suc, take-all}
-use Rattle.text_spec.specs.Ascii.{ascii}
-use Rattle.text_spec.specs.Decimal.{decimal}
+use Rattle.words.proofs.Plain.{ℕ, zero, suc, _+_, _/_, _%_, _<_, _≤_, add-one, arith, _≡_, refl, sym, ap, _∙_, List, [], _∷_, _++_, map, append-assoc, length}
+use Rattle.words.proofs.Plain.{getD, take, set, length-append, length-map, length-set, sets, length-sets, take-suc, take-all}
+use Rattle.text_spec.specs.{Ascii.ascii, Decimal.decimal, Put.Placed}
 use Rattle.text_spec.specs.Text.{twoNumbers, hexOf, firstLine, ringLine, lastLine, refusedLine}
-use Rattle.text_spec.specs.Put.{Placed}
 use Rattle.text_spec.proofs.Digits.{decimal-short, decimal-two, decimal-some}
 
 -- ---- pieces

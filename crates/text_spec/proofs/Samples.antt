@@ -1,10 +1,7 @@
 -- The page's own lines (01, 'The listing program'), computed from the definitions: one table, one claim.
-use Prim.Native.Nat.{ℕ}
-use mathlib.Core.Path.{_≡_, refl}
-use mathlib.Core.List.{List, [], _∷_}
+use Rattle.words.proofs.Plain.{ℕ, _≡_, refl, List, [], _∷_}
 use Rattle.words.specs.Table.{Hold}
-use Rattle.text_spec.specs.Decimal.{decimalIn, decimal}
-use Rattle.text_spec.specs.Ascii.{ascii}
+use Rattle.text_spec.specs.{Decimal.decimalIn, Decimal.decimal, Ascii.ascii}
 use Rattle.text_spec.specs.Text.{firstLine, ringLine, lastLine, refusedLine}
 
 -- a text as it is defined, and as it is printed

@@ -3,16 +3,9 @@
 --     differ-long, differ-at                    two texts that differ
 --     digit-low, digit-high, digit-none ..      a digit's value
 --     Upto, upto-on, upto-not                   a reading that is spelt up to a place
-use Prim.Native.Nat.{ℕ, _+_, _-_, _<_, _≤_}
-use mathlib.Core.Path.{_≡_, refl, sym, ap, _∙_}
-use mathlib.Core.Logic.{_⊎_, inl, inr, ⊎-elim}
-use mathlib.Core.Bool.{true, false}
-use mathlib.Core.List.{List}
-use native.Mathlib.Omega.{arith}
-use lib.ListN.{length, getD, set}
-use lib.Seq.{ext-getD, getD-set-same, getD-set-other}
+use Rattle.words.proofs.Plain.{ℕ, _+_, _-_, _<_, _≤_, arith, _≡_, refl, sym, ap, _∙_, _⊎_, inl, inr, ⊎-elim, true, false, List, length, getD, set, ext-getD}
+use Rattle.words.proofs.{Plain.getD-set-same, Plain.getD-set-other, Lex.same-false, Lex.true-same}
 use Rattle.words.specs.Order.{same}
-use Rattle.words.proofs.Lex.{same-false, true-same}
 use Rattle.words.proofs.Split.{lt, eq, gt, tri}
 use Rattle.text_spec.specs.Text.{hexOf}
 use Rattle.text_words_spec.specs.Words.{Spelt}

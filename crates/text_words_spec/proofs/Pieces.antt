@@ -5,16 +5,8 @@
 --     pieces-single    where there is only one it is the text
 --     more-first, more-rest, more-two    two pieces or more: the first, what stands behind it, and that a separator ends the first
 --     pieces-plain     a text without separators is its only piece
-use Prim.Native.Nat.{ℕ, zero, suc, _+_, _<_, _≤_}
-use mathlib.Core.Path.{_≡_, refl, sym, ap, _∙_}
-use mathlib.Core.Bool.{true, false}
-use mathlib.Core.List.{List, [], _∷_}
-use native.Mathlib.Omega.{arith}
-use native.Mathlib.Decide.{decLt}
-use native.Mathlib.Numerals.{add-one}
-use lib.Dec.{eqb}
-use lib.ListN.{length, getD, take, drop}
-use borrow.Author.Tests.{eq-eqb, ne-eqb, eqb-true, eqb-false}
+use Rattle.words.proofs.Plain.{ℕ, zero, suc, _+_, _<_, _≤_, add-one, arith, decLt, _≡_, refl, sym, ap, _∙_, true, false, List, [], _∷_, eqb, length, getD, take}
+use Rattle.words.proofs.Plain.{drop, eq-eqb, ne-eqb, eqb-true, eqb-false}
 use Rattle.words.proofs.Split.{passes, fails, test}
 use Rattle.text_words_spec.specs.Words.{onto, pieces, PieceAt}
 

@@ -1,6 +1,5 @@
 -- Lines cut into words, worked out by hand.
-use mathlib.Core.Path.{_≡_, refl}
-use mathlib.Core.List.{List, [], _∷_}
+use Rattle.words.proofs.Plain.{_≡_, refl, List, [], _∷_}
 use Rattle.text_spec.specs.Ascii.{ascii, space}
 use Rattle.text_words_spec.specs.Words.{onto, pieces}
 

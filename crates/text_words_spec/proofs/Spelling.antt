@@ -5,14 +5,8 @@
 --     spelt-all                      a text that spells it at each place
 --     spelt-one                      a text spells one reading
 --     spelt-plain                    no digit is a separator
-use Prim.Native.Nat.{ℕ, zero, suc, _+_, _%_, _<_, _≤_}
-use mathlib.Core.Path.{_≡_, refl, sym, ap, _∙_}
-use mathlib.Core.Logic.{_⊎_, inl, inr, ⊎-elim}
-use mathlib.Core.List.{List, [], _∷_, map}
-use native.Mathlib.Omega.{arith}
-use native.Mathlib.Decide.{decLt}
-use lib.ListN.{length, getD, length-map}
-use lib.Seq.{ext-getD}
+use Rattle.words.proofs.Plain.{ℕ, zero, suc, _+_, _%_, _<_, _≤_, arith, decLt, _≡_, refl, sym, ap, _∙_, _⊎_, inl, inr, ⊎-elim, List, [], _∷_, map, length, getD}
+use Rattle.words.proofs.Plain.{length-map, ext-getD}
 use Rattle.text_spec.specs.Text.{hexOf}
 use Rattle.text_spec.proofs.Digits.{glyph-digit, glyph-letter}
 use Rattle.text_words_spec.specs.Words.{pieces, Spelt}
@@ -61,8 +55,7 @@ spelt-all t w l f =
 
 pub spelt-one : (t v w : List ℕ) → Spelt t v → Spelt t w → v ≡ w
 spelt-one t v w p q =
-    ext-getD 0 v w (sym (spelt-long t v p) ∙ spelt-long t w q)
-    (λ i h.
+    ext-getD 0 v w (sym (spelt-long t v p) ∙ spelt-long t w q) (λ i h.
     let l : i < length t = omega (arith, spelt-long t v p) in
     hex-one (getD v i 0) (getD w i 0) (spelt-at t v p i l .1) (spelt-at t w q i l .1) (sym (spelt-at t v p i l .0) ∙ spelt-at t w q i l .0))
 

@@ -3,29 +3,16 @@
 --     arrived-long, arrived-ring    the ring that it comes to, laid over the first n sectors of the given one
 --     arrived-passed, arrived       a start from it is not refused, and hands out its record, as a step that moved promises
 --     ended                         where there is no next bracelet the record is handed back
-use Prim.Native.Nat.{ℕ}
-use mathlib.Core.Path.{_≡_, refl, sym, ap, _∙_}
-use mathlib.Core.Bool.{true}
-use mathlib.Core.Option.{none, some}
-use mathlib.Core.List.{List, _++_}
-use native.Mathlib.Omega.{arith}
-use lib.ListN.{length, take, drop}
-use lib.Seq.{take-append-seam}
+use Rattle.words.proofs.Plain.{ℕ, arith, _≡_, refl, sym, ap, _∙_, true, none, some, List, _++_, length, take, drop, take-append-seam}
 use Rattle.words.specs.Readings.{Reading}
-use Rattle.rings.specs.Prenecklace.{prenecklace}
-use Rattle.rings.specs.Alike.{bracelet}
-use Rattle.rings.specs.Steps.{nextOf}
-use Rattle.ring_laws.proofs.Words.{necklace-prenecklace}
-use Rattle.ring_laws.proofs.FullWalk.{next-facts}
+use Rattle.rings.specs.{Prenecklace.prenecklace, Alike.bracelet, Steps.nextOf}
+use Rattle.ring_laws.proofs.{Words.necklace-prenecklace, FullWalk.next-facts}
 use Rattle.bracelet_laws.proofs.Words.{bracelet-necklace}
-use Rattle.refusal.specs.declared.Checked.{Checked}
+use Rattle.refusal.specs.{declared.Checked.Checked, Order.Passed, Calls.oneReading, Calls.walkStart}
 use Rattle.refusal.specs.declared.Checked.the-variants as C
-use Rattle.refusal.specs.Order.{Passed}
-use Rattle.refusal.specs.Calls.{oneReading, walkStart}
 use Rattle.refusal.proofs.Unique.{never-both}
-use Rattle.walk_spec.specs.declared.Walk.{Walk}
+use Rattle.walk_spec.specs.{declared.Walk.Walk, Says.StartSays}
 use Rattle.walk_spec.specs.Record.{ringOf, walkOf, walkAsked}
-use Rattle.walk_spec.specs.Says.{StartSays}
 use Rattle.walk_record_laws.proofs.Good.{good-ready, good-long}
 use Rattle.bracelet_next_inner.specs.Going.{ByteReading}
 use Rattle.walk_bracelet_spec.specs.Says.{Onward, Last}

@@ -1,12 +1,8 @@
 -- No two different answers of the step to the next bracelet satisfy its contract: neither the answer nor the record handed back is left open.
-use Prim.Native.Nat.{ℕ}
-use mathlib.Core.Path.{_≡_, refl, sym, ap, _∙_}
-use native.Mathlib.Omega.{arith}
+use Rattle.words.proofs.Plain.{ℕ, arith, _≡_, refl, sym, ap, _∙_}
 use Rattle.refusal.proofs.Unique.{one-refusal, never-both}
-use Rattle.walk_spec.specs.declared.Walk.{Walk}
-use Rattle.walk_spec.specs.Record.{walkOf, walkAsked}
-use Rattle.walk_bracelet_spec.specs.declared.Arrived.{Arrived}
-use Rattle.walk_bracelet_spec.specs.declared.Arrival.{Arrival}
+use Rattle.walk_spec.specs.{declared.Walk.Walk, Record.walkOf, Record.walkAsked}
+use Rattle.walk_bracelet_spec.specs.{declared.Arrived.Arrived, declared.Arrival.Arrival}
 use Rattle.walk_bracelet_spec.specs.declared.Arrival.the-variants.{Moved, Done, Refused}
 use Rattle.walk_bracelet_spec.specs.Says.{ArrivalSays, Onward, Last}
 

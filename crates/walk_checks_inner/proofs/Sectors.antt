@@ -1,14 +1,8 @@
 -- The sectors of a walk's ring, settled by two scans.
 --     head-bad, head-good      the first n sectors
 --     tail-bad, tail-good      those past n
-use Prim.Native.Nat.{ℕ, _+_, _-_, _<_, _≤_}
-use mathlib.Core.Path.{_≡_, refl, sym, _∙_}
-use mathlib.Core.Bool.{Bool}
-use mathlib.Core.List.{List}
-use native.Mathlib.Omega.{arith}
-use lib.ListN.{length, take, drop, length-take, length-drop}
-use lib.Seq.{getD-take, getD-drop, take-all}
-use borrow.Author.Tests.{lt-ltb, le-ltb}
+use Rattle.words.proofs.Plain.{ℕ, _+_, _-_, _<_, _≤_, arith, _≡_, refl, sym, _∙_, Bool, List, length, take, drop, length-take, length-drop, getD-take}
+use Rattle.words.proofs.Plain.{getD-drop, take-all, lt-ltb, le-ltb}
 use Rattle.words.proofs.Sequence.{sec, place}
 use Rattle.refusal.specs.Calls.{Below, askRecord, ringLimit}
 use Rattle.check_numbers_inner.specs.Scan.{Scanned}

@@ -6,22 +6,12 @@
 --     copy-start, copy-more, copy-end       the loop over the shades
 --     still-same, still-not, alike-more     the loop that compares
 --     same-all              two lists of counts are the same exactly where each count is
-use Prim.Native.Nat.{ℕ, suc, _+_, _<_, _≤_}
-use mathlib.Core.Path.{_≡_, refl, sym, ap, _∙_}
-use mathlib.Core.Bool.{Bool, true, false, _&&_}
-use mathlib.Core.List.{List, [], _∷_}
-use native.Mathlib.Omega.{arith}
-use native.Mathlib.Numerals.{add-one}
-use lib.ListN.{length, getD, take, set, replicate, length-set, length-replicate, getD-replicate}
-use lib.Seq.{ext-getD, getD-set-same, getD-set-other}
-use lib.Dec.{eqb}
-use borrow.Author.Tests.{eq-eqb, ne-eqb, eqb-true}
-use Rattle.words.specs.Search.{tab, allBelow}
-use Rattle.words.specs.Order.{same}
+use Rattle.words.proofs.Plain.{ℕ, suc, _+_, _<_, _≤_, add-one, arith, _≡_, refl, sym, ap, _∙_, Bool, true, false, _&&_, List, [], _∷_, eqb, length, getD, take}
+use Rattle.words.proofs.Plain.{set, replicate, length-set, length-replicate, getD-replicate, ext-getD, getD-set-same, getD-set-other, eq-eqb, ne-eqb, eqb-true}
+use Rattle.words.specs.{Search.tab, Search.allBelow, Order.same}
 use Rattle.words.proofs.Split.{lt, eq, gt, tri, not-right, agree}
 use Rattle.words.proofs.Search.{length-tab, getD-tab, all-at, all-of}
-use Rattle.words.proofs.Sequence.{sec}
-use Rattle.words.proofs.Lex.{same-true, true-same}
+use Rattle.words.proofs.{Sequence.sec, Lex.same-true, Lex.true-same}
 use Rattle.rings.specs.Counts.{occurs, countsOf}
 use Rattle.shades_tally_inner.proofs.Tallying.{occurs-none, occurs-here, occurs-other, tally-hit, tally-miss}
 

@@ -4,25 +4,15 @@
 --     at-single, at-repeating, at-opening    the class, as `class_at` tests it
 --     kind-full                              where lyn is the length it is of every kind
 --     short-rem                              a number of which p is more than half, and not all, is no multiple of p
-use Prim.Native.Nat.{ℕ, _+_, _-_, _%_, _<_}
-use mathlib.Core.Path.{_≡_, refl, sym, ap, _∙_}
-use mathlib.Core.Bool.{true}
-use mathlib.Core.List.{List}
-use native.Mathlib.Omega.{arith}
+use Rattle.words.proofs.Plain.{ℕ, _+_, _-_, _%_, _<_, arith, _≡_, refl, sym, ap, _∙_, true, List, eqb, length, eq-eqb, ne-eqb, eqb-true, eqb-false}
 use native.Mathlib.Nat.{mod-self, mod-eq-of-lt, add-mod-left}
-use lib.ListN.{length}
-use lib.Dec.{eqb}
-use borrow.Author.Tests.{eq-eqb, ne-eqb, eqb-true, eqb-false}
 use Rattle.words.proofs.Split.{Test, passes, fails, test, agree, lt, eq, gt, tri}
 use Rattle.words.proofs.Sequence.{sec}
 use Rattle.rings.specs.declared.Class.the-variants.{Single, Repeating, Opening}
-use Rattle.rings.specs.Necklace.{necklace, lyndon}
-use Rattle.rings.specs.Class.{classOf}
-use Rattle.ring_laws.proofs.Run.{Run}
-use Rattle.ring_laws.proofs.Words.{necklace-prenecklace}
+use Rattle.rings.specs.{Necklace.necklace, Necklace.lyndon, Class.classOf}
+use Rattle.ring_laws.proofs.{Run.Run, Words.necklace-prenecklace, Walk.Kind}
 use Rattle.ring_laws.proofs.Lyndon.{run-necklace, necklace-run, run-prenecklace}
 use Rattle.ring_laws.proofs.Classes.{run-lyndon, lyndon-run, lyndon-necklace, class-single, class-repeating, class-opening}
-use Rattle.ring_laws.proofs.Walk.{Kind}
 use Rattle.walk_kind_laws.specs.declared.Kind as K
 use Rattle.walk_kind_laws.specs.declared.Kind.the-variants.{Prenecklace, Necklace, Lyndon}
 use Rattle.walk_kind_laws.specs.Kinds.{kindOf, kindAt, classAt}
@@ -50,12 +40,10 @@ class-at v p r = go (test (eqb p (length v))) (test (eqb (length v % p) 0))
     go : Test (eqb p (length v)) → Test (eqb (length v % p) 0) → classOf v ≡ classAt (length v) p
     go (passes e) d = rw (e, classAt) (class-single v p r (eqb-true p (length v) e))
     go (fails e) (passes d) =
-        rw (e, d, classAt)
-        (class-repeating v p r (eqb-true (length v % p) 0 d)
+        rw (e, d, classAt) (class-repeating v p r (eqb-true (length v % p) 0 d)
         (elim (tri p (length v)) [ lt l ↦ l | eq l ↦ absurd (eqb-false p (length v) e l) | gt l ↦ absurd (omega (arith, r .fits)) ]))
     go (fails e) (fails d) =
-        rw (e, d, classAt)
-        (class-opening v p r
+        rw (e, d, classAt) (class-opening v p r
         (elim (tri 0 (length v % p)) [ lt l ↦ l | eq l ↦ absurd (eqb-false (length v % p) 0 d (sym l)) | gt l ↦ absurd (omega arith) ]))
 
 -- the same, as `class_at` tests it

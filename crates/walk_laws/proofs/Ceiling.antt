@@ -6,27 +6,17 @@
 --     lyndon-step-ceiling, necklace-step-ceiling    `walk::next_lyndon` and `walk::next_necklace` stay within n / 2 + 1 and (n + 1) / 2
 --     lyndon-step-reached, necklace-step-reached    and reach them
 --     accepted-lyndon     at a record that passes its checks a step to the next Lyndon word is not refused, and reports at most n / 2 + 1 moves
-use Prim.Native.Nat.{ℕ, _+_, _/_, _≤_}
-use mathlib.Core.Path.{_≡_, sym, ap, _∙_}
-use mathlib.Core.Bool.{Bool}
-use mathlib.Core.Option.{Option, none, some}
-use mathlib.Core.List.{List}
-use native.Mathlib.Omega.{arith}
-use lib.ListN.{length}
+use Rattle.words.proofs.Plain.{ℕ, _+_, _/_, _≤_, arith, _≡_, sym, ap, _∙_, Bool, Option, none, some, List, length}
 use Rattle.words.specs.Readings.{Sized, Shaded}
-use Rattle.rings.specs.Necklace.{necklace, lyndon}
-use Rattle.rings.specs.Steps.{nextOf, moves}
+use Rattle.rings.specs.{Necklace.necklace, Necklace.lyndon, Steps.nextOf, Steps.moves}
 use Rattle.ring_ceiling_laws.specs.Ceiling.{PrenecklaceOf, stepMoves, Ceiling, Best, lyndonCeiling, necklaceCeiling}
 use Rattle.ring_ceiling_laws.specs.Notched.{lyndonStart, necklaceStart}
-use Rattle.ring_ceiling_laws.proofs.Ceiling.{lyndon-ceiling, necklace-ceiling}
-use Rattle.ring_ceiling_laws.proofs.Reached.{lyndon-best, necklace-best}
+use Rattle.ring_ceiling_laws.proofs.{Ceiling.lyndon-ceiling, Ceiling.necklace-ceiling, Reached.lyndon-best, Reached.necklace-best}
 use Rattle.refusal.specs.Order.{Passed}
 use Rattle.refusal.proofs.Unique.{never-both}
-use Rattle.walk_spec.specs.declared.Walk.{Walk}
-use Rattle.walk_spec.specs.declared.Outcome.{Outcome}
+use Rattle.walk_spec.specs.{declared.Walk.Walk, declared.Outcome.Outcome, Says.StepSays}
 use Rattle.walk_spec.specs.declared.Outcome.the-variants.{Moved, Done, Refused}
 use Rattle.walk_spec.specs.Record.{ringOf, walkOf, walkAsked}
-use Rattle.walk_spec.specs.Says.{StepSays}
 use Rattle.walk_record_laws.proofs.Good.{good-ready, good-long, ring-of, walk-good}
 use Rattle.walk_laws.specs.Reports.{ReportsUpTo, ReportsMoves}
 use Rattle.walk_laws.proofs.Reports.{reports-within, accepted-reports}

@@ -3,26 +3,17 @@
 --     start-carries       of the record that a start hands out
 --     step-carries        of the record that a step hands on, of whatever kind
 --     arrival-carries     and of the one that a step to the next bracelet does
-use Prim.Native.Nat.{ℕ, _<_, _≤_}
-use mathlib.Core.Path.{_≡_, sym, ap, _∙_}
-use mathlib.Core.Bool.{Bool}
-use mathlib.Core.List.{List}
-use native.Mathlib.Omega.{arith}
-use lib.ListN.{length, getD, List·getD-eq-default}
+use Rattle.words.proofs.Plain.{ℕ, _<_, _≤_, arith, _≡_, sym, ap, _∙_, Bool, List, length, getD, List·getD-eq-default}
 use Rattle.words.specs.Order.{same}
 use Rattle.words.proofs.Split.{lt, eq, gt, tri, both-right}
-use Rattle.words.proofs.Search.{length-tab, getD-tab}
-use Rattle.words.proofs.Lex.{same-true}
-use Rattle.rings.specs.Alike.{bracelet}
-use Rattle.rings.specs.Counts.{occurs, countsOf}
+use Rattle.words.proofs.{Search.length-tab, Search.getD-tab, Lex.same-true}
+use Rattle.rings.specs.{Alike.bracelet, Counts.occurs, Counts.countsOf}
 use Rattle.ring_laws.proofs.FullWalk.{next-facts}
 use Rattle.shades_laws.proofs.Occurs.{occurs-past}
 use Rattle.refusal.specs.declared.Checked.the-variants as C
 use Rattle.refusal.specs.Order.{Passed}
-use Rattle.walk_spec.specs.declared.Walk.{Walk}
-use Rattle.walk_spec.specs.declared.Outcome.the-variants.{Moved}
+use Rattle.walk_spec.specs.{declared.Walk.Walk, declared.Outcome.the-variants.Moved, Says.StartSays, Says.StepSays}
 use Rattle.walk_spec.specs.Record.{ringOf, shadeCounts, walkOf, onWalk, walkAsked}
-use Rattle.walk_spec.specs.Says.{StartSays, StepSays}
 use Rattle.walk_record_laws.proofs.Good.{good-ready, ring-of}
 use Rattle.walk_bracelet_spec.specs.declared.Arrival.the-variants as A
 use Rattle.walk_bracelet_spec.specs.Says.{ArrivalSays}

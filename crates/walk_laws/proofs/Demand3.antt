@@ -2,25 +2,14 @@
 --     accepted-moves    a step to the next necklace is not refused, and reports at most (n + 1) / 2 moves, rounded down
 --     accepted-last     at the last ring a step of any kind is Done with 0 moves
 -- The sums over a full walk, and that steps from a start come to Done, so that they are about something: OneRing.
-use Prim.Native.Nat.{ℕ, _+_, _-_, _/_, _≤_}
-use mathlib.Core.Path.{_≡_, refl, sym, ap, _∙_}
-use mathlib.Core.Bool.{Bool}
-use mathlib.Core.List.{List}
-use native.Mathlib.Omega.{arith}
-use lib.ListN.{length, replicate}
-use Rattle.rings.specs.Necklace.{necklace}
-use Rattle.rings.specs.Steps.{nextOf, moves}
-use Rattle.ring_laws.proofs.Next.{low-or-full, next-none}
-use Rattle.ring_laws.proofs.Bound.{bound-necklace}
+use Rattle.words.proofs.Plain.{ℕ, _+_, _-_, _/_, _≤_, arith, _≡_, refl, sym, ap, _∙_, Bool, List, length, replicate}
+use Rattle.rings.specs.{Necklace.necklace, Steps.nextOf, Steps.moves}
+use Rattle.ring_laws.proofs.{Next.low-or-full, Next.next-none, Bound.bound-necklace}
 use Rattle.refusal.specs.Order.{Passed}
 use Rattle.refusal.proofs.Unique.{never-both}
-use Rattle.walk_spec.specs.declared.Walk.{Walk}
-use Rattle.walk_spec.specs.declared.Outcome.{Outcome}
+use Rattle.walk_spec.specs.{declared.Walk.Walk, declared.Outcome.Outcome, Record.ringOf, Record.walkAsked, Says.StepSays}
 use Rattle.walk_spec.specs.declared.Outcome.the-variants.{Moved, Done, Refused}
-use Rattle.walk_spec.specs.Record.{ringOf, walkAsked}
-use Rattle.walk_spec.specs.Says.{StepSays}
-use Rattle.walk_record_laws.proofs.Good.{good-ready, good-long}
-use Rattle.walk_record_laws.proofs.Sums.{step-bound, step-last}
+use Rattle.walk_record_laws.proofs.{Good.good-ready, Good.good-long, Sums.step-bound, Sums.step-last}
 use Rattle.walk_laws.specs.Reports.{ReportsMoves}
 
 -- a step to the next necklace is not refused, and reports at most (n + 1) / 2 moves

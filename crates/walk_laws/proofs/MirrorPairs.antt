@@ -7,23 +7,16 @@
 --     pairs-handed-out         for every n and k of the page there is what the sentences speak of
 -- The calls are spoken of by their contracts, which no two answers satisfy (`walk_spec` and `walk_bracelet_spec`, proofs/Unique): so the answers here are the
 -- code's.
-use Prim.Native.Nat.{ℕ}
-use mathlib.Core.Path.{_≡_, refl, sym, subst}
-use mathlib.Core.Bool.{true}
-use mathlib.Core.List.{List, _∷_}
+use Rattle.words.proofs.Plain.{ℕ, _≡_, refl, sym, subst, true, List, _∷_}
 use Rattle.words.specs.Readings.{Sized, Shaded, Reading}
 use Rattle.words.proofs.Readings.{All, Increasing}
-use Rattle.rings.specs.Alike.{bracelet}
-use Rattle.rings.specs.Steps.{FullWalk}
-use Rattle.ring_laws.proofs.Words.{necklace-prenecklace}
-use Rattle.ring_laws.proofs.FullWalk.{zeros}
+use Rattle.rings.specs.{Alike.bracelet, Steps.FullWalk}
+use Rattle.ring_laws.proofs.{Words.necklace-prenecklace, FullWalk.zeros}
 use Rattle.bracelet_laws.specs.Pairs.{OneOfEachPair, EvenForItself}
 use Rattle.bracelet_laws.proofs.Words.{bracelet-necklace}
 use Rattle.bracelet_laws.proofs.Pairs.{walk-bracelets, walk-order, walk-pairs, walk-even}
 use Rattle.refusal.specs.declared.Checked.the-variants as C
-use Rattle.walk_spec.specs.declared.Walk.{Walk}
-use Rattle.walk_spec.specs.Record.{ringOf}
-use Rattle.walk_spec.specs.Says.{StartSays, Steps}
+use Rattle.walk_spec.specs.{declared.Walk.Walk, Record.ringOf, Says.StartSays, Says.Steps}
 use Rattle.walk_spec.specs.Says as says
 use Rattle.walk_laws.specs.Arrivals.{Arrivals, PairsHandedOut, ends, goes}
 use Rattle.walk_laws.proofs.Started.{start-zeros, long, many, start-walk, steps-end}

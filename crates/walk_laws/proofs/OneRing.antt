@@ -5,20 +5,15 @@
 --     handed-out-sum         the moves that the steps report add up to one less than the prenecklaces of n and k
 --     handed-out-bound       and to at most one less than the necklaces of lengths 1 to n together
 --     handed-out             for every n and k of the page there is what these sentences speak of
-use Prim.Native.Nat.{ℕ}
-use mathlib.Core.Path.{refl, sym, subst}
-use mathlib.Core.List.{List}
-use native.Mathlib.Omega.{arith}
+use Rattle.words.proofs.Plain.{ℕ, arith, refl, sym, subst, List}
 use Rattle.words.specs.Readings.{Sized, Shaded}
-use Rattle.rings.specs.Necklace.{necklace}
-use Rattle.rings.specs.Steps.{FullWalk}
+use Rattle.rings.specs.{Necklace.necklace, Steps.FullWalk}
 use Rattle.ring_laws.proofs.Words.{necklace-prenecklace}
 use Rattle.ring_laws.proofs.FullWalk.{zeros, length-zeros, zeros-reading, zeros-prenecklace, walk-sum, walk-sum-bound}
 use Rattle.ring_total_laws.specs.OneRing.{OneRingEach, PeriodsAddUp}
 use Rattle.ring_total_laws.proofs.OneRing.{one-ring, period-sum}
 use Rattle.refusal.specs.declared.Checked.the-variants as C
-use Rattle.walk_spec.specs.Record.{walkOf}
-use Rattle.walk_spec.specs.Says.{StartSays}
+use Rattle.walk_spec.specs.{Record.walkOf, Says.StartSays}
 use Rattle.walk_laws.proofs.Started.{start-zeros, long, many, start-walk, steps-end}
 use Rattle.walk_laws.specs.HandedOut.{HandedOut, OneRingHandedOut, PeriodsHandedOut, MovesHandedOut, MovesWithin}
 

@@ -3,19 +3,11 @@
 --     reports-within      where it reports at most m, the number that it reports is at most m, of Moved and of Done alike
 --     refused-none        a refusal reports no number
 --     accepted-reports    at a record that passes its checks a step of any kind reports a number, whatever answer the contract admits
-use Prim.Native.Nat.{ℕ, _≤_}
-use mathlib.Core.Path.{_≡_, refl}
-use mathlib.Core.Bool.{Bool}
-use mathlib.Core.List.{List}
-use native.Mathlib.Omega.{arith}
-use Rattle.refusal.specs.declared.Refusal.{Refusal}
-use Rattle.refusal.specs.Order.{Passed}
+use Rattle.words.proofs.Plain.{ℕ, _≤_, arith, _≡_, refl, Bool, List}
+use Rattle.refusal.specs.{declared.Refusal.Refusal, Order.Passed}
 use Rattle.refusal.proofs.Unique.{never-both}
-use Rattle.walk_spec.specs.declared.Walk.{Walk}
-use Rattle.walk_spec.specs.declared.Outcome.{Outcome}
+use Rattle.walk_spec.specs.{declared.Walk.Walk, declared.Outcome.Outcome, Record.walkAsked, Says.StepSays}
 use Rattle.walk_spec.specs.declared.Outcome.the-variants.{Moved, Done, Refused}
-use Rattle.walk_spec.specs.Record.{walkAsked}
-use Rattle.walk_spec.specs.Says.{StepSays}
 use Rattle.walk_laws.specs.Reports.{ReportsUpTo, ReportsMoves}
 
 -- no two numbers

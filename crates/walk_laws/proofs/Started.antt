@@ -3,23 +3,15 @@
 --     start-walk                 the steps from it are the full walk from the all-zero ring
 --     walk-steps                 steps from a record do what the full walk from its ring does
 --     steps-end                  so from every record that a start hands out they come to Done
-use Prim.Native.Nat.{ℕ, _+_, _<_}
-use mathlib.Core.Path.{_≡_, refl, sym, subst, ap, _∙_}
-use mathlib.Core.Bool.{Bool, true}
-use mathlib.Core.Option.{none, some}
-use mathlib.Core.List.{List, _∷_}
-use native.Mathlib.Omega.{arith}
-use lib.ListN.{length}
+use Rattle.words.proofs.Plain.{ℕ, _+_, _<_, arith, _≡_, refl, sym, subst, ap, _∙_, Bool, true, none, some, List, _∷_, length}
 use Rattle.words.specs.Readings.{Sized, Shaded, Reading}
 use Rattle.rings.specs.Prenecklace.{prenecklace}
 use Rattle.rings.specs.Steps.{moves, FullWalk, done, step}
 use Rattle.ring_laws.proofs.FullWalk.{next-facts, walk-exists, zeros, length-zeros}
 use Rattle.refusal.specs.declared.Checked.the-variants as C
-use Rattle.walk_spec.specs.declared.Walk.{Walk}
-use Rattle.walk_spec.specs.Record.{ringOf, walkOf}
+use Rattle.walk_spec.specs.{declared.Walk.Walk, Record.ringOf, Record.walkOf}
 use Rattle.walk_spec.specs.Says.{StartSays, Steps, ends, goes}
-use Rattle.walk_record_laws.proofs.Good.{ring-of, walk-good}
-use Rattle.walk_record_laws.proofs.Sums.{steps-walk}
+use Rattle.walk_record_laws.proofs.{Good.ring-of, Good.walk-good, Sums.steps-walk}
 
 -- ---- the steps are a full walk
 
@@ -49,8 +41,7 @@ module _ (kind : List ℕ → Bool) (only : (u : List ℕ) → kind u ≡ true �
       (record { good = walk-good n k w sized shaded r p; next = rw (ring-of k w) e; handed = refl; counted = ap (λ (u : List ℕ). moves k u none) (sym (ring-of k w)) })
   walk-steps r p (step {w = w} {v = v} {rings = rings} {m = m} e f) =
       let g = next-facts kind k w v e in
-      subst (λ (u : List ℕ). Steps kind (walkOf k w) (u ∷ rings) (moves k w (some v) + m)) (ring-of k v)
-      (goes {v = walkOf k v}
+      subst (λ (u : List ℕ). Steps kind (walkOf k w) (u ∷ rings) (moves k w (some v) + m)) (ring-of k v) (goes {v = walkOf k v}
       (record { good = walk-good n k w sized shaded r p; to = v; next = rw (ring-of k w) e; handed = refl; counted = ap (λ (u : List ℕ). moves k u (some v)) (sym (ring-of k w)) })
       (walk-steps (subst (λ (x : ℕ). Reading x k v) (r .long) (g .0)) (only v (g .2)) f))
 

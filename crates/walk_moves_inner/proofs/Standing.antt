@@ -7,34 +7,21 @@
 --     stands-found          the next prenecklace is of the kind
 --     stands-on             it is not
 --     Risen, risen          so what is known behind a place that was raised
-use Prim.Native.Nat.{ℕ, _+_, _-_, _%_, _<_, _≤_}
-use mathlib.Core.Path.{_≡_, refl, sym, ap, _∙_}
-use mathlib.Core.Logic.{⊎-elim, _⊎_, inl, inr}
-use mathlib.Core.Bool.{true, false}
-use mathlib.Core.List.{List}
-use native.Mathlib.Omega.{arith}
-use native.Mathlib.Numerals.{add-one}
+use Rattle.words.proofs.Plain.{ℕ, _+_, _-_, _%_, _<_, _≤_, add-one, arith, _≡_, refl, sym, ap, _∙_, ⊎-elim, _⊎_, inl, inr, true, false, List, eqb, length, getD}
+use Rattle.words.proofs.Plain.{eq-eqb, ne-eqb, eqb-true, eqb-false}
 use native.Mathlib.Nat.{mod-self, mod-eq-of-lt, add-mod-left}
-use lib.ListN.{length, getD}
-use lib.Dec.{eqb}
-use borrow.Author.Tests.{eq-eqb, ne-eqb, eqb-true, eqb-false}
-use Rattle.words.specs.Order.{before, upTo}
-use Rattle.words.specs.Readings.{Reading}
+use Rattle.words.specs.{Order.before, Order.upTo, Readings.Reading}
 use Rattle.words.proofs.Split.{Test, passes, fails, test, agree, clash, lt, eq, gt, tri}
 use Rattle.words.proofs.Lex.{ahead, equal, behind, lex, before-irrefl, before-not-upTo}
 use Rattle.words.proofs.Sequence.{sec}
 use Rattle.rings.specs.declared.Class.the-variants.{Single, Repeating, Opening}
-use Rattle.rings.specs.Necklace.{necklace, lyndon}
-use Rattle.rings.specs.Prenecklace.{prenecklace, lyn}
-use Rattle.rings.specs.Class.{classOf}
+use Rattle.rings.specs.{Necklace.necklace, Necklace.lyndon, Prenecklace.prenecklace, Prenecklace.lyn, Class.classOf}
 use Rattle.rings.specs.Next.{lastLow, raised, repeated, nextPrenecklace}
-use Rattle.ring_laws.proofs.Run.{Run}
-use Rattle.ring_laws.proofs.Words.{necklace-prenecklace}
+use Rattle.ring_laws.proofs.{Run.Run, Words.necklace-prenecklace, Bound.lyn-rises}
 use Rattle.ring_laws.proofs.Lyndon.{run-necklace, necklace-run, run-prenecklace}
 use Rattle.ring_laws.proofs.Classes.{run-lyndon, lyndon-run, lyndon-necklace, class-single, class-repeating, class-opening}
 use Rattle.ring_laws.proofs.Next.{low-le, low-at, low-none, length-next, next-is-run, next-lyn-low}
 use Rattle.ring_laws.proofs.Walk.{Kind, Walked, walk-start, walk-found, walk-on, walk-done}
-use Rattle.ring_laws.proofs.Bound.{lyn-rises}
 use Rattle.walk_kind_laws.specs.declared.Kind as K
 use Rattle.walk_kind_laws.specs.declared.Kind.the-variants.{Prenecklace, Necklace, Lyndon}
 use Rattle.walk_kind_laws.specs.Kinds.{kindOf, kindAt, ReadyToStep}

@@ -3,16 +3,9 @@
 --                                                                 the search for the last place to raise, from the end: no place past i can be raised
 --     Copied u v i m, copied-start, copied-more, copied-end       the copying: the first m sectors of v repeat the first i of u
 --     round-in, round-on, round-back                              the place to copy from, which is m % i
-use Prim.Native.Nat.{ℕ, suc, _+_, _-_, _%_, _<_, _≤_}
-use mathlib.Core.Path.{_≡_, refl, sym, ap, _∙_}
-use mathlib.Core.Bool.{false}
-use mathlib.Core.List.{List}
-use native.Mathlib.Omega.{arith}
-use native.Mathlib.Numerals.{add-one}
+use Rattle.words.proofs.Plain.{ℕ, suc, _+_, _-_, _%_, _<_, _≤_, add-one, arith, _≡_, refl, sym, ap, _∙_, false, List, length, getD, set, length-set}
+use Rattle.words.proofs.Plain.{getD-set-same, getD-set-other, ext-getD, lt-ltb, le-ltb}
 use native.Mathlib.Nat.{mod-lt, mod-eq-of-lt, mod-self, mod-add-mod}
-use lib.ListN.{length, getD, set, length-set}
-use lib.Seq.{getD-set-same, getD-set-other, ext-getD}
-use borrow.Author.Tests.{lt-ltb, le-ltb}
 use Rattle.words.specs.Search.{greatest}
 use Rattle.words.proofs.Split.{lt, eq, gt, tri, clash}
 use Rattle.words.proofs.Search.{greatest-is, greatest-at, greatest-le}
@@ -101,8 +94,7 @@ module _ (i m from : ℕ) (z : 0 < i) (e : from ≡ m % i) where
 -- where u is w with the sector at place i raised, the copying gives what the page says
 pub copied-end : (w v : List ℕ) (i m : ℕ) → 0 < i → i ≤ length w → Copied (set w (i - 1) (getD w (i - 1) 0 + 1)) v i m → length v ≤ m → v ≡ repeated (length w) (raised i w)
 copied-end w v i m z b c h =
-    ext-getD 0 v (repeated (length w) (raised i w)) (long ∙ sym (length-repeated (length w) (raised i w)))
-    (λ x q.
+    ext-getD 0 v (repeated (length w) (raised i w)) (long ∙ sym (length-repeated (length w) (raised i w))) (λ x q.
     c .done x (omega arith) ∙ start (x % i) (mod-lt x z) ∙ ap (λ (y : ℕ). getD (raised i w) (x % y) 0) (sym (length-raised i w z b)) ∙ sym
     (repeated-at (length w) (raised i w) x (omega (arith, long))))
   where

@@ -3,17 +3,10 @@
 --     step-moved-as, step-done-as         to the next of a kind, or that there is none
 --     bracelet-moved-as, bracelet-done-as    the same for bracelets
 --     step-refused-as                     what is refused, the start refuses the same
-use Prim.Native.Nat.{ℕ}
-use mathlib.Core.Path.{_≡_, refl}
-use mathlib.Core.Bool.{Bool}
-use mathlib.Core.Logic.{inl, inr}
-use mathlib.Core.List.{List}
-use lib.ListN.{length}
+use Rattle.words.proofs.Plain.{ℕ, _≡_, refl, inl, inr, Bool, List, length}
 use Rattle.rings.specs.Prenecklace.{prenecklace}
-use Rattle.refusal.specs.declared.Refusal.{Refusal}
+use Rattle.refusal.specs.{declared.Refusal.Refusal, Order.Passed, Order.Given, Calls.walkStart}
 use Rattle.refusal.specs.declared.Checked.the-variants as C
-use Rattle.refusal.specs.Order.{Passed, Given}
-use Rattle.refusal.specs.Calls.{walkStart}
 use Rattle.walk_spec.specs.declared.Outcome.the-variants as O
 use Rattle.walk_spec.specs.Record.{walkOf, emptyWalk, walkAsked}
 use Rattle.walk_spec.specs.Says.{StartSays, StepSays}

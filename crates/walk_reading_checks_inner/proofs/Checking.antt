@@ -1,22 +1,12 @@
 -- How the checks of a step from a lent reading end.
 --     more-step              a refusal of the checks up to 4 is that of all five
 --     step-off, step-on      those passed, and the class tells whether the reading is on a walk
-use Prim.Native.Nat.{ℕ}
-use mathlib.Core.Path.{_≡_, refl, sym, ap, _∙_}
-use mathlib.Core.Bool.{true, false}
-use mathlib.Core.Logic.{inl, inr}
-use mathlib.Core.List.{List}
-use native.Mathlib.Omega.{arith}
-use lib.ListN.{length}
-use lib.Seq.{take-all}
+use Rattle.words.proofs.Plain.{ℕ, arith, _≡_, refl, sym, ap, _∙_, inl, inr, true, false, List, length, take-all}
 use Rattle.words.proofs.Split.{clash}
-use Rattle.rings.specs.declared.Class.{Class}
-use Rattle.rings.specs.Prenecklace.{prenecklace}
+use Rattle.rings.specs.{declared.Class.Class, Prenecklace.prenecklace}
 use Rattle.rings.specs.Class.{classOf, isLoose, loosePlace, lookAt}
 use Rattle.ring_laws.proofs.Classes.{loose-class, tight-class}
-use Rattle.refusal.specs.declared.Refusal.{Refusal}
-use Rattle.refusal.specs.declared.Refusal.the-variants.{OffWalk}
-use Rattle.refusal.specs.Order.{Passed, Given}
+use Rattle.refusal.specs.{declared.Refusal.Refusal, declared.Refusal.the-variants.OffWalk, Order.Passed, Order.Given}
 use Rattle.refusal.specs.Calls.{withRoom}
 use Rattle.walk_reading_spec.specs.Says.{readingOrder}
 

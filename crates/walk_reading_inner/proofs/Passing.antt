@@ -3,15 +3,8 @@
 --     passed-bytes           and for one to the next bracelet
 --     next-long              the next of a kind is as long as the reading
 --     step-moved, step-done, bracelet-moved, bracelet-done    how a step from a copy of the reading ends, and its ring copied to the output
-use Prim.Native.Nat.{ℕ}
-use mathlib.Core.Path.{_≡_, refl, sym, ap, _∙_}
-use mathlib.Core.Bool.{Bool}
-use mathlib.Core.Option.{none, some}
-use mathlib.Core.List.{List, _++_}
-use native.Mathlib.Omega.{arith}
-use lib.ListN.{length, take, drop}
-use Rattle.rings.specs.Alike.{bracelet}
-use Rattle.rings.specs.Steps.{nextOf, moves}
+use Rattle.words.proofs.Plain.{ℕ, arith, _≡_, refl, sym, ap, _∙_, Bool, none, some, List, _++_, length, take, drop}
+use Rattle.rings.specs.{Alike.bracelet, Steps.nextOf, Steps.moves}
 use Rattle.ring_laws.proofs.FullWalk.{next-facts}
 use Rattle.word_copy_laws.proofs.Copy.{copied}
 use Rattle.refusal.specs.Order.{Passed}

@@ -1,13 +1,7 @@
 -- No two answers, nor two outputs, fit one step from a lent reading.
 --     one-step-from         to the least of a kind, the moves included
 --     one-bracelet-from     to the least bracelet
-use Prim.Native.Nat.{ℕ}
-use mathlib.Core.Path.{_≡_, refl, sym, ap, _∙_}
-use mathlib.Core.Bool.{Bool}
-use mathlib.Core.Option.{some}
-use mathlib.Core.List.{List}
-use native.Mathlib.Omega.{arith}
-use lib.ListN.{length}
+use Rattle.words.proofs.Plain.{ℕ, arith, _≡_, refl, sym, ap, _∙_, Bool, some, List, length}
 use Rattle.rings.specs.Steps.{moves}
 use Rattle.refusal.proofs.Unique.{one-refusal, never-both}
 use Rattle.walk_spec.specs.declared.Outcome.{Outcome}

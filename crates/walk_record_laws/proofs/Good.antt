@@ -6,31 +6,20 @@
 --     ring-of, walk-good                         the record of a ring passes its checks
 --     moved-is                   the record that a step makes is the record of its ring
 --     went-period                the lyn of the necklace that a step came to is its period
-use Prim.Native.Nat.{ℕ, _+_, _-_, _<_, _≤_}
-use mathlib.Core.Path.{_≡_, refl, sym, ap, _∙_}
-use mathlib.Core.Bool.{Bool, true, false, _&&_}
-use mathlib.Core.Option.{some}
-use mathlib.Core.Logic.{inr}
-use mathlib.Core.List.{List, _++_}
-use native.Mathlib.Omega.{arith}
-use lib.ListN.{length, getD, take, drop, replicate, List·getD-append, length-drop, length-replicate, getD-replicate}
-use lib.Seq.{take-append-seam, getD-append-add, ext-getD, getD-take, getD-drop, length-take-le, take-all}
-use lib.Dec.{eqb}
-use borrow.Author.Tests.{eq-eqb, ne-eqb, lt-ltb, le-ltb}
+use Rattle.words.proofs.Plain.{ℕ, _+_, _-_, _<_, _≤_, arith, _≡_, refl, sym, ap, _∙_, inr, Bool, true, false, _&&_, some, List, _++_, eqb, length, getD, take}
+use Rattle.words.proofs.Plain.{drop, replicate, List·getD-append, length-drop, length-replicate, getD-replicate, take-append-seam, getD-append-add, ext-getD}
+use Rattle.words.proofs.Plain.{getD-take, getD-drop, length-take-le, take-all, eq-eqb, ne-eqb, lt-ltb, le-ltb}
 use Rattle.words.specs.Order.{same}
 use Rattle.words.specs.Readings.{Sized, Shaded, Reading}
 use Rattle.words.proofs.Split.{lt, eq, gt, tri, both, both-left, not-left, not-right, clash}
 use Rattle.words.proofs.Lex.{same-refl}
-use Rattle.rings.specs.declared.Class.{Class}
-use Rattle.rings.specs.Necklace.{necklace, period}
-use Rattle.rings.specs.Prenecklace.{prenecklace, lyn}
+use Rattle.rings.specs.{declared.Class.Class, Necklace.necklace, Necklace.period, Prenecklace.prenecklace, Prenecklace.lyn}
 use Rattle.rings.specs.Class.{classOf, tagOf, valueOf, sameClass, isLoose, loosePlace, lookAt}
 use Rattle.rings.specs.Steps.{nextOf}
 use Rattle.ring_laws.proofs.Lyndon.{lyn-run}
 use Rattle.ring_laws.proofs.Classes.{period-lyn, look-other, same-class-refl, loose-class, tight-class}
 use Rattle.ring_laws.proofs.FullWalk.{next-facts, zeros, zeros-at}
-use Rattle.refusal.specs.declared.Refusal.the-variants.{OffWalk}
-use Rattle.refusal.specs.Order.{Passed, Given}
+use Rattle.refusal.specs.{declared.Refusal.the-variants.OffWalk, Order.Passed, Order.Given}
 use Rattle.refusal.specs.Calls.{ringLimit, walkRecord, walkStart, oneReading}
 use Rattle.walk_spec.specs.declared.Walk.{Walk}
 use Rattle.walk_kind_laws.specs.declared.Kind as K
@@ -60,8 +49,7 @@ module _ (v : List ℕ) (c found : Class) (is : found ≡ classOf v) where
   pub on-class : isLoose found ≡ false → tagOf c ≡ tagOf found → valueOf c ≡ valueOf found → true ≡ onWalk v c
   unfolding onWalk
   on-class h t u =
-      sym
-      (both (prenecklace v) (sameClass c (classOf v)) (tight-class v (rw is at h))
+      sym (both (prenecklace v) (sameClass c (classOf v)) (tight-class v (rw is at h))
       (both (eqb (tagOf c) (tagOf (classOf v))) (eqb (valueOf c) (valueOf (classOf v))) (eq-eqb (tagOf c) (tagOf (classOf v)) (rw is at t)) (eq-eqb (valueOf c) (valueOf (classOf v)) (rw is at u))))
 
 -- ---- a record that passed its checks

@@ -4,21 +4,13 @@
 --     steps-walk                steps one after another until Done (`Steps` of Says) are a full walk of the theory
 --     steps-sum, steps-bound    from the all-zero ring their moves add up to one less than the prenecklaces of n and k, and to at most one less than
 --                               the necklaces of lengths 1 to n together
-use Prim.Native.Nat.{ℕ, suc, _+_, _-_, _/_, _<_, _≤_}
-use mathlib.Core.Path.{_≡_, sym, ap, _∙_}
-use mathlib.Core.Bool.{Bool}
-use mathlib.Core.List.{List, [], _∷_}
-use native.Mathlib.Omega.{arith}
-use lib.ListN.{length, replicate}
-use Rattle.rings.specs.Necklace.{necklace}
-use Rattle.rings.specs.Prenecklace.{prenecklace}
+use Rattle.words.proofs.Plain.{ℕ, suc, _+_, _-_, _/_, _<_, _≤_, arith, _≡_, sym, ap, _∙_, Bool, List, [], _∷_, length, replicate}
+use Rattle.rings.specs.{Necklace.necklace, Prenecklace.prenecklace}
 use Rattle.rings.specs.Steps.{nextOf, moves, howMany, howManyTo, FullWalk, done, step}
-use Rattle.ring_laws.proofs.Next.{low-or-full}
-use Rattle.ring_laws.proofs.Bound.{bound-necklace, bound-last}
+use Rattle.ring_laws.proofs.{Next.low-or-full, Bound.bound-necklace, Bound.bound-last}
 use Rattle.ring_laws.proofs.FullWalk.{zeros, walk-sum, walk-sum-bound}
 use Rattle.refusal.specs.declared.Checked.the-variants as C
-use Rattle.walk_spec.specs.declared.Walk.{Walk}
-use Rattle.walk_spec.specs.declared.Outcome.the-variants.{Moved, Done}
+use Rattle.walk_spec.specs.{declared.Walk.Walk, declared.Outcome.the-variants.Moved, declared.Outcome.the-variants.Done}
 use Rattle.walk_spec.specs.Record.{ringOf}
 use Rattle.walk_spec.specs.Says.{StartSays, StepSays, Steps, ends, goes}
 use Rattle.walk_record_laws.proofs.Good.{good-ready, good-long, ring-of}

@@ -1,19 +1,10 @@
 -- No two different answers of a start, or of a step, satisfy its contract: neither the outcome nor the record handed back is left open.
-use Prim.Native.Nat.{ℕ}
-use mathlib.Core.Path.{_≡_, refl, sym, ap, _∙_}
-use mathlib.Core.Bool.{Bool}
-use mathlib.Core.Option.{some}
-use mathlib.Core.List.{List}
-use native.Mathlib.Omega.{arith}
-use Rattle.rings.specs.Prenecklace.{prenecklace}
-use Rattle.rings.specs.Steps.{moves}
-use Rattle.refusal.specs.declared.Checked.{Checked}
+use Rattle.words.proofs.Plain.{ℕ, arith, _≡_, refl, sym, ap, _∙_, Bool, some, List}
+use Rattle.rings.specs.{Prenecklace.prenecklace, Steps.moves}
+use Rattle.refusal.specs.{declared.Checked.Checked, Calls.walkStart}
 use Rattle.refusal.specs.declared.Checked.the-variants as C
-use Rattle.refusal.specs.Calls.{walkStart}
 use Rattle.refusal.proofs.Unique.{one-refusal, never-both}
-use Rattle.walk_spec.specs.declared.Walk.{Walk}
-use Rattle.walk_spec.specs.declared.Started.{Started}
-use Rattle.walk_spec.specs.declared.Stepped.{Stepped}
+use Rattle.walk_spec.specs.{declared.Walk.Walk, declared.Started.Started, declared.Stepped.Stepped}
 use Rattle.walk_spec.specs.declared.Outcome.{Outcome}
 use Rattle.walk_spec.specs.declared.Outcome.the-variants.{Moved, Done, Refused}
 use Rattle.walk_spec.specs.Record.{ringOf, walkOf, walkAsked}

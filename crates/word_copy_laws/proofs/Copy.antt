@@ -2,12 +2,8 @@
 --     copied       s over as many bytes: s
 --     laid         s over n zeros: s with zeros behind it
 --     reversed     and then reversed: s reversed
-use Prim.Native.Nat.{ℕ, zero, suc, _-_, _≤_}
-use mathlib.Core.Path.{_≡_, refl, ap, _∙_}
-use mathlib.Core.List.{List, [], _∷_, _++_, append-nil, reverse}
-use native.Mathlib.Omega.{arith}
-use lib.ListN.{length, take, drop, replicate, drop-of-length-le}
-use lib.Seq.{take-all}
+use Rattle.words.proofs.Plain.{ℕ, zero, suc, _-_, _≤_, arith, _≡_, refl, ap, _∙_, List, [], _∷_, _++_, append-nil, reverse, length, take, drop, replicate}
+use Rattle.words.proofs.Plain.{drop-of-length-le, take-all}
 use Rattle.bytes.specs.Bytes.{rev, slice}
 
 -- s over as many bytes: s

@@ -1,12 +1,7 @@
 -- Bytes written one after another, over plain lists.
 --     Written u v m    v is as long as u, and its first m bytes are those of u
 --     written-start, written-more, written-end    before the first, one more, after the last
-use Prim.Native.Nat.{ℕ, _+_, _<_, _≤_}
-use mathlib.Core.Path.{_≡_, _∙_}
-use mathlib.Core.List.{List}
-use native.Mathlib.Omega.{arith}
-use lib.ListN.{length, getD, set, length-set}
-use lib.Seq.{getD-set-same, getD-set-other, ext-getD}
+use Rattle.words.proofs.Plain.{ℕ, _+_, _<_, _≤_, arith, _≡_, _∙_, List, length, getD, set, length-set, getD-set-same, getD-set-other, ext-getD}
 use Rattle.words.proofs.Split.{lt, eq, gt, tri}
 
 -- v is as long as u, and its first m bytes are those of u

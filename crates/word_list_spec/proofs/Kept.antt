@@ -2,14 +2,8 @@
 --     kept-cong, kept-none                    tests that agree on the list keep the same, and one that nothing passes keeps nothing
 --     kept-all, kept-each, kept-increasing    what is kept is in the list and passes, each that passes is kept, and the order stays
 --     kept-first                              the first that passes, and those above it
-use Prim.Native.Nat.{ℕ}
-use mathlib.Core.Path.{_≡_, refl, ap, subst}
-use mathlib.Core.Bool.{Bool, true, false, _&&_}
-use mathlib.Core.Option.{some}
-use mathlib.Core.List.{List, [], _∷_}
-use native.Mathlib.Omega.{arith}
-use Rattle.words.specs.Order.{before}
-use Rattle.words.specs.Readings.{first}
+use Rattle.words.proofs.Plain.{ℕ, arith, _≡_, refl, ap, subst, Bool, true, false, _&&_, some, List, [], _∷_}
+use Rattle.words.specs.{Order.before, Readings.first}
 use Rattle.words.proofs.Split.{passes, fails, test, not-right, clash}
 use Rattle.words.proofs.Lex.{before-irrefl}
 use Rattle.words.proofs.Readings.{All, nothing, also, all-weaken, Increasing, empty, more}

@@ -6,12 +6,7 @@
 --     count-cong, count-zero, count-le, count-split    the same of counts: a test that splits in two counts as the two together
 --     count-one                                        each reading is in the list of all readings exactly once
 --     total-cons, total-snoc                           readings with one sector more, at the front and at the end
-use Prim.Native.Nat.{ℕ, zero, suc, _+_, _<_, _≤_}
-use mathlib.Core.Path.{_≡_, refl, sym, ap, _∙_}
-use mathlib.Core.Bool.{Bool, true, false}
-use mathlib.Core.List.{List, [], _∷_, _++_, map}
-use native.Mathlib.Omega.{arith}
-use borrow.Author.Tests.{eq-eqb, ne-eqb}
+use Rattle.words.proofs.Plain.{ℕ, zero, suc, _+_, _<_, _≤_, arith, _≡_, refl, sym, ap, _∙_, Bool, true, false, List, [], _∷_, _++_, map, eq-eqb, ne-eqb}
 use Rattle.words.specs.Order.{same}
 use Rattle.words.specs.Readings.{Reading, fan, readings, bit, total, count}
 use Rattle.words.proofs.Split.{passes, fails, test, lt, eq, gt, tri}

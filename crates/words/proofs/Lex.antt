@@ -9,14 +9,8 @@
 --     not-before, upTo-not-before, not-upTo, before-not-upTo     upTo fails exactly where before passes the other way
 --     upTo-refl, upTo-trans, upTo-antisym, upTo-total    upTo is a total order
 --     before-upTo, before-upTo-trans, upTo-before-trans, upTo-split    the two together
-use Prim.Native.Nat.{ℕ, zero, suc, _<_}
-use mathlib.Core.Path.{_≡_, refl, sym, ap, _∙_}
-use mathlib.Core.Bool.{true, false, not, false≢true}
-use mathlib.Core.List.{List, [], _∷_, _++_}
-use native.Mathlib.Omega.{arith}
-use lib.ListN.{length}
-use lib.Dec.{eqb}
-use borrow.Author.Tests.{lt-ltb, le-ltb, eq-eqb, ne-eqb, eqb-true, not-true, not-false}
+use Rattle.words.proofs.Plain.{ℕ, zero, suc, _<_, arith, _≡_, refl, sym, ap, _∙_, true, false, not, false≢true, List, [], _∷_, _++_, eqb, length, lt-ltb}
+use Rattle.words.proofs.Plain.{le-ltb, eq-eqb, ne-eqb, eqb-true, not-true, not-false}
 use Rattle.words.specs.Order.{before, upTo, same}
 use Rattle.words.proofs.Split.{lt, eq, gt, tri, both, both-left, both-right, clash, refuted, forced}
 use Rattle.words.proofs.Sequence.{sec, Less}

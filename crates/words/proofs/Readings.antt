@@ -7,13 +7,8 @@
 --     first-none                            where nothing is found, nothing passes
 --     first-some, first-is                  what is found is the least reading that passes, and the other way round
 --     nothing-first, first-nothing          nothing is found exactly where no reading passes
-use Prim.Native.Nat.{ℕ, zero, suc, _<_}
-use mathlib.Core.Path.{_≡_, refl, subst, ap, _∙_}
-use mathlib.Core.Bool.{Bool, true, false}
-use mathlib.Core.Option.{Option, none, some}
-use mathlib.Core.List.{List, [], _∷_, _++_, map}
-use native.Mathlib.Omega.{arith}
-use lib.ListN.{getD}
+use Rattle.words.proofs.Plain.{ℕ, zero, suc, _<_, arith, _≡_, refl, subst, ap, _∙_, Bool, true, false, Option, none, some, List, [], _∷_, _++_, map}
+use Rattle.words.proofs.Plain.{getD}
 use Rattle.words.specs.Order.{before, upTo}
 use Rattle.words.specs.Readings.{Reading, fan, readings, first}
 pub use Rattle.words.specs.Readings.{All, nothing, also, Increasing, empty, more}

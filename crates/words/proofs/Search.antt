@@ -1,9 +1,5 @@
 -- What the searches of specs/Search find. Nothing else opens them.
-use Prim.Native.Nat.{ℕ, zero, suc, _<_, _≤_}
-use mathlib.Core.Path.{_≡_, refl, sym, ap}
-use mathlib.Core.Bool.{Bool, true, false, _&&_, false≢true}
-use native.Mathlib.Omega.{arith}
-use lib.ListN.{length, getD}
+use Rattle.words.proofs.Plain.{ℕ, zero, suc, _<_, _≤_, arith, _≡_, refl, sym, ap, Bool, true, false, _&&_, false≢true, length, getD}
 use Rattle.words.specs.Search.{allBelow, someBelow, least, greatest, tab}
 use Rattle.words.proofs.Split.{passes, fails, test, lt, eq, gt, tri, both, both-left, both-right, either, left, right, either-left, either-right, clash}
 

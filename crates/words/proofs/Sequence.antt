@@ -2,11 +2,7 @@
 -- shifted, appending a sector is going from n to suc n. Nothing here cuts or joins lists.
 --     sec, from, Less    specs/Sequence, passed on
 --     Cmp f g n, cmp     within n places f is below g, or they agree, or g is below f
-use Prim.Native.Nat.{ℕ, zero, suc, _+_, _<_, _≤_}
-use mathlib.Core.Path.{_≡_, sym, ap, _∙_}
-use mathlib.Core.List.{List}
-use native.Mathlib.Omega.{arith}
-use lib.ListN.{getD}
+use Rattle.words.proofs.Plain.{ℕ, zero, suc, _+_, _<_, _≤_, arith, _≡_, sym, ap, _∙_, List, getD}
 pub use Rattle.words.specs.Sequence.{sec, from, Less}
 use Rattle.words.proofs.Split.{Tri, lt, eq, gt, tri}
 

@@ -5,12 +5,8 @@
 --     either, either-left, either-right                   a disjunction of two tests
 --     clash, refuted, forced                              no test is both true and false, and one of the two it is
 --     agree                                               two tests that pass together are equal
-use Prim.Native.Nat.{ℕ, _<_, _≤_}
-use mathlib.Core.Path.{_≡_, refl, sym, _∙_}
-use mathlib.Core.Bool.{Bool, true, false, _&&_, _||_, false≢true}
-use native.Mathlib.Omega.{arith}
-use lib.Dec.{ltb, eqb}
-use borrow.Author.Tests.{ltb-true, ltb-false, eqb-true, eq-eqb}
+use Rattle.words.proofs.Plain.{ℕ, _<_, _≤_, arith, _≡_, refl, sym, _∙_, Bool, true, false, _&&_, _||_, false≢true, ltb, eqb, ltb-true, ltb-false}
+use Rattle.words.proofs.Plain.{eqb-true, eq-eqb}
 
 pub data Test (b : Bool) : Type 0 where
   passes : b ≡ true → Test b

@@ -5,15 +5,11 @@
 --     turn-again, turn-between                                           a turn of a turn is a turn, and each is one of each other
 --     reading-turn, reading-reverse                                      a turn of a reading, and its reversal, are readings
 --     getD-reverse, reverse-turn                                         sectors and turns of the reversal
-use Prim.Native.Nat.{ℕ, zero, suc, _+_, _-_, _<_, _≤_}
-use mathlib.Core.Path.{_≡_, refl, sym, ap, _∙_}
-use mathlib.Core.List.{List, [], _∷_, _++_, reverse, append-nil, append-assoc, reverse-cons, reverse-append}
-use native.Mathlib.Numerals.{add-one}
-use native.Mathlib.Omega.{arith}
-use lib.ListN.{length, take, drop, getD, length-append, length-take, length-drop, length-reverse, take-append-drop, List·getD-append}
-use lib.Seq.{take-length, drop-length, take-append-le, drop-append-le, take-at, drop-at, take-add, drop-drop, getD-append-add, getD-append-seam, getD-take, getD-drop}
-use Rattle.words.specs.Turn.{turn}
-use Rattle.words.specs.Readings.{Reading}
+use Rattle.words.proofs.Plain.{ℕ, zero, suc, _+_, _-_, _<_, _≤_, add-one, arith, _≡_, refl, sym, ap, _∙_, List, [], _∷_, _++_, reverse, append-nil}
+use Rattle.words.proofs.Plain.{append-assoc, reverse-cons, reverse-append, length, take, drop, getD, length-append, length-take, length-drop}
+use Rattle.words.proofs.Plain.{length-reverse, take-append-drop, List·getD-append, take-length, drop-length, take-append-le, drop-append-le, take-at}
+use Rattle.words.proofs.Plain.{drop-at, take-add, drop-drop, getD-append-add, getD-append-seam, getD-take, getD-drop}
+use Rattle.words.specs.{Turn.turn, Readings.Reading}
 use Rattle.words.proofs.Split.{Tri, lt, eq, gt, tri}
 use Rattle.words.proofs.Sequence.{sec, place}
 

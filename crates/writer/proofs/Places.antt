@@ -1,17 +1,10 @@
 -- The record in its place in the buffer: what was written to the part that begins there.
 --     short    it has at most 64 bytes behind its head
 --     wrote    the record stands at p
-use Prim.Native.Nat.{ℕ, _+_, _-_, _≤_}
-use mathlib.Core.Path.{_≡_}
-use mathlib.Core.List.{List, _++_, append-nil}
-use native.Mathlib.Omega.{arith}
-use lib.ListN.{length, take, drop, length-drop, drop-of-length-le}
-use lib.Seq.{length-take-le, take-at, drop-at, take-all}
-use Rattle.refusal.specs.Order.{Passed}
-use Rattle.refusal.specs.Calls.{oneReading}
-use Rattle.record_spec.specs.declared.Kind.{Kind}
-use Rattle.record_spec.specs.Layout.{bodyLength}
-use Rattle.record_spec.specs.Writes.{RecordPlaced, Wrote}
+use Rattle.words.proofs.Plain.{ℕ, _+_, _-_, _≤_, arith, _≡_, List, _++_, append-nil, length, take, drop, length-drop, drop-of-length-le, length-take-le}
+use Rattle.words.proofs.Plain.{take-at, drop-at, take-all}
+use Rattle.refusal.specs.{Order.Passed, Calls.oneReading}
+use Rattle.record_spec.specs.{declared.Kind.Kind, Layout.bodyLength, Writes.RecordPlaced, Writes.Wrote}
 use Rattle.record_spec.proofs.Forms.{few-bytes}
 
 -- there are at most 64 bytes behind the head

@@ -1,13 +1,8 @@
 -- `bracelet_settle_inner::settle` meets its contract. The loop's invariant, `Settling`: the least shade that makes a bracelet is from low to high. Its measure, the
 -- tries left and `halves`, bounds the tests: by seven where there are at most 16 shades (`halves-shades`).
-use Prim.Native.Nat.{_+_, _-_, _<_}
-use mathlib.Core.Path.{_∙_, sym}
-use native.Mathlib.Omega.{arith}
-use lib.ListN.{length-set}
+use Rattle.words.proofs.Needs.{needs, _+_, _-_, _<_, arith, _∙_, sym, length-set}
 use Rattle.bracelet_settle_inner.proofs.Halves.{halves, tries-less}
 use Rattle.bracelet_settle_inner.proofs.Settling.{Settling, settling-start, settling-down, settling-up, settling-end}
-use borrow.Author.Needs.{needs}
-use Rattle.bracelet_settle_inner.proofs.settle.Statement.{statement}
 use Rattle.bracelet_settle_inner.proofs.settle.Tie as tie
 
 abbrev Inv-loop : tie.InvT-loop
@@ -15,6 +10,9 @@ Inv-loop s₀ m least near top low₀ high₀ tries₀ s low high tries = Settli
 
 abbrev μ-loop : tie.MeasureT-loop
 μ-loop s₀ m least near top low₀ high₀ tries₀ s low high tries = tries + halves (high - low)
+
+abbrev start : tie.In-loop Inv-loop μ-loop → tie.Start Inv-loop μ-loop
+start c = c .before .before .before
 
 loop-holds : tie.Need-loop-holds Inv-loop μ-loop
 loop-holds c = let a = c .before .args in settling-start (a .s .now) (a .m) (a .least) (a .top) (c .before .pre)
@@ -34,9 +32,9 @@ loop-less c =
 
 loop-again : tie.Need-loop-again Inv-loop μ-loop
 loop-again c =
-    let a = c .before .before .before .before .before .before .before .before .args in
+    let a = start (c .before .before .before .before .before) .args in
     let l = c .before .before .before .before .before .before .loop in
-    settling-down (a .s .now) (a .m) (a .least) (a .top) (c .before .before .before .before .before .before .before .before .pre) (l .s) (l .low) (l .high)
+    settling-down (a .s .now) (a .m) (a .least) (a .top) (start (c .before .before .before .before .before) .pre) (l .s) (l .low) (l .high)
     (l .inv) (c .before .before .before .before .between .result) (c .before .before .before .before .between .ensures .up)
     (c .before .before .before .before .between .ensures .down) (sym (c .before .is-bracelet .ensures) ∙ c .if1 .taken)
 
@@ -58,9 +56,9 @@ loop-less-2 c =
 
 loop-again-2 : tie.Need-loop-again-2 Inv-loop μ-loop
 loop-again-2 c =
-    let a = c .before .before .before .before .before .before .before .before .args in
+    let a = start (c .before .before .before .before .before) .args in
     let l = c .before .before .before .before .before .before .loop in
-    settling-up (a .s .now) (a .m) (a .least) (a .top) (c .before .before .before .before .before .before .before .before .pre) (l .s) (l .low) (l .high)
+    settling-up (a .s .now) (a .m) (a .least) (a .top) (start (c .before .before .before .before .before) .pre) (l .s) (l .low) (l .high)
     (l .inv) (c .before .before .before .before .between .result) (c .before .before .before .before .between .ensures .up)
     (c .before .before .before .before .between .ensures .down) (sym (c .before .is-bracelet .ensures) ∙ c .if1 .left)
 
@@ -70,7 +68,7 @@ returns c =
     let l = c .before .loop in
     settling-end (a .s .now) (a .m) (a .least) (a .top) (c .before .before .before .pre) (l .s) (l .low) (l .high) (l .inv) (c .loop-test .left)
 
-pub settle-spec : {M : Type 1} → statement M
+pub settle-spec : {M : Type 1} → Rattle.bracelet_settle_inner.proofs.settle.Statement.statement M
 settle-spec =
     tie.close (tie.spec Inv-loop μ-loop loop-holds (λ c κs. search needs) (λ c κs. search needs) (λ c. search needs)
     is-bracelet-requires loop-less loop-again add-low loop-less-2 loop-again-2 (λ c. search needs) (λ c. search needs)

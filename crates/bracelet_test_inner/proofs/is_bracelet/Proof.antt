@@ -1,9 +1,6 @@
 -- `bracelet_test_inner::is_bracelet` meets its contract.
-use mathlib.Core.Path.{sym}
-use native.Mathlib.Omega.{arith}
-use borrow.Author.Needs.{needs}
+use Rattle.words.proofs.Needs.{needs, arith, sym}
 use Rattle.bracelet_test_inner.proofs.Facing.{scan-broken, scan-uneven, scan-whole}
-use Rattle.bracelet_test_inner.proofs.is_bracelet.Statement.{statement}
 use Rattle.bracelet_test_inner.proofs.is_bracelet.Tie as tie
 
 returns : tie.Need-returns
@@ -22,7 +19,6 @@ not-above-mirror-requires c κs =
     let w = c .before .before .before .before .before .args .s .now in let o = c .before .before .before .scan in
     (c .before .before .before .before .before .pre, scan-whole w (o .result) (o .ensures) (c .before .if1 .left) (c .if2 .left))
 
-pub is-bracelet-spec : {M : Type 1} → statement M
+pub is-bracelet-spec : {M : Type 1} → Rattle.bracelet_test_inner.proofs.is_bracelet.Statement.statement M
 is-bracelet-spec =
-    tie.close
-    (tie.spec (λ c κs. search needs) returns rem-if2 returns-2 not-above-mirror-requires (λ c. search needs))
+    tie.close (tie.spec (λ c κs. search needs) returns rem-if2 returns-2 not-above-mirror-requires (λ c. search needs))

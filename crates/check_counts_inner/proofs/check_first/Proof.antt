@@ -1,11 +1,6 @@
 -- `check_counts_inner::check_first` meets its contract: what the numbers' check answers, and then the counts.
-use mathlib.Core.Path.{refl}
-use mathlib.Core.Logic.{inl, inr}
-use native.Mathlib.Omega.{arith}
-use borrow.Author.Needs.{needs}
-use borrow.Author.Tests.{not-true, not-false}
+use Rattle.words.proofs.Needs.{needs, arith, refl, inl, inr, not-true, not-false}
 use Rattle.refusal.proofs.More.{numbers-refused, numbers-passed}
-use Rattle.check_counts_inner.proofs.check_first.Statement.{statement}
 use Rattle.check_counts_inner.proofs.check_first.Tie as tie
 
 enum-told : tie.Need-enum-told
@@ -30,7 +25,6 @@ returns-3 c =
     let g = numbers-passed (a .n) (a .n) (a .k) Unit (λ q. tt) (rw (c .before .before .enum-told .given .1) at (c .before .before .before .before .check-numbers .ensures)) in
     ((((g, λ i h. absurd (omega arith)), tt), rw (not-false (c .before .counts-fit .result) (c .if1 .left)) at (c .before .counts-fit .ensures)), refl)
 
-pub check-first-spec : {M : Type 1} → statement M
+pub check-first-spec : {M : Type 1} → Rattle.check_counts_inner.proofs.check_first.Statement.statement M
 check-first-spec =
-    tie.close
-    (tie.spec (λ c κs. search needs) (λ c. search needs) enum-told (λ c κs. search needs) returns returns-2 returns-3)
+    tie.close (tie.spec (λ c κs. search needs) (λ c. search needs) enum-told (λ c κs. search needs) returns returns-2 returns-3)

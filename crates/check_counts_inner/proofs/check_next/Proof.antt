@@ -1,10 +1,6 @@
 -- `check_counts_inner::check_next` meets its contract: what the check of reading and room answers, and then the counts.
-use mathlib.Core.Path.{refl}
-use mathlib.Core.Logic.{inl, inr}
-use borrow.Author.Needs.{needs}
-use borrow.Author.Tests.{not-true, not-false}
+use Rattle.words.proofs.Needs.{needs, refl, inl, inr, not-true, not-false}
 use Rattle.refusal.proofs.More.{more-counts}
-use Rattle.check_counts_inner.proofs.check_next.Statement.{statement}
 use Rattle.check_counts_inner.proofs.check_next.Tie as tie
 
 enum-told : tie.Need-enum-told
@@ -25,7 +21,6 @@ returns-3 c =
     let g = (rw (c .before .before .enum-told .given .1) at (c .before .before .before .before .check-room .ensures)) in
     ((g .0 .0, rw (not-false (c .before .counts-fit .result) (c .if1 .left)) at (c .before .counts-fit .ensures)), refl)
 
-pub check-next-spec : {M : Type 1} → statement M
+pub check-next-spec : {M : Type 1} → Rattle.check_counts_inner.proofs.check_next.Statement.statement M
 check-next-spec =
-    tie.close
-    (tie.spec (λ c κs. search needs) (λ c. search needs) enum-told (λ c κs. search needs) returns returns-2 returns-3)
+    tie.close (tie.spec (λ c κs. search needs) (λ c. search needs) enum-told (λ c κs. search needs) returns returns-2 returns-3)

@@ -1,12 +1,7 @@
 -- `check_counts_inner::counts_fit` meets its contract. The loop's invariant: what is left is n less the counts passed, said as a sum.
-use Prim.Native.Nat.{_≤_, _+_, _-_}
-use mathlib.Core.Path.{_≡_}
-use native.Mathlib.Omega.{arith}
-use lib.ListN.{length, drop}
-use borrow.Author.Needs.{needs}
+use Rattle.words.proofs.Needs.{needs, _≤_, _+_, _-_, arith, _≡_, length, drop}
 use Rattle.words.specs.Sum.{sumOf}
 use Rattle.check_counts_inner.proofs.Sum.{sum-on, sum-over, sum-end}
-use Rattle.check_counts_inner.proofs.counts_fit.Statement.{statement}
 use Rattle.check_counts_inner.proofs.counts_fit.Tie as tie
 
 abbrev Inv-loop : tie.InvT-loop
@@ -37,8 +32,7 @@ returns-4 c =
     let a = c .before .before .before .before .args in
     (c .before .before .before .if1 .left, omega (arith, sum-end (a .counts .now) (a .n) (l .i) (l .left) (l .inv .1) (omega arith)))
 
-pub counts-fit-spec : {M : Type 1} → statement M
+pub counts-fit-spec : {M : Type 1} → Rattle.check_counts_inner.proofs.counts_fit.Statement.statement M
 counts-fit-spec =
-    tie.close
-    (tie.spec Inv-loop μ-loop (λ c. search needs) (λ c. search needs) (λ c. search needs) (λ c. search needs)
+    tie.close (tie.spec Inv-loop μ-loop (λ c. search needs) (λ c. search needs) (λ c. search needs) (λ c. search needs)
     returns-2 (λ c. search needs) (λ c. search needs) loop-again returns-3 returns-4)

@@ -1,11 +1,6 @@
 -- `check_numbers_inner::first_bad` meets its contract. Where no sector is above one that is below the limit, all are. The loop's invariant: the sectors passed
 -- are below the limit.
-use Prim.Native.Nat.{ℕ, _≤_, _<_, _-_}
-use native.Mathlib.Omega.{arith}
-use lib.ListN.{length, getD}
-use borrow.Author.Needs.{needs}
-use borrow.Author.Count.{below-more}
-use Rattle.check_numbers_inner.proofs.first_bad.Statement.{statement}
+use Rattle.words.proofs.Needs.{needs, ℕ, _≤_, _<_, _-_, arith, length, getD, below-more}
 use Rattle.check_numbers_inner.proofs.first_bad.Tie as tie
 
 abbrev Inv-loop : tie.InvT-loop
@@ -23,9 +18,7 @@ cast-if2 c = omega (arith, c .shared-slice-known2 .given (c .before .before .loo
 loop-again : tie.Need-loop-again Inv-loop μ-loop
 loop-again c = (search needs, below-more _ _ (c .before .before .before .loop .inv .1) (c .if2 .left))
 
-pub first-bad-spec : {M : Type 1} → statement M
+pub first-bad-spec : {M : Type 1} → Rattle.check_numbers_inner.proofs.first_bad.Statement.statement M
 first-bad-spec =
-    tie.close
-    (tie.spec Inv-loop μ-loop (λ c κs. search needs) (λ c. search needs) returns (λ c. search needs)
-    (λ c. search needs) cast-if2 (λ c. search needs) (λ c. search needs) (λ c. search needs) loop-again
-    (λ c. search needs))
+    tie.close (tie.spec Inv-loop μ-loop (λ c κs. search needs) (λ c. search needs) returns (λ c. search needs)
+    (λ c. search needs) cast-if2 (λ c. search needs) (λ c. search needs) (λ c. search needs) loop-again (λ c. search needs))

@@ -1,11 +1,5 @@
 -- `check_numbers_inner::greatest` meets its contract. The loop's invariant: no sector passed is above `top`.
-use Prim.Native.Nat.{ℕ, _≤_, _<_, _-_}
-use mathlib.Core.Logic.{⊎-elim}
-use native.Mathlib.Omega.{arith}
-use lib.ListN.{length, getD}
-use borrow.Author.Needs.{needs}
-use borrow.Author.Count.{below-more}
-use Rattle.check_numbers_inner.proofs.greatest.Statement.{statement}
+use Rattle.words.proofs.Needs.{needs, ℕ, _≤_, _<_, _-_, arith, ⊎-elim, length, getD, below-more}
 use Rattle.check_numbers_inner.proofs.greatest.Tie as tie
 
 abbrev Inv-loop : tie.InvT-loop
@@ -26,8 +20,7 @@ loop-again c =
 returns : tie.Need-returns Inv-loop μ-loop
 returns c = λ j h. c .before .loop .inv .1 j (omega arith)
 
-pub greatest-spec : {M : Type 1} → statement M
+pub greatest-spec : {M : Type 1} → Rattle.check_numbers_inner.proofs.greatest.Statement.statement M
 greatest-spec =
-    tie.close
-    (tie.spec Inv-loop μ-loop (λ c. search needs) (λ c. search needs) (λ c. search needs) (λ c. search needs)
+    tie.close (tie.spec Inv-loop μ-loop (λ c. search needs) (λ c. search needs) (λ c. search needs) (λ c. search needs)
     loop-again returns)

@@ -1,11 +1,7 @@
 -- `check_readings_inner::check_reading` meets its contract: what the numbers' check answers, and then the scan settles the sectors.
-use mathlib.Core.Path.{refl}
-use mathlib.Core.Logic.{inl, inr}
-use lib.ListN.{length}
-use borrow.Author.Needs.{needs}
+use Rattle.words.proofs.Needs.{needs, refl, inl, inr, length}
 use Rattle.check_readings_inner.proofs.Sectors.{reading-bad, reading-good}
 use Rattle.refusal.proofs.More.{numbers-refused, numbers-passed}
-use Rattle.check_readings_inner.proofs.check_reading.Statement.{statement}
 use Rattle.check_readings_inner.proofs.check_reading.Tie as tie
 
 enum-told : tie.Need-enum-told
@@ -31,7 +27,6 @@ returns-3 c =
     (rw (c .before .before .enum-told .given .1) at (c .before .before .before .before .check-numbers .ensures)) in
     ((((g, reading-good _ _ _ (c .before .first-bad .ensures) (c .if1 .left)), tt), tt), refl)
 
-pub check-reading-spec : {M : Type 1} → statement M
+pub check-reading-spec : {M : Type 1} → Rattle.check_readings_inner.proofs.check_reading.Statement.statement M
 check-reading-spec =
-    tie.close
-    (tie.spec (λ c κs. search needs) (λ c. search needs) enum-told (λ c κs. search needs) returns returns-2 returns-3)
+    tie.close (tie.spec (λ c κs. search needs) (λ c. search needs) enum-told (λ c κs. search needs) returns returns-2 returns-3)

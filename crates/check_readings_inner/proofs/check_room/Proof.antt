@@ -1,9 +1,6 @@
 -- `check_readings_inner::check_room` meets its contract: what the reading's check answers, and then the room.
-use mathlib.Core.Path.{refl}
-use mathlib.Core.Logic.{inl, inr}
-use borrow.Author.Needs.{needs}
+use Rattle.words.proofs.Needs.{needs, refl, inl, inr}
 use Rattle.refusal.proofs.More.{more-room}
-use Rattle.check_readings_inner.proofs.check_room.Statement.{statement}
 use Rattle.check_readings_inner.proofs.check_room.Tie as tie
 
 enum-told : tie.Need-enum-told
@@ -20,6 +17,6 @@ returns-2 c =
 returns-3 : tie.Need-returns-3
 returns-3 c = let g = rw (c .before .enum-told .given .1) at (c .before .before .before .check-reading .ensures) in (((g .0 .0 .0, c .if1 .left), tt), refl)
 
-pub check-room-spec : {M : Type 1} → statement M
+pub check-room-spec : {M : Type 1} → Rattle.check_readings_inner.proofs.check_room.Statement.statement M
 check-room-spec =
     tie.close (tie.spec (λ c κs. search needs) (λ c. search needs) enum-told returns returns-2 returns-3)

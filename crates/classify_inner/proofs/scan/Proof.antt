@@ -1,12 +1,6 @@
 -- `classify_inner::scan` meets its contract. The loop's invariant: the first i sectors are a run of i - j.
-use Prim.Native.Nat.{ℕ, suc, _≤_, _<_, _+_, _-_}
-use mathlib.Core.Path.{_≡_, _∙_, sym, ap, refl}
-use mathlib.Core.Logic.{⊎-elim}
-use native.Mathlib.Omega.{arith}
-use lib.ListN.{length, getD, take, drop, set}
-use borrow.Author.Needs.{needs}
+use Rattle.words.proofs.Needs.{needs, ℕ, suc, _≤_, _<_, _+_, _-_, arith, _≡_, _∙_, sym, ap, refl, ⊎-elim, length, getD, take, drop, set}
 use Rattle.classify_inner.proofs.Scanning.{Runs, scan-start, scan-same, scan-greater, scan-breaks, scan-whole}
-use Rattle.classify_inner.proofs.scan.Statement.{statement}
 use Rattle.classify_inner.proofs.scan.Tie as tie
 use Rattle.classify_inner.proofs.scan.Reads as reads
 use Rattle.classify_inner.proofs.scan.Lts as lts
@@ -52,8 +46,7 @@ sub-t12 c = omega (arith, c .before .loop .inv .1 .short)
 returns-2 : tie.Need-returns-2 Inv-loop μ-loop
 returns-2 c = let l = c .before .loop in scan-whole (c .before .before .args .s .now) (l .i) (l .j) (l .inv .1) (l .inv .0) (c .loop-test .left)
 
-pub scan-spec : {M : Type 1} → statement M
+pub scan-spec : {M : Type 1} → Rattle.classify_inner.proofs.scan.Statement.statement M
 scan-spec =
-    tie.close
-    (tie.spec Inv-loop μ-loop loop-holds (λ c. search needs) shared-slice-read-opposite sub-t11 returns add-j
+    tie.close (tie.spec Inv-loop μ-loop loop-holds (λ c. search needs) shared-slice-read-opposite sub-t11 returns add-j
     (λ c. search needs) (λ c. search needs) loop-again sub-t12 returns-2)

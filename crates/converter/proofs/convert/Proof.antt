@@ -1,9 +1,6 @@
 -- `converter::convert` meets its contract: the lengths differ, the catalogue is damaged, or all of it is written.
-use mathlib.Core.Path.{refl}
-use native.Mathlib.Omega.{arith}
+use Rattle.words.proofs.Needs.{needs, arith, refl}
 use Rattle.converter_spec.specs.Converts.Unconverted.{room, damaged}
-use borrow.Author.Needs.{needs}
-use Rattle.converter.proofs.convert.Statement.{statement}
 use Rattle.converter.proofs.convert.Tie as tie
 
 returns : tie.Need-returns
@@ -18,8 +15,7 @@ write-all-requires c κs = (rw (c .before .enum-told .given .1) at (c .before .b
 returns-2 : tie.Need-returns-2
 returns-2 c = (damaged (c .before .before .before .before .if1 .left) (rw (c .before .r .given .1) at (c .before .before .before .check-all .ensures)), refl)
 
-pub convert-spec : {M : Type 1} → statement M
+pub convert-spec : {M : Type 1} → Rattle.converter.proofs.convert.Statement.statement M
 convert-spec =
-    tie.close
-    (tie.spec returns (λ c κs. search needs) (λ c. search needs) enum-told write-all-requires returns-2
+    tie.close (tie.spec returns (λ c κs. search needs) (λ c. search needs) enum-told write-all-requires returns-2
     (λ c. search needs) (λ c. search needs))

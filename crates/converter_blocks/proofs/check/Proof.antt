@@ -1,7 +1,6 @@
 -- `converter_blocks::check` meets its contract: the block is good as a catalogue of its own, or what is left over of it decides.
 use Rattle.converter_blocks.proofs.Blocks.{block-good, block-left}
-use borrow.Author.Needs.{needs}
-use Rattle.converter_blocks.proofs.check.Statement.{statement}
+use Rattle.words.proofs.Needs.{needs}
 use Rattle.converter_blocks.proofs.check.Tie as tie
 
 enum-told : tie.Need-enum-told
@@ -22,7 +21,6 @@ returns-2 c =
     let a = args in
     block-left (a .block .now) (a .last) _ (c .left-over .result) (rw (r .given .1) at (check-all .ensures)) (c .left-over .ensures)
 
-pub check-spec : {M : Type 1} → statement M
+pub check-spec : {M : Type 1} → Rattle.converter_blocks.proofs.check.Statement.statement M
 check-spec =
-    tie.close
-    (tie.spec (λ c κs. search needs) enum-told (λ c. search needs) (λ c κs. search needs) returns returns-2)
+    tie.close (tie.spec (λ c κs. search needs) enum-told (λ c. search needs) (λ c κs. search needs) returns returns-2)

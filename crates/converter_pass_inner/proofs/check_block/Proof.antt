@@ -1,8 +1,6 @@
 -- `converter_pass_inner::check_block` meets its contract.
-use native.Mathlib.Omega.{arith}
+use Rattle.words.proofs.Needs.{needs, arith}
 use Rattle.converter_pass_inner.proofs.Blocks.{place-room, check-gone, check-refused}
-use borrow.Author.Needs.{needs}
-use Rattle.converter_pass_inner.proofs.check_block.Statement.{statement}
 use Rattle.converter_pass_inner.proofs.check_block.Tie as tie
 
 add-place : tie.Need-add-place
@@ -15,7 +13,8 @@ add-place c =
 
 returns : tie.Need-returns
 returns c =
-    let args = c .before .before .before .before .before .before .before .before .args in
+    let d = c .before .before .before .before .before .before in
+    let args = d .before .before .args in
     let r′ = c .before .before .before .before .r in
     let check = c .before .before .before .before .before .before .check in
     let place = c .before .before .place in
@@ -29,8 +28,7 @@ returns-2 c =
     let check = c .before .before .before .before .check in
     rw (c .turn-by .ensures) (check-gone (args .at) (args .block .now) (args .block .now) _ (args .last) (rw (m′ .given .1) at (check .ensures)))
 
-pub check-block-spec : {M : Type 1} → statement M
+pub check-block-spec : {M : Type 1} → Rattle.converter_pass_inner.proofs.check_block.Statement.statement M
 check-block-spec =
-    tie.close
-    (tie.spec (λ c κs. search needs) (λ c. search needs) (λ c κs. search needs) add-place (λ c κs. search needs)
+    tie.close (tie.spec (λ c κs. search needs) (λ c. search needs) (λ c κs. search needs) add-place (λ c κs. search needs)
     (λ c κs. search needs) (λ c. search needs) (λ c κs. search needs) returns returns-2)

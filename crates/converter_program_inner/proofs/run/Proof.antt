@@ -1,9 +1,6 @@
 -- `converter_program_inner::run` is safe and ends.
-use native.Mathlib.Omega.{arith}
-use lib.ListN.{length-take}
+use Rattle.words.proofs.Needs.{needs, arith, length-take}
 use Rattle.program_ending_inner.proofs.Unique.{say-within}
-use borrow.Author.Needs.{needs}
-use Rattle.converter_program_inner.proofs.run.Statement.{statement}
 use Rattle.converter_program_inner.proofs.run.Tie as tie
 
 array-share-prefix-new : tie.Need-array-share-prefix-new
@@ -14,9 +11,8 @@ slice-aggregate-write-all c =
     let say = c .before .before .say in
     simp length-take (omega (arith, say-within _ _ _ _ (say .ensures), say .kept))
 
-pub run-spec : {M : Type 1} → statement M
+pub run-spec : {M : Type 1} → Rattle.converter_program_inner.proofs.run.Statement.statement M
 run-spec =
-    tie.close
-    (tie.spec (λ c κs. search needs) (λ c κs. search needs) (λ c. search needs) (λ c. search needs)
+    tie.close (tie.spec (λ c κs. search needs) (λ c κs. search needs) (λ c. search needs) (λ c. search needs)
     (λ c κs. search needs) (λ c. search needs) (λ c κs. search needs) array-share-prefix-new slice-aggregate-write-all
     (λ c κs. search needs) (λ c. search needs))

@@ -1,11 +1,6 @@
 -- `converter_sound_inner::check_all` meets its contract. The loop's invariant: what is found from the present place on is found from 0 on.
-use Prim.Native.Nat.{_+_, _-_}
-use mathlib.Core.Path.{refl}
-use native.Mathlib.Omega.{arith}
-use lib.ListN.{length}
-use borrow.Author.Needs.{needs}
+use Rattle.words.proofs.Needs.{needs, _+_, _-_, arith, refl, length}
 use Rattle.converter_sound_inner.proofs.Going.{Going, going-room, going-first, going-found, going-on, going-ended}
-use Rattle.converter_sound_inner.proofs.check_all.Statement.{statement}
 use Rattle.converter_sound_inner.proofs.check_all.Tie as tie
 
 abbrev Inv-loop : tie.InvT-loop
@@ -63,9 +58,8 @@ loop-again c = going-on _ _ (c .before .before .before .before .before .before .
 returns-2 : tie.Need-returns-2 Inv-loop μ-loop
 returns-2 c = going-ended _ _ (c .before .loop .inv) (c .loop-test .left)
 
-pub check-all-spec : {M : Type 1} → statement M
+pub check-all-spec : {M : Type 1} → Rattle.converter_sound_inner.proofs.check_all.Statement.statement M
 check-all-spec =
-    tie.close
-    (tie.spec Inv-loop μ-loop loop-holds sub-check-old part-check-old-start (λ c. search needs) (λ c κs. search needs)
+    tie.close (tie.spec Inv-loop μ-loop loop-holds sub-check-old part-check-old-start (λ c. search needs) (λ c κs. search needs)
     (λ c. search needs) returns enum-told add-n shared-slice-read-n cast-n add-at add-at-2 loop-less loop-again
     returns-2)

@@ -1,11 +1,6 @@
 -- `converter_turn_inner::write_all` meets its contract. The loop's invariant: with what becomes of the records that are left, the whole is converted.
-use Prim.Native.Nat.{_+_, _-_}
-use mathlib.Core.Path.{_∙_, sym, refl}
-use native.Mathlib.Omega.{arith}
-use lib.ListN.{length, length-take, length-drop}
-use borrow.Author.Needs.{needs}
+use Rattle.words.proofs.Needs.{needs, _+_, _-_, arith, _∙_, sym, refl, length, length-take, length-drop}
 use Rattle.converter_turn_inner.proofs.Going.{Going, going-room, going-first, going-on, going-ended}
-use Rattle.converter_turn_inner.proofs.write_all.Statement.{statement}
 use Rattle.converter_turn_inner.proofs.write_all.Tie as tie
 
 abbrev Inv-loop : tie.InvT-loop
@@ -13,6 +8,9 @@ Inv-loop old out₀ at₀ out at = Going old out at
 
 abbrev μ-loop : tie.MeasureT-loop
 μ-loop old out₀ at₀ out at = length old - at
+
+abbrev at-loop : tie.After-out Inv-loop μ-loop → tie.At-loop Inv-loop μ-loop
+at-loop c = c .before .before .before .before .before .before
 
 loop-holds : tie.Need-loop-holds Inv-loop μ-loop
 loop-holds c = going-first _ _ (c .before .before .pre .0) (c .before .before .pre .1)
@@ -57,12 +55,12 @@ put-front-requires c κs =
 
 loop-less : tie.Need-loop-less Inv-loop μ-loop
 loop-less c =
-    let g = going-room _ _ _ (c .before .before .before .before .before .before .before .loop .inv)
+    let g = going-room _ _ _ (at-loop (c .before) .loop .inv)
     (c .before .before .before .before .before .before .loop-test .taken) in omega (arith, g .2)
 
 loop-again : tie.Need-loop-again Inv-loop μ-loop
 loop-again c =
-    going-on _ _ _ (c .before .before .before .before .before .before .before .loop .inv)
+    going-on _ _ _ (at-loop (c .before) .loop .inv)
     (c .before .before .before .before .before .before .loop-test .taken) _ _ _ refl (c .before .before .put-front .ensures) refl
 
 same-length : tie.Need-same-length Inv-loop μ-loop
@@ -71,9 +69,8 @@ same-length c = c .before .loop .inv .long ∙ sym (c .before .before .before .b
 returns : tie.Need-returns Inv-loop μ-loop
 returns c = going-ended _ _ _ (c .before .loop .inv) (c .loop-test .left)
 
-pub write-all-spec : {M : Type 1} → statement M
+pub write-all-spec : {M : Type 1} → Rattle.converter_turn_inner.proofs.write_all.Statement.statement M
 write-all-spec =
-    tie.close
-    (tie.spec Inv-loop μ-loop loop-holds add-n shared-slice-read-n cast-n add-e add-e-2 sub-put-front
+    tie.close (tie.spec Inv-loop μ-loop loop-holds add-n shared-slice-read-n cast-n add-e add-e-2 sub-put-front
     part-put-front-start part-put-front-end sub-put-front-2 part-put-front-start-2 part-put-front-end-2
     put-front-requires loop-less loop-again same-length returns)

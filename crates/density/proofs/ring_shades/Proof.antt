@@ -1,13 +1,10 @@
 -- `density::ring_shades` meets its contract: the numbers, the card, the output, each value, and only then a byte is written.
-use mathlib.Core.Path.{_≡_, refl, sym, _∙_}
-use mathlib.Core.Bool.{true}
-use mathlib.Core.Logic.{inl, inr}
-use native.Mathlib.Omega.{arith}
-use borrow.Author.Needs.{needs}
-use borrow.Author.Tests.{not-true, not-false}
+use Rattle.words.proofs.Needs.{needs, arith, _≡_, refl, sym, _∙_, inl, inr, true, not-true, not-false}
 use Rattle.words.proofs.Split.{clash}
-use Rattle.density.proofs.ring_shades.Statement.{statement}
 use Rattle.density.proofs.ring_shades.Tie as tie
+
+abbrev else5 : tie.Else7 → tie.Else5
+else5 c = c .before .before .before
 
 returns : tie.Need-returns
 returns c = (inl (inl (inl (refl, λ s. absurd (omega (arith, s .0))))), refl)
@@ -40,13 +37,12 @@ write-shades-requires c κs = let s = c .before .before .first-unreadable .ensur
 
 returns-8 : tie.Need-returns-8
 returns-8 c =
-    let good : _ ≡ true = sym (c .before .before .before .before .before .before .before .before .is-good .ensures) ∙ not-false _
-    (c .before .before .before .before .before .before .before .if5 .left) in
+    let good : _ ≡ true = sym (else5 (c .before .before .before .before) .before .is-good .ensures) ∙ not-false _
+    (else5 (c .before .before .before .before) .if5 .left) in
     let s = c .before .before .before .before .before .first-unreadable .ensures in
     (((((omega arith, omega arith), ((omega arith, omega arith), good)), omega arith), (λ i h. s .before i (omega arith))), c .before .before .write-shades .ensures)
 
-pub ring-shades-spec : {M : Type 1} → statement M
+pub ring-shades-spec : {M : Type 1} → Rattle.density.proofs.ring_shades.Statement.statement M
 ring-shades-spec =
-    tie.close
-    (tie.spec returns returns-2 returns-3 returns-4 (λ c κs. search needs) returns-5 returns-6 (λ c. search needs)
+    tie.close (tie.spec returns returns-2 returns-3 returns-4 (λ c κs. search needs) returns-5 returns-6 (λ c. search needs)
     (λ c κs. search needs) returns-7 write-shades-requires (λ c. search needs) returns-8)

@@ -1,12 +1,6 @@
 -- `density::sector_shade` meets its contract: the shades, the card, then what the value tells.
-use mathlib.Core.Path.{_≡_, refl, sym, _∙_}
-use mathlib.Core.Bool.{true}
-use mathlib.Core.Logic.{inl, inr}
-use native.Mathlib.Omega.{arith}
-use borrow.Author.Needs.{needs}
-use borrow.Author.Tests.{not-true, not-false}
+use Rattle.words.proofs.Needs.{needs, arith, _≡_, refl, sym, _∙_, inl, inr, true, not-true, not-false}
 use Rattle.words.proofs.Split.{clash}
-use Rattle.density.proofs.sector_shade.Statement.{statement}
 use Rattle.density.proofs.sector_shade.Tie as tie
 
 returns : tie.Need-returns
@@ -21,6 +15,6 @@ returns-3 c = inr ((omega arith, omega arith), (refl, λ g. clash _ (c .before .
 returns-4 : tie.Need-returns-4
 returns-4 c = (((omega arith, omega arith), sym (c .before .before .is-good .ensures) ∙ not-false _ (c .before .if3 .left)), c .read .ensures)
 
-pub sector-shade-spec : {M : Type 1} → statement M
+pub sector-shade-spec : {M : Type 1} → Rattle.density.proofs.sector_shade.Statement.statement M
 sector-shade-spec = tie.close (tie.spec returns returns-2 (λ c κs. search needs) returns-3 (λ c. search needs)
     (λ c κs. search needs) returns-4)

@@ -1,13 +1,8 @@
 -- `density_cuts_inner::cuts_not_above` meets its contract. The loop's invariant: of the first i cuts, so many are not above x.
-use Prim.Native.Nat.{_+_, _≤_, _-_}
-use mathlib.Core.Path.{_≡_, _∙_, sym, ap}
-use mathlib.Core.Bool.{true, false}
-use native.Mathlib.Omega.{arith}
-use borrow.Author.Needs.{needs}
+use Rattle.words.proofs.Needs.{needs, _+_, _≤_, _-_, arith, _≡_, _∙_, sym, ap, true, false}
 use lib.Ieee.{le}
 use Rattle.density_spec.specs.Cuts.{cut, cutsUpTo}
 use Rattle.density_cuts_inner.proofs.Counting.{none-counted, one-counted, none-more}
-use Rattle.density_cuts_inner.proofs.cuts_not_above.Statement.{statement}
 use Rattle.density_cuts_inner.proofs.cuts_not_above.Tie as tie
 
 abbrev Inv-loop : tie.InvT-loop
@@ -37,8 +32,7 @@ returns c =
     let e : l .i ≡ a .k - 1 = omega arith in
     l .inv .2 ∙ ap (cutsUpTo (a .card) (a .k) (a .x)) e
 
-pub cuts-not-above-spec : {M : Type 1} → statement M
+pub cuts-not-above-spec : {M : Type 1} → Rattle.density_cuts_inner.proofs.cuts_not_above.Statement.statement M
 cuts-not-above-spec =
-    tie.close
-    (tie.spec Inv-loop μ-loop (λ c. search needs) loop-holds (λ c. search needs) (λ c κs. search needs)
+    tie.close (tie.spec Inv-loop μ-loop (λ c. search needs) loop-holds (λ c. search needs) (λ c κs. search needs)
     (λ c. search needs) (λ c. search needs) loop-again (λ c. search needs) loop-again-2 returns)

@@ -1,9 +1,6 @@
 -- `desk_counted_inner::answer_counted` meets its contract.
-use native.Mathlib.Omega.{arith}
-use lib.ListN.{length, length-take}
+use Rattle.words.proofs.Needs.{needs, arith, length, length-take}
 use Rattle.desk_words_inner.proofs.Shapes.{take-blank}
-use borrow.Author.Needs.{needs}
-use Rattle.desk_counted_inner.proofs.answer_counted.Statement.{statement}
 use Rattle.desk_counted_inner.proofs.answer_counted.Tie as tie
 
 slice-aggregate-answer-after : tie.Need-slice-aggregate-answer-after
@@ -21,8 +18,7 @@ returns c = rw (c .before .before .before .before .before .before .if1 .taken) (
 returns-2 : tie.Need-returns-2
 returns-2 c = rw (c .before .before .before .before .if1 .left) (c .before .before .answer-first .ensures)
 
-pub answer-counted-spec : {M : Type 1} → statement M
+pub answer-counted-spec : {M : Type 1} → Rattle.desk_counted_inner.proofs.answer_counted.Statement.statement M
 answer-counted-spec =
-    tie.close
-    (tie.spec (λ c. search needs) slice-aggregate-answer-after answer-after-requires (λ c. search needs) returns
+    tie.close (tie.spec (λ c. search needs) slice-aggregate-answer-after answer-after-requires (λ c. search needs) returns
     (λ c κs. search needs) (λ c. search needs) returns-2)

@@ -1,9 +1,6 @@
 -- `desk_counted_inner::ask_counts` meets its contract.
-use native.Mathlib.Omega.{arith}
-use lib.ListN.{length-take}
+use Rattle.words.proofs.Needs.{needs, arith, length-take}
 use Rattle.desk_texts_inner.proofs.Putting.{put-good, put-bad}
-use borrow.Author.Needs.{needs}
-use Rattle.desk_counted_inner.proofs.ask_counts.Statement.{statement}
 use Rattle.desk_counted_inner.proofs.ask_counts.Tie as tie
 
 slice-reshare-prefix-answer-counted : tie.Need-slice-reshare-prefix-answer-counted
@@ -31,9 +28,8 @@ returns-2 c =
     let h = rw (told .m .given .1) at (counted .ensures) in
     put-good _ _ _ _ _ _ _ (h .1) (c .before .before .answer-counted .ensures)
 
-pub ask-counts-spec : {M : Type 1} → statement M
+pub ask-counts-spec : {M : Type 1} → Rattle.desk_counted_inner.proofs.ask_counts.Statement.statement M
 ask-counts-spec =
-    tie.close
-    (tie.spec (λ c κs. search needs) (λ c. search needs) (λ c κs. search needs) (λ c. search needs)
+    tie.close (tie.spec (λ c κs. search needs) (λ c. search needs) (λ c κs. search needs) (λ c. search needs)
     slice-reshare-prefix-answer-counted slice-aggregate-answer-counted (λ c κs. search needs) (λ c. search needs)
     (λ c. search needs) returns (λ c. search needs) (λ c. search needs) returns-2)

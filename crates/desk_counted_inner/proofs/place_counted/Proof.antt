@@ -1,8 +1,6 @@
 -- `desk_counted_inner::place_counted` meets its contract.
-use native.Mathlib.Omega.{arith}
+use Rattle.words.proofs.Needs.{needs, arith}
 use Rattle.desk_counted_inner.proofs.Asking.{no-counted, put-counted}
-use borrow.Author.Needs.{needs}
-use Rattle.desk_counted_inner.proofs.place_counted.Statement.{statement}
 use Rattle.desk_counted_inner.proofs.place_counted.Tie as tie
 
 sub-ask-behind : tie.Need-sub-ask-behind
@@ -27,9 +25,8 @@ returns-2 c =
     let k = told .k .given in
     put-counted (facts .args .t .now) _ _ _ _ (facts .args .after) (k .0 .0) _ (rw (k .1) at (head .head-of .ensures)) (asked .ask-behind .ensures)
 
-pub place-counted-spec : {M : Type 1} → statement M
+pub place-counted-spec : {M : Type 1} → Rattle.desk_counted_inner.proofs.place_counted.Statement.statement M
 place-counted-spec =
-    tie.close
-    (tie.spec (λ c κs. search needs) (λ c. search needs) (λ c κs. search needs) (λ c. search needs) sub-ask-behind
+    tie.close (tie.spec (λ c κs. search needs) (λ c. search needs) (λ c κs. search needs) (λ c. search needs) sub-ask-behind
     part-ask-behind-start (λ c. search needs) (λ c. search needs) (λ c κs. search needs) (λ c. search needs) returns
     (λ c. search needs) returns-2)

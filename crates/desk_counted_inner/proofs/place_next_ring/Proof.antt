@@ -1,6 +1,5 @@
 -- `desk_counted_inner::place_next_ring` meets its contract.
-use borrow.Author.Needs.{needs}
-use Rattle.desk_counted_inner.proofs.place_next_ring.Statement.{statement}
+use Rattle.words.proofs.Needs.{needs}
 use Rattle.desk_counted_inner.proofs.place_next_ring.Tie as tie
 
 returns : tie.Need-returns
@@ -18,9 +17,8 @@ returns-3 c =
     let arm = c .before .before .before .before .before .a in
     rw (arm .given .1) (c .before .before .place-refusal .ensures)
 
-pub place-next-ring-spec : {M : Type 1} → statement M
+pub place-next-ring-spec : {M : Type 1} → Rattle.desk_counted_inner.proofs.place_next_ring.Statement.statement M
 place-next-ring-spec =
-    tie.close
-    (tie.spec (λ c. search needs) (λ c κs. search needs) (λ c. search needs) (λ c κs. search needs)
+    tie.close (tie.spec (λ c. search needs) (λ c κs. search needs) (λ c. search needs) (λ c κs. search needs)
     (λ c. search needs) (λ c κs. search needs) (λ c. search needs) returns (λ c. search needs) returns-2
     (λ c. search needs) returns-3)

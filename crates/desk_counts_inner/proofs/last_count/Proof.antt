@@ -1,7 +1,5 @@
 -- `desk_counts_inner::last_count` meets its contract.
-use mathlib.Core.Path.{refl}
-use borrow.Author.Needs.{needs}
-use Rattle.desk_counts_inner.proofs.last_count.Statement.{statement}
+use Rattle.words.proofs.Needs.{needs, refl}
 use Rattle.desk_counts_inner.proofs.last_count.Tie as tie
 
 returns : tie.Need-returns
@@ -14,8 +12,7 @@ returns-2 c =
     let n = rw (x .given .1) at (parse-number .ensures) in
     (refl, (x .given .0 .0, n .0, n .1, refl))
 
-pub last-count-spec : {M : Type 1} → statement M
+pub last-count-spec : {M : Type 1} → Rattle.desk_counts_inner.proofs.last_count.Statement.statement M
 last-count-spec =
-    tie.close
-    (tie.spec (λ c κs. search needs) (λ c. search needs) (λ c. search needs) (λ c. search needs) (λ c. search needs)
+    tie.close (tie.spec (λ c κs. search needs) (λ c. search needs) (λ c. search needs) (λ c. search needs) (λ c. search needs)
     (λ c. search needs) returns (λ c. search needs) returns-2)

@@ -1,11 +1,11 @@
 -- `desk_first_inner::answer_first` meets its contract.
-use native.Mathlib.Omega.{arith}
-use lib.ListN.{length-take}
+use Rattle.words.proofs.Needs.{needs, arith, length-take}
 use Rattle.desk_texts_inner.proofs.Putting.{puts-on}
 use Rattle.desk_first_inner.proofs.Sums.{first-within}
-use borrow.Author.Needs.{needs}
-use Rattle.desk_first_inner.proofs.answer_first.Statement.{statement}
 use Rattle.desk_first_inner.proofs.answer_first.Tie as tie
+
+abbrev start : tie.After-answer-in → tie.Start
+start c = c .before .before .before .before .before .before
 
 array-borrow-prefix-out : tie.Need-array-borrow-prefix-out
 array-borrow-prefix-out c = omega (arith, c .sum-within .ensures .most)
@@ -21,14 +21,13 @@ answer-in-requires c κs =
 
 returns : tie.Need-returns
 returns c =
-    let args = c .before .before .before .before .before .before .before .before .before .args in
+    let args = start (c .before .before .before) .args in
     let sum-within = c .before .before .before .before .before .before .sum-within in
     let answer-in = c .before .before .before .answer-in in
     let a = args in
     puts-on _ _ (first-within (a .k) (a .counts .now) (sum-within .result) (sum-within .ensures)) _ _ _ _ (answer-in .ensures)
 
-pub answer-first-spec : {M : Type 1} → statement M
+pub answer-first-spec : {M : Type 1} → Rattle.desk_first_inner.proofs.answer_first.Statement.statement M
 answer-first-spec =
-    tie.close
-    (tie.spec (λ c κs. search needs) array-borrow-prefix-out slice-aggregate-answer-in answer-in-requires
+    tie.close (tie.spec (λ c κs. search needs) array-borrow-prefix-out slice-aggregate-answer-in answer-in-requires
     (λ c. search needs) returns)

@@ -1,10 +1,6 @@
 -- `desk_first_inner::sum_within` meets its contract.
-use Prim.Native.Nat.{_-_}
-use native.Mathlib.Omega.{arith}
-use lib.ListN.{length}
+use Rattle.words.proofs.Needs.{needs, _-_, arith, length}
 use Rattle.desk_first_inner.proofs.Sums.{Summed, summed-none, summed-more, summed-over, summed-all}
-use borrow.Author.Needs.{needs}
-use Rattle.desk_first_inner.proofs.sum_within.Statement.{statement}
 use Rattle.desk_first_inner.proofs.sum_within.Tie as tie
 
 abbrev Inv-loop : tie.InvT-loop
@@ -51,8 +47,7 @@ returns-2 c =
     let cs = args .counts .now in
     summed-all cs (l .sum) (l .i) (l .inv) (omega (arith, loop-test .left))
 
-pub sum-within-spec : {M : Type 1} → statement M
+pub sum-within-spec : {M : Type 1} → Rattle.desk_first_inner.proofs.sum_within.Statement.statement M
 sum-within-spec =
-    tie.close
-    (tie.spec Inv-loop μ-loop loop-holds (λ c. search needs) (λ c. search needs) sub-if1 returns add-sum
+    tie.close (tie.spec Inv-loop μ-loop loop-holds (λ c. search needs) (λ c. search needs) sub-if1 returns add-sum
     (λ c. search needs) (λ c. search needs) loop-again returns-2)

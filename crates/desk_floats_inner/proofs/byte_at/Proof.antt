@@ -1,9 +1,5 @@
 -- `desk_floats_inner::byte_at` meets its contract.
-use Prim.Native.Nat.{_+_}
-use mathlib.Core.Path.{refl}
-use native.Mathlib.Omega.{arith}
-use borrow.Author.Needs.{needs}
-use Rattle.desk_floats_inner.proofs.byte_at.Statement.{statement}
+use Rattle.words.proofs.Needs.{needs, _+_, arith, refl}
 use Rattle.desk_floats_inner.proofs.byte_at.Tie as tie
 
 cast-result : tie.Need-cast-result
@@ -35,8 +31,7 @@ returns c = (
   ),
 )
 
-pub byte-at-spec : {M : Type 1} → statement M
+pub byte-at-spec : {M : Type 1} → Rattle.desk_floats_inner.proofs.byte_at.Statement.statement M
 byte-at-spec =
-    tie.close
-    (tie.spec (λ c. search needs) cast-result mul-result (λ c. search needs) (λ c. search needs) cast-result-2
+    tie.close (tie.spec (λ c. search needs) cast-result mul-result (λ c. search needs) (λ c. search needs) cast-result-2
     add-result-2 returns)

@@ -1,7 +1,6 @@
 -- `desk_floats_inner::pattern_at` meets its contract.
 use Rattle.desk_floats_inner.proofs.Patterns.{pattern-bytes}
-use borrow.Author.Needs.{needs}
-use Rattle.desk_floats_inner.proofs.pattern_at.Statement.{statement}
+use Rattle.words.proofs.Needs.{needs}
 use Rattle.desk_floats_inner.proofs.pattern_at.Tie as tie
 
 returns : tie.Need-returns
@@ -10,9 +9,8 @@ returns c =
     (c .before .before .before .byte-at .ensures .0) (c .before .before .byte-at2 .ensures .0) (c .before .byte-at3 .ensures .0)
     (c .byte-at4 .ensures .0)
 
-pub pattern-at-spec : {M : Type 1} → statement M
+pub pattern-at-spec : {M : Type 1} → Rattle.desk_floats_inner.proofs.pattern_at.Statement.statement M
 pattern-at-spec =
-    tie.close
-    (tie.spec (λ c κs. search needs) (λ c. search needs) (λ c κs. search needs) (λ c. search needs)
+    tie.close (tie.spec (λ c κs. search needs) (λ c. search needs) (λ c κs. search needs) (λ c. search needs)
     (λ c κs. search needs) (λ c. search needs) (λ c κs. search needs) (λ c. search needs) (λ c. search needs)
     (λ c. search needs) (λ c. search needs) (λ c. search needs) (λ c. search needs) returns)

@@ -1,13 +1,8 @@
 -- `desk_floats_inner::write_floats` meets its contract.
-use Prim.Native.Nat.{_-_, _≤_}
-use mathlib.Core.Path.{_≡_, refl, ap, _∙_}
-use native.Mathlib.Omega.{arith}
-use lib.ListN.{length, length-set}
+use Rattle.words.proofs.Needs.{needs, _-_, _≤_, arith, _≡_, refl, ap, _∙_, length, length-set}
 use lib.Ieee.{binary32, ofBits}
 use Rattle.desk_floats_inner.specs.Says.{FloatsSay}
 use Rattle.desk_floats_inner.proofs.Patterns.{floats-more}
-use borrow.Author.Needs.{needs}
-use Rattle.desk_floats_inner.proofs.write_floats.Statement.{statement}
 use Rattle.desk_floats_inner.proofs.write_floats.Tie as tie
 
 abbrev Inv-loop : tie.InvT-loop
@@ -35,8 +30,7 @@ same-length c = c .before .loop .inv .1
 returns : tie.Need-returns Inv-loop μ-loop
 returns c = λ j h. c .before .loop .inv .2 j (omega (arith, c .loop-test .left))
 
-pub write-floats-spec : {M : Type 1} → statement M
+pub write-floats-spec : {M : Type 1} → Rattle.desk_floats_inner.proofs.write_floats.Statement.statement M
 write-floats-spec =
-    tie.close
-    (tie.spec Inv-loop μ-loop loop-holds (λ c. search needs) (λ c κs. search needs) (λ c κs. search needs)
+    tie.close (tie.spec Inv-loop μ-loop loop-holds (λ c. search needs) (λ c κs. search needs) (λ c κs. search needs)
     (λ c. search needs) (λ c. search needs) (λ c. search needs) (λ c. search needs) loop-again same-length returns)

@@ -1,8 +1,7 @@
 -- `desk_inner::place_answer` meets its contract.
 use Rattle.desk_texts_inner.proofs.Putting.{put-bad}
 use Rattle.desk_inner.proofs.Lines.{line-long, line-alone}
-use borrow.Author.Needs.{needs}
-use Rattle.desk_inner.proofs.place_answer.Statement.{statement}
+use Rattle.words.proofs.Needs.{needs}
 use Rattle.desk_inner.proofs.place_answer.Tie as tie
 
 returns : tie.Need-returns
@@ -18,8 +17,7 @@ returns-2 c =
     let facts = alone .before .before .before .before .before in
     put-bad _ _ _ _ _ _ (line-alone (facts .args .line .now) (word .result) (word .ensures) (alone .if2 .taken)) (c .before .before .place-malformed2 .ensures)
 
-pub place-answer-spec : {M : Type 1} → statement M
+pub place-answer-spec : {M : Type 1} → Rattle.desk_inner.proofs.place_answer.Statement.statement M
 place-answer-spec =
-    tie.close
-    (tie.spec (λ c κs. search needs) (λ c. search needs) returns (λ c κs. search needs) (λ c κs. search needs)
+    tie.close (tie.spec (λ c κs. search needs) (λ c. search needs) returns (λ c κs. search needs) (λ c κs. search needs)
     (λ c. search needs) returns-2 (λ c κs. search needs) (λ c. search needs) (λ c. search needs))

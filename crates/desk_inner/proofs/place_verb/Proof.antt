@@ -1,6 +1,5 @@
 -- `desk_inner::place_verb` meets its contract.
-use borrow.Author.Needs.{needs}
-use Rattle.desk_inner.proofs.place_verb.Statement.{statement}
+use Rattle.words.proofs.Needs.{needs}
 use Rattle.desk_inner.proofs.place_verb.Tie as tie
 
 returns : tie.Need-returns
@@ -30,10 +29,9 @@ returns-8 c = rw (c .before .before .before .before .enum-told6 .given .1) (c .b
 returns-9 : tie.Need-returns-9
 returns-9 c = rw (c .before .before .before .before .enum-told7 .given .1) (c .before .before .place-shade .ensures)
 
-pub place-verb-spec : {M : Type 1} → statement M
+pub place-verb-spec : {M : Type 1} → Rattle.desk_inner.proofs.place_verb.Statement.statement M
 place-verb-spec =
-    tie.close
-    (tie.spec (λ c. search needs) (λ c κs. search needs) (λ c. search needs) (λ c κs. search needs)
+    tie.close (tie.spec (λ c. search needs) (λ c κs. search needs) (λ c. search needs) (λ c κs. search needs)
     (λ c. search needs) (λ c κs. search needs) (λ c. search needs) (λ c κs. search needs) (λ c. search needs)
     (λ c κs. search needs) (λ c. search needs) (λ c κs. search needs) (λ c. search needs) (λ c κs. search needs)
     (λ c. search needs) (λ c κs. search needs) (λ c. search needs) (λ c κs. search needs) (λ c. search needs) returns

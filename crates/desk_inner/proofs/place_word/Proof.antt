@@ -1,10 +1,7 @@
 -- `desk_inner::place_word` meets its contract.
-use native.Mathlib.Omega.{arith}
-use lib.ListN.{length-take}
+use Rattle.words.proofs.Needs.{needs, arith, length-take}
 use Rattle.desk_texts_inner.proofs.Putting.{put-bad}
 use Rattle.desk_inner.proofs.Lines.{line-unknown, put-line}
-use borrow.Author.Needs.{needs}
-use Rattle.desk_inner.proofs.place_word.Statement.{statement}
 use Rattle.desk_inner.proofs.place_word.Tie as tie
 
 slice-aggregate-verb-of : tie.Need-slice-aggregate-verb-of
@@ -27,9 +24,8 @@ returns-2 c =
     let v = told .v .given in
     put-line (facts .args .line .now) (facts .args .e) (pre .1 .0) (pre .0) (pre .1 .1 .0) (verb .result) (verb .ensures) (v .0 .0) (v .1) _ _ _ _ (c .before .before .place-verb .ensures)
 
-pub place-word-spec : {M : Type 1} → statement M
+pub place-word-spec : {M : Type 1} → Rattle.desk_inner.proofs.place_word.Statement.statement M
 place-word-spec =
-    tie.close
-    (tie.spec slice-aggregate-verb-of (λ c κs. search needs) (λ c. search needs) (λ c κs. search needs)
+    tie.close (tie.spec slice-aggregate-verb-of (λ c κs. search needs) (λ c. search needs) (λ c κs. search needs)
     (λ c. search needs) (λ c. search needs) (λ c. search needs) (λ c. search needs) (λ c. search needs)
     (λ c κs. search needs) (λ c. search needs) returns (λ c. search needs) returns-2)

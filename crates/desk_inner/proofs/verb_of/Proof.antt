@@ -1,8 +1,7 @@
 -- `desk_inner::verb_of` meets its contract.
 use Rattle.desk_inner.proofs.Verbs.{group-then}
 use Rattle.desk_spec.specs.Verbs.{verbOf}
-use borrow.Author.Needs.{needs}
-use Rattle.desk_inner.proofs.verb_of.Statement.{statement}
+use Rattle.words.proofs.Needs.{needs}
 use Rattle.desk_inner.proofs.verb_of.Tie as tie
 
 returns : tie.Need-returns
@@ -29,9 +28,8 @@ returns c =
     let both-on = group-then _ _ _ _ _ (or-else5 .ensures) (both-of .ensures) count-on in
     group-then _ _ _ _ _ (or-else6 .ensures) (about-of .ensures) both-on
 
-pub verb-of-spec : {M : Type 1} → statement M
+pub verb-of-spec : {M : Type 1} → Rattle.desk_inner.proofs.verb_of.Statement.statement M
 verb-of-spec =
-    tie.close
-    (tie.spec (λ c κs. search needs) (λ c κs. search needs) (λ c κs. search needs) (λ c κs. search needs)
+    tie.close (tie.spec (λ c κs. search needs) (λ c κs. search needs) (λ c κs. search needs) (λ c κs. search needs)
     (λ c κs. search needs) (λ c κs. search needs) (λ c κs. search needs) (λ c κs. search needs) (λ c κs. search needs)
     (λ c κs. search needs) (λ c κs. search needs) (λ c κs. search needs) (λ c κs. search needs) returns)

@@ -1,11 +1,6 @@
 -- `desk_rings_inner::each_long` meets its contract: c characters of the word under way have been seen.
-use Prim.Native.Nat.{_≤_, _-_}
-use mathlib.Core.Path.{_≡_, refl}
-use native.Mathlib.Omega.{arith}
-use lib.ListN.{length, drop}
+use Rattle.words.proofs.Needs.{needs, _≤_, _-_, arith, _≡_, refl, length, drop}
 use Rattle.desk_rings_inner.proofs.Long.{longFrom, on-digit, on-space, on-wrong, on-end, long-true, long-false}
-use borrow.Author.Needs.{needs}
-use Rattle.desk_rings_inner.proofs.each_long.Statement.{statement}
 use Rattle.desk_rings_inner.proofs.each_long.Tie as tie
 
 abbrev Inv-loop : tie.InvT-loop
@@ -35,8 +30,7 @@ loop-again-2 c =
 returns-2 : tie.Need-returns-2 Inv-loop μ-loop
 returns-2 c = let l = c .before .loop in long-true _ _ (on-end _ _ (l .i) (l .c) (l .inv .2) (omega (arith, c .loop-test .left)))
 
-pub each-long-spec : {M : Type 1} → statement M
+pub each-long-spec : {M : Type 1} → Rattle.desk_rings_inner.proofs.each_long.Statement.statement M
 each-long-spec =
-    tie.close
-    (tie.spec Inv-loop μ-loop loop-holds (λ c. search needs) (λ c. search needs) (λ c. search needs)
+    tie.close (tie.spec Inv-loop μ-loop loop-holds (λ c. search needs) (λ c. search needs) (λ c. search needs)
     (λ c. search needs) loop-again returns (λ c. search needs) loop-again-2 returns-2)

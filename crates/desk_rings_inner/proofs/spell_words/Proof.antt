@@ -1,12 +1,6 @@
 -- `desk_rings_inner::spell_words` meets its contract: up to place i the words are spelt, and c sectors of the word under way.
-use Prim.Native.Nat.{_≤_, _-_}
-use mathlib.Core.Path.{_≡_, refl}
-use mathlib.Core.Logic.{⊎-elim}
-use native.Mathlib.Omega.{arith}
-use lib.ListN.{length, length-set}
+use Rattle.words.proofs.Needs.{needs, _≤_, _-_, arith, _≡_, refl, ⊎-elim, length, length-set}
 use Rattle.desk_rings_inner.proofs.Upto.{Upto, upto-start, upto-space, upto-digit, upto-bad, upto-end}
-use borrow.Author.Needs.{needs}
-use Rattle.desk_rings_inner.proofs.spell_words.Statement.{statement}
 use Rattle.desk_rings_inner.proofs.spell_words.Tie as tie
 
 abbrev Inv-loop : tie.InvT-loop
@@ -45,9 +39,8 @@ same-length-2 c = c .before .loop .inv .1
 returns-2 : tie.Need-returns-2 Inv-loop μ-loop
 returns-2 c = let l = c .before .loop in upto-end _ _ (l .i) _ _ (l .inv .2) (omega (arith, c .loop-test .left)) (omega (arith, l .inv .0, l .inv .2 .short, l .inv .2 .inside))
 
-pub spell-words-spec : {M : Type 1} → statement M
+pub spell-words-spec : {M : Type 1} → Rattle.desk_rings_inner.proofs.spell_words.Statement.statement M
 spell-words-spec =
-    tie.close
-    (tie.spec Inv-loop μ-loop loop-holds (λ c. search needs) (λ c. search needs) (λ c. search needs) loop-again
+    tie.close (tie.spec Inv-loop μ-loop loop-holds (λ c. search needs) (λ c. search needs) (λ c. search needs) loop-again
     (λ c κs. search needs) same-length returns (λ c. search needs) (λ c. search needs) (λ c. search needs)
     (λ c. search needs) loop-again-2 (λ c. search needs) same-length-2 returns-2)

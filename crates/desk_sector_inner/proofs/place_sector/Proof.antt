@@ -1,6 +1,5 @@
 -- `desk_sector_inner::place_sector` meets its contract.
-use borrow.Author.Needs.{needs}
-use Rattle.desk_sector_inner.proofs.place_sector.Statement.{statement}
+use Rattle.words.proofs.Needs.{needs}
 use Rattle.desk_sector_inner.proofs.place_sector.Tie as tie
 
 place-outside-requires : tie.Need-place-outside-requires
@@ -23,9 +22,8 @@ returns-3 c =
     let arm = c .before .before .before .before .before .enum-told in
     rw (arm .given .1) (c .before .before .place-words .ensures)
 
-pub place-sector-spec : {M : Type 1} → statement M
+pub place-sector-spec : {M : Type 1} → Rattle.desk_sector_inner.proofs.place_sector.Statement.statement M
 place-sector-spec =
-    tie.close
-    (tie.spec (λ c. search needs) (λ c. search needs) (λ c. search needs) (λ c κs. search needs) (λ c. search needs)
+    tie.close (tie.spec (λ c. search needs) (λ c. search needs) (λ c. search needs) (λ c κs. search needs) (λ c. search needs)
     place-outside-requires (λ c. search needs) (λ c. search needs) (λ c κs. search needs) (λ c. search needs) returns
     (λ c. search needs) returns-2 (λ c. search needs) returns-3)

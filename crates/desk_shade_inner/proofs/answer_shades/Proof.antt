@@ -1,12 +1,7 @@
 -- `desk_shade_inner::answer_shades` meets its contract.
-use mathlib.Core.Path.{sym, ap, _∙_}
-use native.Mathlib.Omega.{arith}
-use Prim.Native.Nat.{_-_}
-use lib.ListN.{length, length-take, length-drop}
+use Rattle.words.proofs.Needs.{needs, _-_, arith, sym, ap, _∙_, length, length-take, length-drop}
 use Rattle.desk_spec.specs.Answers.{blank}
 use Rattle.desk_words_inner.proofs.Shapes.{take-blank}
-use borrow.Author.Needs.{needs}
-use Rattle.desk_shade_inner.proofs.answer_shades.Statement.{statement}
 use Rattle.desk_shade_inner.proofs.answer_shades.Tie as tie
 
 slice-aggregate-answer-ring : tie.Need-slice-aggregate-answer-ring
@@ -19,8 +14,7 @@ answer-ring-requires c κs =
     let e = take-blank (length (facts .args .xs .now) - 2) 512 (omega (arith, pre .1 .0)) ∙ ap blank (sym (length-drop 2 (facts .args .xs .now))) in
     (omega (arith, c .before .before .if1 .left, pre .0), (simp length-take (omega (arith, pre .1 .0)), (e, pre .1 .1)))
 
-pub answer-shades-spec : {M : Type 1} → statement M
+pub answer-shades-spec : {M : Type 1} → Rattle.desk_shade_inner.proofs.answer_shades.Statement.statement M
 answer-shades-spec =
-    tie.close
-    (tie.spec (λ c κs. search needs) (λ c. search needs) (λ c. search needs) (λ c. search needs) (λ c. search needs)
+    tie.close (tie.spec (λ c κs. search needs) (λ c. search needs) (λ c. search needs) (λ c. search needs) (λ c. search needs)
     slice-aggregate-answer-ring answer-ring-requires (λ c. search needs) (λ c. search needs))

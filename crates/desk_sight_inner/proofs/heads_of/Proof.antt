@@ -1,8 +1,6 @@
 -- `desk_sight_inner::heads_of` meets its contract.
-use native.Mathlib.Omega.{arith}
+use Rattle.words.proofs.Needs.{needs, arith}
 use Rattle.desk_sight_inner.proofs.Asking.{no-head, no-second, both-heads}
-use borrow.Author.Needs.{needs}
-use Rattle.desk_sight_inner.proofs.heads_of.Statement.{statement}
 use Rattle.desk_sight_inner.proofs.heads_of.Tie as tie
 
 returns : tie.Need-returns
@@ -46,8 +44,7 @@ returns-3 c =
     let most = c .before .most .given in
     both-heads (facts .args .t .now) (k .0 .0) _ (rw (k .1) at (head .head-of .ensures)) (most .0 .0) _ (rw (most .1) at (second .head-of2 .ensures))
 
-pub heads-of-spec : {M : Type 1} → statement M
+pub heads-of-spec : {M : Type 1} → Rattle.desk_sight_inner.proofs.heads_of.Statement.statement M
 heads-of-spec =
-    tie.close
-    (tie.spec (λ c κs. search needs) (λ c. search needs) (λ c. search needs) returns sub-head-of part-head-of-start
+    tie.close (tie.spec (λ c κs. search needs) (λ c. search needs) (λ c. search needs) returns sub-head-of part-head-of-start
     (λ c. search needs) (λ c κs. search needs) (λ c. search needs) (λ c. search needs) returns-2 add-t9 returns-3)

@@ -1,9 +1,7 @@
 -- `desk_sight_inner::place_sight` meets its contract.
-use native.Mathlib.Omega.{arith}
+use Rattle.words.proofs.Needs.{needs, arith}
 use Rattle.desk_texts_inner.proofs.Putting.{put-bad}
 use Rattle.desk_sight_inner.proofs.Asking.{no-sight, put-sight}
-use borrow.Author.Needs.{needs}
-use Rattle.desk_sight_inner.proofs.place_sight.Statement.{statement}
 use Rattle.desk_sight_inner.proofs.place_sight.Tie as tie
 
 sub-ask-sight : tie.Need-sub-ask-sight
@@ -28,9 +26,8 @@ returns-2 c =
     let k = told .k .given in
     put-sight (facts .args .t .now) _ _ _ (rw (k .1) at (heads .heads-of .ensures)) _ _ _ _ (asked .ask-sight .ensures)
 
-pub place-sight-spec : {M : Type 1} → statement M
+pub place-sight-spec : {M : Type 1} → Rattle.desk_sight_inner.proofs.place_sight.Statement.statement M
 place-sight-spec =
-    tie.close
-    (tie.spec (λ c κs. search needs) (λ c. search needs) (λ c κs. search needs) (λ c. search needs) sub-ask-sight
+    tie.close (tie.spec (λ c κs. search needs) (λ c. search needs) (λ c κs. search needs) (λ c. search needs) sub-ask-sight
     part-ask-sight-start (λ c. search needs) (λ c. search needs) (λ c κs. search needs) (λ c. search needs) returns
     (λ c. search needs) returns-2)

@@ -1,9 +1,5 @@
 -- `desk_sight_lengths_inner::tell` meets its contract.
-use mathlib.Core.Path.{refl}
-use mathlib.Core.Logic.{inl, inr}
-use native.Mathlib.Omega.{arith}
-use borrow.Author.Needs.{needs}
-use Rattle.desk_sight_lengths_inner.proofs.tell.Statement.{statement}
+use Rattle.words.proofs.Needs.{needs, arith, refl, inl, inr}
 use Rattle.desk_sight_lengths_inner.proofs.tell.Tie as tie
 
 returns : tie.Need-returns
@@ -18,5 +14,5 @@ returns-3 c = rw (c .before .before .if1 .left) (_, inl (refl, λ s. absurd (ome
 returns-4 : tie.Need-returns-4
 returns-4 c = rw (c .before .before .if1 .left) (_, inr ((omega (arith, c .before .if2 .left), omega (arith, c .if3 .left)), (refl, λ z. z)), refl)
 
-pub tell-spec : {M : Type 1} → statement M
+pub tell-spec : {M : Type 1} → Rattle.desk_sight_lengths_inner.proofs.tell.Statement.statement M
 tell-spec = tie.close (tie.spec (λ c κs. search needs) returns returns-2 returns-3 returns-4)

@@ -1,16 +1,17 @@
 -- `desk_sight_text_inner::place_sighting` meets its contract.
-use borrow.Author.Needs.{needs}
-use Rattle.desk_sight_text_inner.proofs.place_sighting.Statement.{statement}
+use Rattle.words.proofs.Needs.{needs}
 use Rattle.desk_sight_text_inner.proofs.place_sighting.Tie as tie
 
 returns : tie.Need-returns
 returns c =
-    let arm = c .before .before .before .before .before .before .before .a in
+    let d = c .before .before .before .before .before .before in
+    let arm = d .before .a in
     rw (arm .given .1) (c .before .before .place-plain .ensures)
 
 returns-2 : tie.Need-returns-2
 returns-2 c =
-    let arm = c .before .before .before .before .before .before .before .a2 in
+    let d = c .before .before .before .before .before .before in
+    let arm = d .before .a2 in
     rw (arm .given .1) (c .before .before .place-plain2 .ensures)
 
 returns-3 : tie.Need-returns-3
@@ -28,10 +29,9 @@ returns-5 c =
     let arm = c .before .before .before .before .before .a3 in
     rw (arm .given .1) (c .before .before .place-refusal .ensures)
 
-pub place-sighting-spec : {M : Type 1} → statement M
+pub place-sighting-spec : {M : Type 1} → Rattle.desk_sight_text_inner.proofs.place_sighting.Statement.statement M
 place-sighting-spec =
-    tie.close
-    (tie.spec (λ c. search needs) (λ c. search needs) (λ c. search needs) (λ c κs. search needs) (λ c. search needs)
+    tie.close (tie.spec (λ c. search needs) (λ c. search needs) (λ c. search needs) (λ c κs. search needs) (λ c. search needs)
     (λ c. search needs) (λ c. search needs) (λ c κs. search needs) (λ c. search needs) (λ c. search needs)
     (λ c κs. search needs) (λ c. search needs) (λ c. search needs) (λ c κs. search needs) (λ c. search needs)
     (λ c κs. search needs) (λ c. search needs) returns (λ c. search needs) returns-2 (λ c. search needs) returns-3

@@ -1,8 +1,7 @@
 -- `desk_steps_inner::answer_bracelet` meets its contract.
 use Rattle.desk_texts_inner.proofs.Putting.{put-shown}
 use Rattle.desk_steps_inner.proofs.Rings.{ring-short}
-use borrow.Author.Needs.{needs}
-use Rattle.desk_steps_inner.proofs.answer_bracelet.Statement.{statement}
+use Rattle.words.proofs.Needs.{needs}
 use Rattle.desk_steps_inner.proofs.answer_bracelet.Tie as tie
 
 place-arrival-requires : tie.Need-place-arrival-requires
@@ -18,7 +17,6 @@ returns c =
     let asked = called .before .before .before .before .before in
     put-shown _ _ (called .next-bracelet .result, _) (rw (asked .pre .1 .0) at (called .next-bracelet .ensures)) _ _ _ _ (placed .place-arrival .ensures)
 
-pub answer-bracelet-spec : {M : Type 1} → statement M
+pub answer-bracelet-spec : {M : Type 1} → Rattle.desk_steps_inner.proofs.answer_bracelet.Statement.statement M
 answer-bracelet-spec =
-    tie.close
-    (tie.spec (λ c κs. search needs) place-arrival-requires (λ c. search needs) (λ c. search needs) returns)
+    tie.close (tie.spec (λ c κs. search needs) place-arrival-requires (λ c. search needs) (λ c. search needs) returns)

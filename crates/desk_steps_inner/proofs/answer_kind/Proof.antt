@@ -1,8 +1,7 @@
 -- `desk_steps_inner::answer_kind` meets its contract.
 use Rattle.desk_texts_inner.proofs.Putting.{put-shown}
 use Rattle.desk_steps_inner.proofs.Rings.{ring-short}
-use borrow.Author.Needs.{needs}
-use Rattle.desk_steps_inner.proofs.answer_kind.Statement.{statement}
+use Rattle.words.proofs.Needs.{needs}
 use Rattle.desk_steps_inner.proofs.answer_kind.Tie as tie
 
 place-outcome-requires : tie.Need-place-outcome-requires
@@ -18,7 +17,6 @@ returns c =
     let asked = called .before .before .before .before .before in
     put-shown _ _ (called .step-to .result, _) (rw (asked .pre .1 .0) at (called .step-to .ensures)) _ _ _ _ (placed .place-outcome .ensures)
 
-pub answer-kind-spec : {M : Type 1} → statement M
+pub answer-kind-spec : {M : Type 1} → Rattle.desk_steps_inner.proofs.answer_kind.Statement.statement M
 answer-kind-spec =
-    tie.close
-    (tie.spec (λ c κs. search needs) place-outcome-requires (λ c. search needs) (λ c. search needs) returns)
+    tie.close (tie.spec (λ c κs. search needs) place-outcome-requires (λ c. search needs) (λ c. search needs) returns)

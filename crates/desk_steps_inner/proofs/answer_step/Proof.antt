@@ -1,7 +1,6 @@
 -- `desk_steps_inner::answer_step` meets its contract.
 use Rattle.walk_kind_laws.specs.Kinds.{kindOf}
-use borrow.Author.Needs.{needs}
-use Rattle.desk_steps_inner.proofs.answer_step.Statement.{statement}
+use Rattle.words.proofs.Needs.{needs}
 use Rattle.desk_steps_inner.proofs.answer_step.Tie as tie
 
 returns : tie.Need-returns
@@ -32,10 +31,9 @@ returns-4 c =
     let arm = called .before .before .before .enum-told4 in
     rw (arm .given .1) (called .answer-bracelet .ensures)
 
-pub answer-step-spec : {M : Type 1} → statement M
+pub answer-step-spec : {M : Type 1} → Rattle.desk_steps_inner.proofs.answer_step.Statement.statement M
 answer-step-spec =
-    tie.close
-    (tie.spec (λ c. search needs) (λ c κs. search needs) (λ c. search needs) (λ c κs. search needs)
+    tie.close (tie.spec (λ c. search needs) (λ c κs. search needs) (λ c. search needs) (λ c κs. search needs)
     (λ c. search needs) (λ c κs. search needs) (λ c. search needs) (λ c κs. search needs) (λ c. search needs)
     (λ c. search needs) returns (λ c. search needs) (λ c. search needs) returns-2 (λ c. search needs)
     (λ c. search needs) returns-3 (λ c. search needs) (λ c. search needs) returns-4)

@@ -1,7 +1,6 @@
 -- `desk_steps_inner::step_to` meets its contract.
 use Rattle.walk_kind_laws.specs.Kinds.{kindOf}
-use borrow.Author.Needs.{needs}
-use Rattle.desk_steps_inner.proofs.step_to.Statement.{statement}
+use Rattle.words.proofs.Needs.{needs}
 use Rattle.desk_steps_inner.proofs.step_to.Tie as tie
 
 returns : tie.Need-returns
@@ -22,9 +21,8 @@ returns-3 c =
     let arm = c .before .before .before .before .enum-told3 in
     rw (arm .given .1) (c .before .before .next-prenecklace .ensures)
 
-pub step-to-spec : {M : Type 1} → statement M
+pub step-to-spec : {M : Type 1} → Rattle.desk_steps_inner.proofs.step_to.Statement.statement M
 step-to-spec =
-    tie.close
-    (tie.spec (λ c. search needs) (λ c κs. search needs) (λ c. search needs) (λ c κs. search needs)
+    tie.close (tie.spec (λ c. search needs) (λ c κs. search needs) (λ c. search needs) (λ c κs. search needs)
     (λ c. search needs) (λ c κs. search needs) (λ c. search needs) returns (λ c. search needs) returns-2
     (λ c. search needs) returns-3)

@@ -1,21 +1,15 @@
 -- `desk_strip_inner::answer_strip` meets its contract.
-use Prim.Native.Nat.{ℕ, _^_}
-use mathlib.Core.Path.{refl}
-use mathlib.Core.Logic.{inl}
-use mathlib.Core.List.{List}
-use native.Mathlib.Omega.{arith}
-use lib.ListN.{length-take}
-use Rattle.strip_spec.specs.declared.Written.{Written}
+use Rattle.words.proofs.Needs.{needs, ℕ, _^_, arith, refl, inl, List, length-take}
+use Rattle.strip_spec.specs.{declared.Written.Written, Says.StripSays}
 use Rattle.strip_spec.specs.declared.Written.the-variants as W
-use Rattle.strip_spec.specs.Says.{StripSays}
-use Rattle.desk_spec.specs.Texts.{stripText}
-use Rattle.desk_spec.specs.Answers.{blank}
+use Rattle.desk_spec.specs.{Texts.stripText, Answers.blank}
 use Rattle.desk_texts_inner.proofs.Putting.{put-shown}
 use Rattle.limits_spec.proofs.Given.{accepted-listable}
 use Rattle.desk_strip_inner.proofs.Outputs.{strip-room}
-use borrow.Author.Needs.{needs}
-use Rattle.desk_strip_inner.proofs.answer_strip.Statement.{statement}
 use Rattle.desk_strip_inner.proofs.answer_strip.Tie as tie
+
+abbrev start : tie.After-out → tie.Start
+start c = c .before .before .before .before .before .before
 
 power-requires : tie.Need-power-requires
 power-requires c κs =
@@ -48,7 +42,7 @@ slice-aggregate-answer-whole c =
 
 answer-whole-requires : tie.Need-answer-whole-requires
 answer-whole-requires c κs =
-    let facts = c .before .before .before .before .before .before .before in
+    let facts = start (c .before) in
     let enum-told = c .before .before .before .enum-told in
     let plan-numbers = c .before .before .before .before .before .plan-numbers in
     let power = c .before .before .power in
@@ -59,17 +53,17 @@ answer-whole-requires c κs =
 
 returns : tie.Need-returns
 returns c =
-    let facts = c .before .before .before .before .before .before .before .before .before in
+    let d = c .before .before .before .before .before .before in
+    let facts = d .before .before .before in
     let r = c .before .before .before .before .before .r in
-    let plan-numbers = c .before .before .before .before .before .before .before .plan-numbers in
+    let plan-numbers = d .before .plan-numbers in
     let place-refusal = c .before .before .place-refusal in
     let g = facts in
     put-shown {A = Written × List ℕ} (λ x. StripSays (g .args .n) (g .args .k) (blank (g .args .k ^ g .args .n)) (x .0) (x .1)) (λ x. stripText (x .0) (x .1))
     (W.Refused _, blank (g .args .k ^ g .args .n)) (inl (rw (r .given .1) at (plan-numbers .ensures)), refl) _ _ _ _ (place-refusal .ensures)
 
-pub answer-strip-spec : {M : Type 1} → statement M
+pub answer-strip-spec : {M : Type 1} → Rattle.desk_strip_inner.proofs.answer_strip.Statement.statement M
 answer-strip-spec =
-    tie.close
-    (tie.spec (λ c κs. search needs) (λ c. search needs) (λ c κs. search needs) (λ c. search needs) power-requires
+    tie.close (tie.spec (λ c κs. search needs) (λ c. search needs) (λ c κs. search needs) (λ c. search needs) power-requires
     array-borrow-prefix-out slice-aggregate-answer-whole answer-whole-requires (λ c. search needs) returns
     (λ c. search needs) (λ c. search needs))

@@ -1,6 +1,5 @@
 -- `desk_texts_inner::place_class` meets its contract.
-use borrow.Author.Needs.{needs}
-use Rattle.desk_texts_inner.proofs.place_class.Statement.{statement}
+use Rattle.words.proofs.Needs.{needs}
 use Rattle.desk_texts_inner.proofs.place_class.Tie as tie
 
 returns : tie.Need-returns
@@ -23,10 +22,9 @@ returns-4 c =
     let arm = c .before .before .before .before .before .enum-told in
     rw (arm .given .1) (c .before .before .place-words .ensures)
 
-pub place-class-spec : {M : Type 1} → statement M
+pub place-class-spec : {M : Type 1} → Rattle.desk_texts_inner.proofs.place_class.Statement.statement M
 place-class-spec =
-    tie.close
-    (tie.spec (λ c. search needs) (λ c. search needs) (λ c κs. search needs) (λ c. search needs) (λ c. search needs)
+    tie.close (tie.spec (λ c. search needs) (λ c. search needs) (λ c κs. search needs) (λ c. search needs) (λ c. search needs)
     (λ c κs. search needs) (λ c. search needs) (λ c. search needs) (λ c κs. search needs) (λ c. search needs)
     (λ c. search needs) (λ c κs. search needs) (λ c. search needs) returns (λ c. search needs) returns-2
     (λ c. search needs) returns-3 (λ c. search needs) returns-4)

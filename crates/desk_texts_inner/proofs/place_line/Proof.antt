@@ -1,9 +1,10 @@
 -- `desk_texts_inner::place_line` meets its contract. A number of 64 bits has at most 20 digits.
-use native.Mathlib.Omega.{arith}
+use Rattle.words.proofs.Needs.{needs, arith}
 use Rattle.text_fill_spec.proofs.Laws.{filled-short}
-use borrow.Author.Needs.{needs}
-use Rattle.desk_texts_inner.proofs.place_line.Statement.{statement}
 use Rattle.desk_texts_inner.proofs.place_line.Tie as tie
+
+abbrev start : tie.After-place-filled → tie.Start
+start c = c .before .before .before .before .before .before
 
 place-filled-requires : tie.Need-place-filled-requires
 place-filled-requires c κs =
@@ -17,13 +18,13 @@ place-filled-requires c κs =
 
 returns : tie.Need-returns
 returns c =
-    let a = c .before .before .before .before .before .before .before .before .args in
+    let a = start (c .before .before) .args in
     let n = c .before .before .before .before .before .shared-slice-known2 in
     record {
       short =
-          omega (arith, c .before .before .before .before .before .before .before .before .pre, filled-short (a .text .now) (a .numbers .now) (a .n) (a .ring .now) (λ i. omega (arith, n .given i)));
+          omega (arith, start (c .before .before) .pre, filled-short (a .text .now) (a .numbers .now) (a .n) (a .ring .now) (λ i. omega (arith, n .given i)));
       placed = c .before .before .place-filled .ensures;
     }
 
-pub place-line-spec : {M : Type 1} → statement M
+pub place-line-spec : {M : Type 1} → Rattle.desk_texts_inner.proofs.place_line.Statement.statement M
 place-line-spec = tie.close (tie.spec place-filled-requires (λ c. search needs) returns)

@@ -1,6 +1,5 @@
 -- `desk_texts_inner::place_told` meets its contract.
-use borrow.Author.Needs.{needs}
-use Rattle.desk_texts_inner.proofs.place_told.Statement.{statement}
+use Rattle.words.proofs.Needs.{needs}
 use Rattle.desk_texts_inner.proofs.place_told.Tie as tie
 
 returns : tie.Need-returns
@@ -18,9 +17,8 @@ returns-3 c =
     let arm = c .before .before .before .before .before .a in
     rw (arm .given .1) (c .before .before .place-refusal .ensures)
 
-pub place-told-spec : {M : Type 1} → statement M
+pub place-told-spec : {M : Type 1} → Rattle.desk_texts_inner.proofs.place_told.Statement.statement M
 place-told-spec =
-    tie.close
-    (tie.spec (λ c. search needs) (λ c. search needs) (λ c κs. search needs) (λ c. search needs) (λ c. search needs)
+    tie.close (tie.spec (λ c. search needs) (λ c. search needs) (λ c κs. search needs) (λ c. search needs) (λ c. search needs)
     (λ c κs. search needs) (λ c. search needs) (λ c κs. search needs) (λ c. search needs) returns (λ c. search needs)
     returns-2 (λ c. search needs) returns-3)

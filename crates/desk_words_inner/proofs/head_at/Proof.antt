@@ -1,9 +1,6 @@
 -- `desk_words_inner::head_at` meets its contract.
-use native.Mathlib.Omega.{arith}
-use lib.ListN.{length-take}
+use Rattle.words.proofs.Needs.{needs, arith, length-take}
 use Rattle.desk_words_inner.proofs.Heads.{head-alone, head-none, head-number}
-use borrow.Author.Needs.{needs}
-use Rattle.desk_words_inner.proofs.head_at.Statement.{statement}
 use Rattle.desk_words_inner.proofs.head_at.Tie as tie
 
 returns : tie.Need-returns
@@ -14,8 +11,9 @@ slice-aggregate-parse-number c = simp length-take (omega (arith, c .before .befo
 
 returns-2 : tie.Need-returns-2
 returns-2 c =
+    let d = c .before .before .before .before .before .before in
     let piece-end = c .before .before .before .before .before .piece-end in
-    let args = c .before .before .before .before .before .before .before .args in
+    let args = d .before .args in
     let enum-told = c .enum-told in
     let parse-number = c .before .before .parse-number in
     let e = piece-end in
@@ -23,17 +21,17 @@ returns-2 c =
 
 returns-3 : tie.Need-returns-3
 returns-3 c =
+    let d = c .before .before .before .before .before .before in
     let piece-end = c .before .before .before .before .before .before .piece-end in
     let the-k = c .before .k in
-    let args = c .before .before .before .before .before .before .before .before .args in
+    let args = d .before .before .args in
     let parse-number = c .before .before .before .parse-number in
     let if1 = c .before .before .before .before .before .if1 in
     let e = piece-end in
     let k = the-k .given in
     head-number _ (args .t .now) (e .result) (e .ensures) (k .0 .0) (rw (k .1) at (parse-number .ensures)) (omega (arith, if1 .left))
 
-pub head-at-spec : {M : Type 1} → statement M
+pub head-at-spec : {M : Type 1} → Rattle.desk_words_inner.proofs.head_at.Statement.statement M
 head-at-spec =
-    tie.close
-    (tie.spec (λ c κs. search needs) returns slice-aggregate-parse-number (λ c κs. search needs) (λ c. search needs)
+    tie.close (tie.spec (λ c κs. search needs) returns slice-aggregate-parse-number (λ c κs. search needs) (λ c. search needs)
     (λ c. search needs) (λ c. search needs) returns-2 returns-3)

@@ -1,10 +1,6 @@
 -- `door_sets::lay` meets its contract.
-use mathlib.Core.Path.{_≡_}
-use native.Mathlib.Omega.{arith}
-use lib.ListN.{length}
+use Rattle.words.proofs.Needs.{needs, arith, _≡_, length}
 use Rattle.door_sets.proofs.Laying.{laid-set, laid-refused}
-use borrow.Author.Needs.{needs}
-use Rattle.door_sets.proofs.lay.Statement.{statement}
 use Rattle.door_sets.proofs.lay.Tie as tie
 
 enum-told : tie.Need-enum-told
@@ -22,11 +18,12 @@ returns c =
 
 returns-2 : tie.Need-returns-2
 returns-2 c =
-    let g = c .before .before .before .before .before .before .before .before .before in
+    let e = c .before .before .before .before .before .before in
+    let g = e .before .before .before in
     let l : length (g .args .set .places) ≡ 768 = search needs in
     λ n k d want ts says. laid-set n k d want ts (g .args .out .now) (g .pre) (g .args .set .places) _ _ _ l
     (rw (c .before .before .before .before .before .before .enum-told .given .1) at says) (c .before .before .copy .ensures .1)
 
-pub lay-spec : {M : Type 1} → statement M
+pub lay-spec : {M : Type 1} → Rattle.door_sets.proofs.lay.Statement.statement M
 lay-spec = tie.close (tie.spec (λ c. search needs) enum-told (λ c. search needs) copy-requires returns
     (λ c. search needs) returns-2)

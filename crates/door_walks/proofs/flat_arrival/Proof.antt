@@ -1,7 +1,5 @@
 -- `door_walks::flat_arrival` meets its contract.
-use mathlib.Core.Path.{refl}
-use borrow.Author.Needs.{needs}
-use Rattle.door_walks.proofs.flat_arrival.Statement.{statement}
+use Rattle.words.proofs.Needs.{needs, refl}
 use Rattle.door_walks.proofs.flat_arrival.Tie as tie
 
 enum-told : tie.Need-enum-told
@@ -16,6 +14,6 @@ returns-2 c = rw (c .before .enum-told2 .given .1, c .value2 .ensures) refl
 returns-3 : tie.Need-returns-3
 returns-3 c = rw (c .before .before .a .given .1, c .refused .ensures) refl
 
-pub flat-arrival-spec : {M : Type 1} → statement M
+pub flat-arrival-spec : {M : Type 1} → Rattle.door_walks.proofs.flat_arrival.Statement.statement M
 flat-arrival-spec = tie.close (tie.spec enum-told (λ c κs. search needs) (λ c. search needs) (λ c κs. search needs)
     (λ c. search needs) (λ c κs. search needs) returns returns-2 returns-3)

@@ -1,9 +1,7 @@
 -- `files_pass_inner::turn_of` meets its contract: by why the block was left.
-use mathlib.Core.Path.{ap, _∙_}
+use Rattle.words.proofs.Needs.{needs, ap, _∙_}
 use Rattle.program_passes_inner.specs.Passes.Course.{Stopped}
 use Rattle.files_pass_inner.proofs.Turns.{turn-is-on, turn-is-done, turn-is-stopped}
-use borrow.Author.Needs.{needs}
-use Rattle.files_pass_inner.proofs.turn_of.Statement.{statement}
 use Rattle.files_pass_inner.proofs.turn_of.Tie as tie
 
 returns : tie.Need-returns
@@ -22,8 +20,7 @@ returns-3 c =
     let how = c .before .before .before .how in
     c .stop .ensures ∙ turn-is-stopped (args .time) (args .how) (args .used) _ _ (how .given .1) (c .before .refused .ensures)
 
-pub turn-of-spec : {M : Type 1} → statement M
+pub turn-of-spec : {M : Type 1} → Rattle.files_pass_inner.proofs.turn_of.Statement.statement M
 turn-of-spec =
-    tie.close
-    (tie.spec (λ c. search needs) (λ c κs. search needs) (λ c. search needs) (λ c κs. search needs) (λ c. search needs)
+    tie.close (tie.spec (λ c. search needs) (λ c κs. search needs) (λ c. search needs) (λ c κs. search needs) (λ c. search needs)
     (λ c κs. search needs) (λ c κs. search needs) returns returns-2 returns-3)

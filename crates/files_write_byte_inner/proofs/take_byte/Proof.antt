@@ -1,14 +1,10 @@
 -- `files_write_byte_inner::take_byte` meets its contract.
-use mathlib.Core.Path.{_≡_, refl, _∙_, sym}
-use native.Mathlib.Omega.{arith}
-use lib.ListN.{length, length-take, length-set}
+use Rattle.words.proofs.Needs.{needs, arith, _≡_, refl, _∙_, sym, length, length-take, length-set}
 use Rattle.stream_spec.proofs.Taking.{byte-kept, byte-passed}
 use Rattle.stream_spec.specs.Blocks.{ends}
 use Rattle.files_text_inner.specs.Room.{recordRoom}
 use Rattle.files_write_spec.specs.RingLines.{LineWrites}
 use Rattle.files_write_byte_inner.proofs.Ends.{one-ended, none-ended}
-use borrow.Author.Needs.{needs}
-use Rattle.files_write_byte_inner.proofs.take_byte.Statement.{statement}
 use Rattle.files_write_byte_inner.proofs.take_byte.Tie as tie
 
 slice-aggregate-place-line : tie.Need-slice-aggregate-place-line
@@ -16,17 +12,19 @@ slice-aggregate-place-line c = simp length-take (omega (arith, c .before .before
 
 returns : tie.Need-returns
 returns c =
-    let if1 = c .before .before .before .before .before .before .before .before .if1 in
+    let d = c .before .before .before .before .before .before in
+    let if1 = d .before .before .if1 in
     let e = c .before .e in
     let place-line = c .before .before .before .before .before .place-line in
-    let args = c .before .before .before .before .before .before .before .before .before .before .before .args in
+    let args = d .before .before .before .before .before .args in
     (omega arith, ends (if1 .taken) refl (rw (e .given .1) at (place-line .ensures)), omega (arith, one-ended (args .b) (if1 .taken)))
 
 returns-2 : tie.Need-returns-2
 returns-2 c =
+    let d = c .before .before .before .before .before .before in
     let r = c .before .r in
     let place-line = c .before .before .before .before .before .place-line in
-    let if1 = c .before .before .before .before .before .before .before .before .if1 in
+    let if1 = d .before .before .if1 in
     let h = rw (r .given .1) at (place-line .ensures) in (if1 .taken, h .0, refl)
 
 returns-3 : tie.Need-returns-3
@@ -53,10 +51,9 @@ returns-4 c =
       omega (arith, none-ended (a .b) (if1 .left)),
     )
 
-pub take-byte-spec : {M : Type 1} → statement M
+pub take-byte-spec : {M : Type 1} → Rattle.files_write_byte_inner.proofs.take_byte.Statement.statement M
 take-byte-spec =
-    tie.close
-    (tie.spec (λ c. search needs) slice-aggregate-place-line (λ c κs. search needs) (λ c. search needs)
+    tie.close (tie.spec (λ c. search needs) slice-aggregate-place-line (λ c κs. search needs) (λ c. search needs)
     (λ c. search needs) (λ c. search needs) (λ c. search needs) (λ c. search needs) (λ c. search needs) returns
     (λ c. search needs) (λ c. search needs) returns-2 (λ c. search needs) (λ c. search needs) (λ c. search needs)
     returns-3 returns-4)

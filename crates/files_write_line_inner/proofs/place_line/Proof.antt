@@ -1,13 +1,11 @@
 -- `files_write_line_inner::place_line` meets its contract.
-use Prim.Native.Nat.{_≤_}
-use mathlib.Core.Path.{_≡_, sym, _∙_}
-use native.Mathlib.Omega.{arith}
-use lib.ListN.{length, length-take}
+use Rattle.words.proofs.Needs.{needs, _≤_, arith, _≡_, sym, _∙_, length, length-take}
 use Rattle.desk_words_inner.proofs.Shapes.{ask-room}
 use Rattle.files_write_line_inner.proofs.Spelling.{line-long, line-headless, line-spelt}
-use borrow.Author.Needs.{needs}
-use Rattle.files_write_line_inner.proofs.place_line.Statement.{statement}
 use Rattle.files_write_line_inner.proofs.place_line.Tie as tie
+
+abbrev else1 : tie.After-w → tie.Else1
+else1 c = c .before .before .before .before .before .before
 
 returns : tie.Need-returns
 returns c = let a = c .before .before .before .args in line-long (a .kind) (a .line .now) (a .buf .now) (a .at) (c .if1 .taken)
@@ -27,8 +25,8 @@ slice-aggregate-write-spelt c = simp length-take (omega (arith, c .before .befor
 write-spelt-requires : tie.Need-write-spelt-requires
 write-spelt-requires c κs =
     let k = c .before .before .before .before .k in
-    let if1 = c .before .before .before .before .before .before .before .if1 in
-    let g = c .before .before .before .before .before .before .before .before .before .before in (ask-room (g .args .line .now) (k .given .0 .1 .0) (if1 .left) .1, g .pre)
+    let if1 = else1 (c .before) .if1 in
+    let g = else1 (c .before) .before .before .before in (ask-room (g .args .line .now) (k .given .0 .1 .0) (if1 .left) .1, g .pre)
 
 returns-2 : tie.Need-returns-2
 returns-2 c =
@@ -39,18 +37,19 @@ returns-2 c =
 
 returns-3 : tie.Need-returns-3
 returns-3 c =
-    let args = c .before .before .before .before .before .before .before .before .before .before .before .before .before .before .args in
-    let k′ = c .before .before .before .before .before .before .before .before .k in
-    let head-of = c .before .before .before .before .before .before .before .before .before .before .head-of in
-    let if1 = c .before .before .before .before .before .before .before .before .before .before .before .if1 in
+    let d = c .before .before .before .before .before .before in
+    let e = d .before .before .before .before .before .before in
+    let args = e .before .before .args in
+    let k′ = d .before .before .k in
+    let head-of = d .before .before .before .before .head-of in
+    let if1 = d .before .before .before .before .before .if1 in
     let write-spelt = c .before .before .before .write-spelt in
     let a = args in
     let k = k′ .given in
     line-spelt (a .kind) (a .line .now) (a .buf .now) (a .at) (k .0 .0) (k .0 .1 .0) (rw (k .1) at (head-of .ensures)) (if1 .left) (write-spelt .result) _ (write-spelt .ensures)
 
-pub place-line-spec : {M : Type 1} → statement M
+pub place-line-spec : {M : Type 1} → Rattle.files_write_line_inner.proofs.place_line.Statement.statement M
 place-line-spec =
-    tie.close
-    (tie.spec returns (λ c κs. search needs) (λ c. search needs) (λ c. search needs) sub-n sub-write-spelt
+    tie.close (tie.spec returns (λ c κs. search needs) (λ c. search needs) (λ c. search needs) sub-n sub-write-spelt
     part-write-spelt-start (λ c. search needs) (λ c. search needs) slice-aggregate-write-spelt write-spelt-requires
     returns-2 (λ c. search needs) returns-3)

@@ -1,13 +1,8 @@
 -- `files_write_program_inner::go_once` meets its contract: of what was read so far every line that ended writes, and each block has a byte, so that the next begins further on.
-use Prim.Native.Nat.{_-_, _≤_}
-use mathlib.Core.Path.{_≡_, refl, sym, ap, _∙_}
-use native.Mathlib.Omega.{arith}
-use lib.ListN.{length, take}
+use Rattle.words.proofs.Needs.{needs, _-_, _≤_, arith, _≡_, refl, sym, ap, _∙_, length, take}
 use Rattle.program_passes_inner.specs.Passes.{limit}
 use Rattle.files_write_program_inner.specs.Says.{RoomyLines}
 use Rattle.files_write_program_inner.proofs.Turns.{lines-roomy, Reached, reached-none, reached-few, line-on, line-done, line-stopped, too-long}
-use borrow.Author.Needs.{needs}
-use Rattle.files_write_program_inner.proofs.go_once.Statement.{statement}
 use Rattle.files_write_program_inner.proofs.go_once.Tie as tie
 
 abbrev Inv-loop : tie.InvT-loop
@@ -22,6 +17,12 @@ Inv-loop kind time block₀ line₀ out₀ at₀ len₀ lines₀ block line out 
 abbrev μ-loop : tie.MeasureT-loop
 μ-loop kind time block₀ line₀ out₀ at₀ len₀ lines₀ block line out at len lines = limit - at
 
+abbrev at-loop : tie.After-block Inv-loop μ-loop → tie.At-loop Inv-loop μ-loop
+at-loop c = c .before .before .before .before .before .before
+
+abbrev after-block : tie.After-out Inv-loop μ-loop → tie.After-block Inv-loop μ-loop
+after-block c = c .before .before .before .before
+
 loop-holds : tie.Need-loop-holds Inv-loop μ-loop
 loop-holds c =
     let pre = c .before .before .before .pre in
@@ -33,12 +34,13 @@ take-at-requires c κs = let i = c .before .before .before .before .loop .inv in
 
 add-at : tie.Need-add-at Inv-loop μ-loop
 add-at c =
-    let args = c .before .before .before .before .before .before .before .before .before .before .before .before .before .before .before .before .before .before .args in
-    let loop = c .before .before .before .before .before .before .before .before .before .before .before .before .before .before .loop in
-    let take-at = c .before .before .before .before .before .before .before .before .before .take-at in
-    let block′ = c .before .before .before .before .before .before .before .before .block in
+    let b1 = after-block (c .before .before .before .before) in
+    let args = at-loop b1 .before .before .before .before .args in
+    let loop = at-loop b1 .loop in
+    let take-at = b1 .before .take-at in
+    let block′ = b1 .block in
     let used = c .before .used in
-    let loop-test = c .before .before .before .before .before .before .before .before .before .before .before .before .before .loop-test in
+    let loop-test = b1 .before .before .before .before .before .loop-test in
     let a = args in
     let l = loop in
     let q = take-at in
@@ -49,12 +51,13 @@ add-at c =
 
 loop-less : tie.Need-loop-less Inv-loop μ-loop
 loop-less c =
-    let args = c .before .before .before .before .before .before .before .before .before .before .before .before .before .before .before .before .before .before .args in
-    let loop = c .before .before .before .before .before .before .before .before .before .before .before .before .before .before .loop in
-    let take-at = c .before .before .before .before .before .before .before .before .before .take-at in
-    let block′ = c .before .before .before .before .before .before .before .before .block in
+    let b1 = after-block (c .before .before .before .before) in
+    let args = at-loop b1 .before .before .before .before .args in
+    let loop = at-loop b1 .loop in
+    let take-at = b1 .before .take-at in
+    let block′ = b1 .block in
     let used = c .before .used in
-    let loop-test = c .before .before .before .before .before .before .before .before .before .before .before .before .before .loop-test in
+    let loop-test = b1 .before .before .before .before .before .loop-test in
     let a = args in
     let l = loop in
     let q = take-at in
@@ -65,10 +68,11 @@ loop-less c =
 
 loop-again : tie.Need-loop-again Inv-loop μ-loop
 loop-again c =
-    let args = c .before .before .before .before .before .before .before .before .before .before .before .before .before .before .before .before .before .before .args in
-    let loop = c .before .before .before .before .before .before .before .before .before .before .before .before .before .before .loop in
-    let take-at = c .before .before .before .before .before .before .before .before .before .take-at in
-    let block′ = c .before .before .before .before .before .before .before .before .block in
+    let b1 = after-block (c .before .before .before .before) in
+    let args = at-loop b1 .before .before .before .before .args in
+    let loop = at-loop b1 .loop in
+    let take-at = b1 .before .take-at in
+    let block′ = b1 .block in
     let used = c .before .used in
     let line′ = c .before .before .before .before .before .before .line in
     let out′ = c .before .before .before .before .out in
@@ -88,27 +92,28 @@ loop-again c =
 
 same-length : tie.Need-same-length Inv-loop μ-loop
 same-length c =
-    let block′ = c .before .before .before .before .before .before .before .block in
-    let loop = c .before .before .before .before .before .before .before .before .before .before .before .before .before .loop in
+    let block′ = after-block (c .before .before .before) .block in
+    let loop = at-loop (after-block (c .before .before .before)) .loop in
     block′ .given ∙ loop .inv .1
 
 same-length-2 : tie.Need-same-length-2 Inv-loop μ-loop
 same-length-2 c =
     let line′ = c .before .before .before .before .before .line in
-    let loop = c .before .before .before .before .before .before .before .before .before .before .before .before .before .loop in
+    let loop = at-loop (after-block (c .before .before .before)) .loop in
     line′ .given ∙ loop .inv .2
 
 same-length-3 : tie.Need-same-length-3 Inv-loop μ-loop
 same-length-3 c =
     let out′ = c .before .before .before .out in
-    let loop = c .before .before .before .before .before .before .before .before .before .before .before .before .before .loop in
+    let loop = at-loop (after-block (c .before .before .before)) .loop in
     out′ .given ∙ loop .inv .3
 
 returns : tie.Need-returns Inv-loop μ-loop
 returns c =
-    let args = c .before .before .before .before .before .before .before .before .before .before .before .before .before .before .before .before .before .args in
-    let loop = c .before .before .before .before .before .before .before .before .before .before .before .before .before .loop in
-    let take-at = c .before .before .before .before .before .before .before .before .take-at in
+    let b = after-block (c .before .before .before) in
+    let args = at-loop b .before .before .before .before .args in
+    let loop = at-loop b .loop in
+    let take-at = b .before .take-at in
     let enum-told = c .enum-told in
     let a = args in
     let l = loop in
@@ -116,27 +121,28 @@ returns c =
 
 same-length-4 : tie.Need-same-length-4 Inv-loop μ-loop
 same-length-4 c =
-    let block′ = c .before .before .before .before .before .before .before .before .block in
-    let loop = c .before .before .before .before .before .before .before .before .before .before .before .before .before .before .loop in
+    let block′ = after-block (c .before .before .before .before) .block in
+    let loop = at-loop (after-block (c .before .before .before .before)) .loop in
     block′ .given ∙ loop .inv .1
 
 same-length-5 : tie.Need-same-length-5 Inv-loop μ-loop
 same-length-5 c =
     let line′ = c .before .before .before .before .before .before .line in
-    let loop = c .before .before .before .before .before .before .before .before .before .before .before .before .before .before .loop in
+    let loop = at-loop (after-block (c .before .before .before .before)) .loop in
     line′ .given ∙ loop .inv .2
 
 same-length-6 : tie.Need-same-length-6 Inv-loop μ-loop
 same-length-6 c =
     let out′ = c .before .before .before .before .out in
-    let loop = c .before .before .before .before .before .before .before .before .before .before .before .before .before .before .loop in
+    let loop = at-loop (after-block (c .before .before .before .before)) .loop in
     out′ .given ∙ loop .inv .3
 
 returns-2 : tie.Need-returns-2 Inv-loop μ-loop
 returns-2 c =
-    let args = c .before .before .before .before .before .before .before .before .before .before .before .before .before .before .before .before .before .before .args in
-    let loop = c .before .before .before .before .before .before .before .before .before .before .before .before .before .before .loop in
-    let take-at = c .before .before .before .before .before .before .before .before .before .take-at in
+    let b = after-block (c .before .before .before .before) in
+    let args = at-loop b .before .before .before .before .args in
+    let loop = at-loop b .loop in
+    let take-at = b .before .take-at in
     let t = c .before .t in
     let a = args in
     let l = loop in
@@ -158,9 +164,8 @@ returns-3 c =
     let loop-test = c .loop-test in
     let l = loop in too-long (args .kind) (args .time) (l .at) _ (l .lines) (loop-test .left) (l .inv .5)
 
-pub go-once-spec : {M : Type 1} → statement M
+pub go-once-spec : {M : Type 1} → Rattle.files_write_program_inner.proofs.go_once.Statement.statement M
 go-once-spec =
-    tie.close
-    (tie.spec Inv-loop μ-loop loop-holds take-at-requires (λ c. search needs) add-at loop-less loop-again
+    tie.close (tie.spec Inv-loop μ-loop loop-holds take-at-requires (λ c. search needs) add-at loop-less loop-again
     (λ c. search needs) same-length same-length-2 same-length-3 returns (λ c. search needs) same-length-4
     same-length-5 same-length-6 returns-2 same-length-7 same-length-8 same-length-9 returns-3)

@@ -1,7 +1,6 @@
 -- `home::apart` meets its contract: what the check answers, or else the fewest places at which a turn of the one differs from the other.
-use borrow.Author.Needs.{needs}
+use Rattle.words.proofs.Needs.{needs}
 use Rattle.home.proofs.Answers.{passed-pair}
-use Rattle.home.proofs.apart.Statement.{statement}
 use Rattle.home.proofs.apart.Tie as tie
 
 enum-told : tie.Need-enum-told
@@ -19,7 +18,6 @@ returns c = rw (c .before .r .given .1) at (c .before .before .before .check-pai
 returns-2 : tie.Need-returns-2
 returns-2 c = (rw (c .before .enum-told .given .1) at (c .before .before .before .check-pair .ensures), c .fewest-differing .ensures)
 
-pub apart-spec : {M : Type 1} → statement M
+pub apart-spec : {M : Type 1} → Rattle.home.proofs.apart.Statement.statement M
 apart-spec =
-    tie.close
-    (tie.spec (λ c κs. search needs) (λ c. search needs) enum-told fewest-differing-requires returns returns-2)
+    tie.close (tie.spec (λ c κs. search needs) (λ c. search needs) enum-told fewest-differing-requires returns returns-2)

@@ -1,9 +1,7 @@
 -- `home::nearer` meets its contract: what the check answers, or else whether a turn is near enough.
-use mathlib.Core.Path.{_∙_, sym}
+use Rattle.words.proofs.Needs.{needs, _∙_, sym}
 use Rattle.refusal.specs.Calls.{askTwo}
 use Rattle.home.proofs.Answers.{passed-pos, passed-pair}
-use borrow.Author.Needs.{needs}
-use Rattle.home.proofs.nearer.Statement.{statement}
 use Rattle.home.proofs.nearer.Tie as tie
 
 enum-told : tie.Need-enum-told
@@ -32,6 +30,6 @@ returns-3 c = (
       .left,
 )
 
-pub nearer-spec : {M : Type 1} → statement M
+pub nearer-spec : {M : Type 1} → Rattle.home.proofs.nearer.Statement.statement M
 nearer-spec = tie.close (tie.spec (λ c κs. search needs) (λ c. search needs) enum-told is-nearer-requires returns
     returns-2 returns-3)

@@ -1,8 +1,7 @@
 -- `home::nearest` meets its contract: what the check answers, or else the fewest places at which a turn of the one differs from the other, and the first turn that does.
 use Rattle.refusal.specs.Calls.{askTwo}
-use borrow.Author.Needs.{needs}
+use Rattle.words.proofs.Needs.{needs}
 use Rattle.home.proofs.Answers.{passed-pos, passed-pair}
-use Rattle.home.proofs.nearest.Statement.{statement}
 use Rattle.home.proofs.nearest.Tie as tie
 
 enum-told : tie.Need-enum-told
@@ -30,7 +29,7 @@ returns-2 c = (
   c .nearest-turn .ensures,
 )
 
-pub nearest-spec : {M : Type 1} → statement M
+pub nearest-spec : {M : Type 1} → Rattle.home.proofs.nearest.Statement.statement M
 nearest-spec =
     tie.close (tie.spec (λ c κs. search needs) (λ c. search needs) enum-told fewest-differing-requires
     nearest-turn-requires returns returns-2)

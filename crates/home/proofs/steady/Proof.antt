@@ -1,9 +1,7 @@
 -- `home::steady` meets its contract: what the check answers, or else whether a turn of the reading comes near to itself.
-use mathlib.Core.Path.{_∙_, sym}
+use Rattle.words.proofs.Needs.{needs, _∙_, sym}
 use Rattle.refusal.specs.Calls.{askReading}
-use borrow.Author.Needs.{needs}
 use Rattle.home.proofs.Answers.{passed-pos}
-use Rattle.home.proofs.steady.Statement.{statement}
 use Rattle.home.proofs.steady.Tie as tie
 
 enum-told : tie.Need-enum-told
@@ -23,7 +21,6 @@ returns-2 c = rw (c .before .r .given .1) at (c .before .before .before .check-r
 returns-3 : tie.Need-returns-3
 returns-3 c = (rw (c .before .before .enum-told .given .1) at (c .before .before .before .before .check-reading .ensures), sym (c .before .is-steady .ensures) ∙ c .if1 .left)
 
-pub steady-spec : {M : Type 1} → statement M
+pub steady-spec : {M : Type 1} → Rattle.home.proofs.steady.Statement.statement M
 steady-spec =
-    tie.close
-    (tie.spec (λ c κs. search needs) (λ c. search needs) enum-told is-steady-requires returns returns-2 returns-3)
+    tie.close (tie.spec (λ c κs. search needs) (λ c. search needs) enum-told is-steady-requires returns returns-2 returns-3)

@@ -1,12 +1,7 @@
 -- `home_handed_inner::is_even_handed` meets its contract. The outer loop's invariant: no turn passed is the reading; the inner one's: this turn
 -- matches in each sector passed.
-use Prim.Native.Nat.{_≤_, _-_}
-use mathlib.Core.Path.{_≡_, _∙_, refl}
-use native.Mathlib.Omega.{arith}
-use borrow.Author.Needs.{needs}
+use Rattle.words.proofs.Needs.{needs, _≤_, _-_, arith, _≡_, _∙_, refl, false}
 use Rattle.home_handed_inner.proofs.Mirror.{Mirrors, mirrors-start, mirrors-more, mirrors-yes, mirrors-no, Unmirrored, unmirrored-start, unmirrored-more, unmirrored-end}
-use mathlib.Core.Bool.{false}
-use Rattle.home_handed_inner.proofs.is_even_handed.Statement.{statement}
 use Rattle.home_handed_inner.proofs.is_even_handed.Tie as tie
 
 abbrev Inv-loop : tie.InvT-loop
@@ -20,6 +15,9 @@ Inv-turns s n found₀ t₀ found t = (t ≤ n) × (found ≡ false) × Unmirror
 
 abbrev μ-turns : tie.MeasureT-turns
 μ-turns s n found₀ t₀ found t = n - t
+
+abbrev at-loop : tie.After-shared-slice-known3 Inv-loop μ-loop Inv-turns μ-turns → tie.At-loop Inv-loop μ-loop Inv-turns μ-turns
+at-loop c = c .before .before .before .before
 
 turns-holds : tie.Need-turns-holds Inv-loop μ-loop Inv-turns μ-turns
 turns-holds c = (omega arith, refl, unmirrored-start (c .before .args .s .now))
@@ -44,9 +42,10 @@ turns-less c = omega (arith, c .before .before .before .before .before .loop .in
 
 turns-again : tie.Need-turns-again Inv-loop μ-loop Inv-turns μ-turns
 turns-again c =
-    let w = c .before .before .before .before .before .before .before .before .before .args .s .now in
-    let o = c .before .before .before .before .before .before .before .turns in
-    let l = c .before .before .before .before .before .loop in
+    let h = c .before .before .before .before .before in
+    let w = h .before .before .before .before .args .s .now in
+    let o = h .before .before .turns in
+    let l = h .loop in
     let r = c .before .before .before .around in (
       omega (arith, l .inv .0),
       o .inv .1,
@@ -56,7 +55,7 @@ turns-again c =
 
 loop-again : tie.Need-loop-again Inv-loop μ-loop Inv-turns μ-turns
 loop-again c =
-    let w = c .before .before .before .before .before .before .before .before .before .args .s .now in
+    let w = at-loop (c .before) .before .before .before .before .args .s .now in
     let l = c .before .before .before .before .before .loop in
     let r = c .before .before .before .around in
     (l .inv .0, omega arith, mirrors-more w (l .t) (l .m) (r .result) (omega (arith, l .inv .0)) (c .before .before .before .before .loop-test .taken) (r .ensures) (l .inv .2) (c .if1 .left))
@@ -71,9 +70,8 @@ returns-2 c =
     let l = c .before .loop in
     mirrors-yes (c .before .before .before .before .before .args .s .now) (l .t) (l .m) (omega (arith, l .inv .0)) (c .loop-test .left) (l .inv .2)
 
-pub is-even-handed-spec : {M : Type 1} → statement M
+pub is-even-handed-spec : {M : Type 1} → Rattle.home_handed_inner.proofs.is_even_handed.Statement.statement M
 is-even-handed-spec =
-    tie.close
-    (tie.spec Inv-loop μ-loop Inv-turns μ-turns turns-holds loop-holds (λ c. search needs) around-requires sub-p-2
+    tie.close (tie.spec Inv-loop μ-loop Inv-turns μ-turns turns-holds loop-holds (λ c. search needs) around-requires sub-p-2
     shared-slice-read-if1 (λ c. search needs) add-t turns-less turns-again (λ c. search needs) (λ c. search needs)
     loop-again returns returns-2)

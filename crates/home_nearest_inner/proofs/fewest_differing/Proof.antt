@@ -1,11 +1,7 @@
 -- `home_nearest_inner::fewest_differing` meets its contract. The loop's invariant: the two are at most best apart, and no turn passed differs at fewer
 -- places.
-use Prim.Native.Nat.{_≤_, _-_}
-use native.Mathlib.Omega.{arith}
-use lib.ListN.{length}
-use borrow.Author.Needs.{needs}
+use Rattle.words.proofs.Needs.{needs, _≤_, _-_, arith, length}
 use Rattle.home_nearest_inner.proofs.Fewest.{Nearest, nearest-start, nearest-more, nearest-none, nearest-end}
-use Rattle.home_nearest_inner.proofs.fewest_differing.Statement.{statement}
 use Rattle.home_nearest_inner.proofs.fewest_differing.Tie as tie
 
 abbrev Inv-loop : tie.InvT-loop
@@ -26,8 +22,7 @@ loop-again c = (nearest-more (c .before .before .before .loop .inv .0) (omega (a
 returns-2 : tie.Need-returns-2 Inv-loop μ-loop
 returns-2 c = nearest-end (c .before .loop .inv .0) (omega (arith, c .loop-test .left))
 
-pub fewest-differing-spec : {M : Type 1} → statement M
+pub fewest-differing-spec : {M : Type 1} → Rattle.home_nearest_inner.proofs.fewest_differing.Statement.statement M
 fewest-differing-spec =
-    tie.close
-    (tie.spec Inv-loop μ-loop loop-holds (λ c κs. search needs) returns (λ c. search needs) (λ c. search needs)
+    tie.close (tie.spec Inv-loop μ-loop loop-holds (λ c κs. search needs) returns (λ c. search needs) (λ c. search needs)
     loop-again returns-2)

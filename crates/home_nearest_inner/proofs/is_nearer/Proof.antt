@@ -1,9 +1,6 @@
 -- `home_nearest_inner::is_nearer` meets its contract. The loop's invariant: no turn passed is nearer than d.
-use Prim.Native.Nat.{_-_}
-use lib.ListN.{length}
+use Rattle.words.proofs.Needs.{needs, _-_, length}
 use Rattle.home_nearest_inner.proofs.Nearer.{NoneNearer, turns-start, turns-more, turns-found, turns-end}
-use borrow.Author.Needs.{needs}
-use Rattle.home_nearest_inner.proofs.is_nearer.Statement.{statement}
 use Rattle.home_nearest_inner.proofs.is_nearer.Tie as tie
 
 abbrev Inv-loop : tie.InvT-loop
@@ -24,6 +21,6 @@ loop-again c = turns-more (c .before .before .before .loop .inv) (c .before .dif
 returns-2 : tie.Need-returns-2 Inv-loop μ-loop
 returns-2 c = turns-end (c .before .before .before .before .pre .0) (c .before .loop .inv) (c .loop-test .left)
 
-pub is-nearer-spec : {M : Type 1} → statement M
+pub is-nearer-spec : {M : Type 1} → Rattle.home_nearest_inner.proofs.is_nearer.Statement.statement M
 is-nearer-spec = tie.close (tie.spec Inv-loop μ-loop loop-holds (λ c κs. search needs) returns (λ c. search needs)
     (λ c. search needs) loop-again returns-2)

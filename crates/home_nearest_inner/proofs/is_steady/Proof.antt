@@ -1,10 +1,6 @@
 -- `home_nearest_inner::is_steady` meets its contract. The loop's invariant: none of the turns passed comes nearer than d.
-use Prim.Native.Nat.{_-_}
-use native.Mathlib.Omega.{arith}
-use lib.ListN.{length}
+use Rattle.words.proofs.Needs.{needs, _-_, arith, length}
 use Rattle.home_nearest_inner.proofs.Turning.{FarTurns, turned-start, turned-on, turned-near, turned-all}
-use borrow.Author.Needs.{needs}
-use Rattle.home_nearest_inner.proofs.is_steady.Statement.{statement}
 use Rattle.home_nearest_inner.proofs.is_steady.Tie as tie
 
 abbrev Inv-loop : tie.InvT-loop
@@ -25,7 +21,7 @@ loop-again c = turned-on (c .before .before .before .loop .inv) (c .before .diff
 returns-2 : tie.Need-returns-2 Inv-loop μ-loop
 returns-2 c = turned-all (c .before .loop .inv) (omega (arith, c .loop-test .left))
 
-pub is-steady-spec : {M : Type 1} → statement M
+pub is-steady-spec : {M : Type 1} → Rattle.home_nearest_inner.proofs.is_steady.Statement.statement M
 is-steady-spec =
     tie.close (tie.spec Inv-loop μ-loop loop-holds (λ c. search needs) (λ c κs. search needs) returns
     (λ c. search needs) (λ c. search needs) loop-again returns-2)

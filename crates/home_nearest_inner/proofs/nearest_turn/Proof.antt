@@ -1,11 +1,7 @@
 -- `home_nearest_inner::nearest_turn` meets its contract. The loop's invariant: no turn by less than t comes as near as the two are apart.
-use Prim.Native.Nat.{_-_}
-use native.Mathlib.Omega.{arith}
-use lib.ListN.{length}
-use borrow.Author.Needs.{needs}
+use Rattle.words.proofs.Needs.{needs, _-_, arith, length}
 use Rattle.ring_home_laws.proofs.Alike.{apart-le}
 use Rattle.home_nearest_inner.proofs.Turning.{NotYet, not-yet-start, not-yet-on, not-yet-found, not-yet-never}
-use Rattle.home_nearest_inner.proofs.nearest_turn.Statement.{statement}
 use Rattle.home_nearest_inner.proofs.nearest_turn.Tie as tie
 
 abbrev Inv-loop : tie.InvT-loop
@@ -33,8 +29,7 @@ loop-again c =
 returns-2 : tie.Need-returns-2 Inv-loop μ-loop
 returns-2 c = absurd (not-yet-never (c .before .before .before .before .pre .0) (c .before .loop .inv) (c .loop-test .left))
 
-pub nearest-turn-spec : {M : Type 1} → statement M
+pub nearest-turn-spec : {M : Type 1} → Rattle.home_nearest_inner.proofs.nearest_turn.Statement.statement M
 nearest-turn-spec =
-    tie.close
-    (tie.spec Inv-loop μ-loop add-limit loop-holds (λ c κs. search needs) returns (λ c. search needs)
+    tie.close (tie.spec Inv-loop μ-loop add-limit loop-holds (λ c κs. search needs) returns (λ c. search needs)
     (λ c. search needs) loop-again returns-2)

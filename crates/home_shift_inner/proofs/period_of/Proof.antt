@@ -1,9 +1,6 @@
 -- `home_shift_inner::period_of` meets its contract. The loop's invariant: nothing below p repeats the reading.
-use Prim.Native.Nat.{_-_}
-use mathlib.Core.Path.{_∙_, sym}
-use borrow.Author.Needs.{needs}
+use Rattle.words.proofs.Needs.{needs, _-_, _∙_, sym}
 use Rattle.home_shift_inner.proofs.Least.{Unrepeated, unrepeated-start, unrepeated-more, unrepeated-found, unrepeated-end}
-use Rattle.home_shift_inner.proofs.period_of.Statement.{statement}
 use Rattle.home_shift_inner.proofs.period_of.Tie as tie
 
 abbrev Inv-loop : tie.InvT-loop
@@ -31,8 +28,7 @@ loop-again c =
 returns-2 : tie.Need-returns-2 Inv-loop μ-loop
 returns-2 c = unrepeated-end (c .before .before .before .args .s .now) (c .before .loop .p) (c .before .loop .inv) (c .loop-test .left)
 
-pub period-of-spec : {M : Type 1} → statement M
+pub period-of-spec : {M : Type 1} → Rattle.home_shift_inner.proofs.period_of.Statement.statement M
 period-of-spec =
-    tie.close
-    (tie.spec Inv-loop μ-loop loop-holds repeats-by-requires returns (λ c. search needs) (λ c. search needs)
+    tie.close (tie.spec Inv-loop μ-loop loop-holds repeats-by-requires returns (λ c. search needs) (λ c. search needs)
     loop-again returns-2)

@@ -1,13 +1,8 @@
 -- `home_turns_inner::write_turn` meets its contract. The loop's invariant: the first m sectors are written.
-use Prim.Native.Nat.{_≤_, _-_}
-use mathlib.Core.Path.{_∙_, sym}
-use native.Mathlib.Omega.{arith}
-use lib.ListN.{length}
-use borrow.Author.Needs.{needs}
+use Rattle.words.proofs.Needs.{needs, _≤_, _-_, arith, _∙_, sym, length}
 use Rattle.words.specs.Turn.{turn}
 use Rattle.words.proofs.Turn.{length-turn}
 use Rattle.word_copy_laws.proofs.Written.{Written, written-start, written-more, written-end}
-use Rattle.home_turns_inner.proofs.write_turn.Statement.{statement}
 use Rattle.home_turns_inner.proofs.write_turn.Tie as tie
 
 abbrev Inv-loop : tie.InvT-loop
@@ -47,8 +42,7 @@ returns c =
     written-end (turn (a .i) (a .s .now)) _ (c .before .loop .m) (c .before .loop .inv .1)
     (omega (arith, length-turn (a .i) (a .s .now) (c .before .before .before .before .pre .0)))
 
-pub write-turn-spec : {M : Type 1} → statement M
+pub write-turn-spec : {M : Type 1} → Rattle.home_turns_inner.proofs.write_turn.Statement.statement M
 write-turn-spec =
-    tie.close
-    (tie.spec Inv-loop μ-loop loop-holds (λ c κs. search needs) slice-write-out (λ c. search needs)
+    tie.close (tie.spec Inv-loop μ-loop loop-holds (λ c κs. search needs) slice-write-out (λ c. search needs)
     (λ c. search needs) loop-again same-length returns)

@@ -1,14 +1,8 @@
 -- `how_many_mu_inner::count_primes` meets its contract. The loop's invariant: x is the sum up to i.
-use Prim.Native.Nat.{ℕ, _≤_, _-_}
-use mathlib.Core.Path.{_≡_}
-use native.Mathlib.Omega.{arith}
-use mathlib.Core.Bool.{_&&_}
+use Rattle.words.proofs.Needs.{needs, ℕ, _≤_, _-_, arith, _≡_, _&&_}
 use Rattle.words.specs.Readings.{bit}
-use Rattle.how_many_number_spec.specs.Divisors.{sumTo, divides}
-use Rattle.how_many_number_spec.specs.Mu.{prime, primesOf}
+use Rattle.how_many_number_spec.specs.{Divisors.sumTo, Divisors.divides, Mu.prime, Mu.primesOf}
 use Rattle.how_many_number_laws.proofs.Loops.{sum-start, sum-on, sum-end}
-use borrow.Author.Needs.{needs}
-use Rattle.how_many_mu_inner.proofs.count_primes.Statement.{statement}
 use Rattle.how_many_mu_inner.proofs.count_primes.Tie as tie
 
 abbrev Inv-loop : tie.InvT-loop
@@ -36,8 +30,7 @@ returns : tie.Need-returns Inv-loop μ-loop
 unfolding primesOf
 returns c = let a = c .before .before .args in let l = c .before .loop in sum-end (λ j. bit (prime j && divides j (a .m))) (l .x) (l .i) (a .m) (l .inv .0) (c .loop-test .left) (l .inv .1)
 
-pub count-primes-spec : {M : Type 1} → statement M
+pub count-primes-spec : {M : Type 1} → Rattle.how_many_mu_inner.proofs.count_primes.Statement.statement M
 count-primes-spec =
-    tie.close
-    (tie.spec Inv-loop μ-loop loop-holds (λ c. search needs) (λ c κs. search needs) add-x (λ c. search needs)
+    tie.close (tie.spec Inv-loop μ-loop loop-holds (λ c. search needs) (λ c κs. search needs) add-x (λ c. search needs)
     loop-again returns)

@@ -1,13 +1,6 @@
 -- `how_many_mu_inner::is_prime` meets its contract. The loop's invariant: no number from 2 on and below d divides p.
-use Prim.Native.Nat.{_≤_, _-_, _%_}
-use mathlib.Core.Path.{_≡_}
-use mathlib.Core.Bool.{true}
-use native.Mathlib.Omega.{arith}
-use lib.Dec.{eqb}
-use borrow.Author.Tests.{ne-eqb}
+use Rattle.words.proofs.Needs.{needs, _≤_, _-_, _%_, arith, _≡_, true, eqb, ne-eqb}
 use Rattle.how_many_number_laws.proofs.Loops.{trials, trial-start, trial-on, prime-small, prime-no, prime-yes}
-use borrow.Author.Needs.{needs}
-use Rattle.how_many_mu_inner.proofs.is_prime.Statement.{statement}
 use Rattle.how_many_mu_inner.proofs.is_prime.Tie as tie
 
 abbrev Inv-loop : tie.InvT-loop
@@ -33,8 +26,7 @@ loop-again c =
 returns-3 : tie.Need-returns-3 Inv-loop μ-loop
 returns-3 c = prime-yes (c .before .before .before .args .p) (c .before .loop .d) (c .before .before .if1 .left) (c .before .loop .inv .1) (c .loop-test .left) (c .before .loop .inv .2)
 
-pub is-prime-spec : {M : Type 1} → statement M
+pub is-prime-spec : {M : Type 1} → Rattle.how_many_mu_inner.proofs.is_prime.Statement.statement M
 is-prime-spec =
-    tie.close
-    (tie.spec Inv-loop μ-loop returns loop-holds (λ c. search needs) returns-2 (λ c. search needs) (λ c. search needs)
+    tie.close (tie.spec Inv-loop μ-loop returns loop-holds (λ c. search needs) returns-2 (λ c. search needs) (λ c. search needs)
     loop-again returns-3)

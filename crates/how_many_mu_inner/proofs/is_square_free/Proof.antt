@@ -1,13 +1,6 @@
 -- `how_many_mu_inner::is_square_free` meets its contract. The loop's invariant: no square of a number from 2 on and below d divides m.
-use Prim.Native.Nat.{_≤_, _+_, _-_, _*_, _%_}
-use mathlib.Core.Path.{_≡_}
-use mathlib.Core.Bool.{true}
-use native.Mathlib.Omega.{arith}
-use lib.Dec.{eqb}
-use borrow.Author.Tests.{ne-eqb}
+use Rattle.words.proofs.Needs.{needs, _≤_, _+_, _-_, _*_, _%_, arith, _≡_, true, eqb, ne-eqb}
 use Rattle.how_many_number_laws.proofs.Loops.{trials, trial-start, trial-on, square-no, square-yes, square-fits, square-pos}
-use borrow.Author.Needs.{needs}
-use Rattle.how_many_mu_inner.proofs.is_square_free.Statement.{statement}
 use Rattle.how_many_mu_inner.proofs.is_square_free.Tie as tie
 
 abbrev Inv-loop : tie.InvT-loop
@@ -36,8 +29,7 @@ loop-again c =
 returns-2 : tie.Need-returns-2 Inv-loop μ-loop
 returns-2 c = square-yes (c .before .before .args .m) (c .before .loop .d) (c .loop-test .left) (c .before .loop .inv .1) (c .before .loop .inv .2)
 
-pub is-square-free-spec : {M : Type 1} → statement M
+pub is-square-free-spec : {M : Type 1} → Rattle.how_many_mu_inner.proofs.is_square_free.Statement.statement M
 is-square-free-spec =
-    tie.close
-    (tie.spec Inv-loop μ-loop loop-holds mul-if1 rem-if1 returns (λ c. search needs) (λ c. search needs) loop-again
+    tie.close (tie.spec Inv-loop μ-loop loop-holds mul-if1 rem-if1 returns (λ c. search needs) (λ c. search needs) loop-again
     returns-2)

@@ -1,14 +1,8 @@
 -- `how_many_mu_inner::mu_of` meets its contract.
-use Prim.Native.Nat.{ℕ, _%_}
-use mathlib.Core.Path.{sym, ap, _∙_}
-use mathlib.Core.Bool.{_&&_}
-use lib.Dec.{eqb}
-use borrow.Author.Tests.{eq-eqb, ne-eqb, not-true, not-false}
+use Rattle.words.proofs.Needs.{needs, ℕ, _%_, sym, ap, _∙_, _&&_, eqb, eq-eqb, ne-eqb, not-true, not-false}
 use Rattle.words.proofs.Split.{both, not-left, not-right}
 use Rattle.how_many_number_spec.specs.Mu.{squareFree, primesOf}
 use Rattle.how_many_number_laws.proofs.Loops.{bit-one, bit-zero}
-use borrow.Author.Needs.{needs}
-use Rattle.how_many_mu_inner.proofs.mu_of.Statement.{statement}
 use Rattle.how_many_mu_inner.proofs.mu_of.Tie as tie
 
 returns : tie.Need-returns
@@ -29,6 +23,6 @@ returns-3 c =
     bit-zero (squareFree (a .m) && t) (not-right (squareFree (a .m)) t
     (ne-eqb (primesOf (a .m) % 2) (a .rest) (λ e. c .if2 .left (ap (λ (x : ℕ). x % 2) (c .before .count-primes .ensures) ∙ e))))
 
-pub mu-of-spec : {M : Type 1} → statement M
+pub mu-of-spec : {M : Type 1} → Rattle.how_many_mu_inner.proofs.mu_of.Statement.statement M
 mu-of-spec =
     tie.close (tie.spec (λ c κs. search needs) returns (λ c κs. search needs) returns-2 returns-3)

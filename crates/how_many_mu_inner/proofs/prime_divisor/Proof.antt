@@ -1,14 +1,8 @@
 -- `how_many_mu_inner::prime_divisor` meets its contract.
-use Prim.Native.Nat.{_%_}
-use mathlib.Core.Path.{sym, _∙_}
-use mathlib.Core.Bool.{_&&_}
-use borrow.Author.Tests.{eq-eqb, ne-eqb, not-true, not-false}
+use Rattle.words.proofs.Needs.{needs, _%_, sym, _∙_, _&&_, eq-eqb, ne-eqb, not-true, not-false}
 use Rattle.words.proofs.Split.{both, not-left, not-right}
-use Rattle.how_many_number_spec.specs.Divisors.{divides}
-use Rattle.how_many_number_spec.specs.Mu.{prime}
+use Rattle.how_many_number_spec.specs.{Divisors.divides, Mu.prime}
 use Rattle.how_many_number_laws.proofs.Loops.{bit-one, bit-zero}
-use borrow.Author.Needs.{needs}
-use Rattle.how_many_mu_inner.proofs.prime_divisor.Statement.{statement}
 use Rattle.how_many_mu_inner.proofs.prime_divisor.Tie as tie
 
 returns : tie.Need-returns
@@ -28,5 +22,5 @@ returns-3 : tie.Need-returns-3
 unfolding divides
 returns-3 c = let a = c .before .before .before .args in bit-zero (prime (a .p) && divides (a .p) (a .m)) (not-right (prime (a .p)) (divides (a .p) (a .m)) (ne-eqb (a .m % a .p) 0 (c .if2 .left)))
 
-pub prime-divisor-spec : {M : Type 1} → statement M
+pub prime-divisor-spec : {M : Type 1} → Rattle.how_many_mu_inner.proofs.prime_divisor.Statement.statement M
 prime-divisor-spec = tie.close (tie.spec (λ c κs. search needs) returns (λ c. search needs) returns-2 returns-3)

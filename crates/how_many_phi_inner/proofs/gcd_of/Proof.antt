@@ -1,11 +1,8 @@
 -- `how_many_phi_inner::gcd_of` meets its contract. The loop's invariant: the greatest common divisor is not above g.
-use mathlib.Core.Path.{_≡_}
+use Rattle.words.proofs.Needs.{needs, _≡_, sym, _∙_}
 use Rattle.words.specs.Search.{greatest}
 use Rattle.how_many_number_spec.specs.Phi.{dividesBoth, gcd}
 use Rattle.how_many_number_laws.proofs.Loops.{gcd-start, gcd-found, gcd-on, gcd-end}
-use mathlib.Core.Path.{sym, _∙_}
-use borrow.Author.Needs.{needs}
-use Rattle.how_many_phi_inner.proofs.gcd_of.Statement.{statement}
 use Rattle.how_many_phi_inner.proofs.gcd_of.Tie as tie
 
 abbrev Inv-loop : tie.InvT-loop
@@ -32,8 +29,7 @@ loop-again c =
 returns-2 : tie.Need-returns-2 Inv-loop μ-loop
 returns-2 c = gcd-end (c .before .before .args .a) (c .before .before .args .b) (c .before .loop .g) (c .before .loop .inv) (c .loop-test .left)
 
-pub gcd-of-spec : {M : Type 1} → statement M
+pub gcd-of-spec : {M : Type 1} → Rattle.how_many_phi_inner.proofs.gcd_of.Statement.statement M
 gcd-of-spec =
-    tie.close
-    (tie.spec Inv-loop μ-loop loop-holds (λ c κs. search needs) returns (λ c. search needs) (λ c. search needs)
+    tie.close (tie.spec Inv-loop μ-loop loop-holds (λ c κs. search needs) returns (λ c. search needs) (λ c. search needs)
     loop-again returns-2)

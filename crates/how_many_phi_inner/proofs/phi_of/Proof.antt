@@ -1,14 +1,8 @@
 -- `how_many_phi_inner::phi_of` meets its contract. The loop's invariant: x is the sum up to i.
-use Prim.Native.Nat.{ℕ, _≤_, _-_}
-use mathlib.Core.Path.{_≡_}
-use native.Mathlib.Omega.{arith}
-use lib.Dec.{eqb}
+use Rattle.words.proofs.Needs.{needs, ℕ, _≤_, _-_, arith, _≡_, eqb}
 use Rattle.words.specs.Readings.{bit}
-use Rattle.how_many_number_spec.specs.Divisors.{sumTo}
-use Rattle.how_many_number_spec.specs.Phi.{gcd, phi}
+use Rattle.how_many_number_spec.specs.{Divisors.sumTo, Phi.gcd, Phi.phi}
 use Rattle.how_many_number_laws.proofs.Loops.{sum-start, sum-on, sum-end}
-use borrow.Author.Needs.{needs}
-use Rattle.how_many_phi_inner.proofs.phi_of.Statement.{statement}
 use Rattle.how_many_phi_inner.proofs.phi_of.Tie as tie
 
 abbrev Inv-loop : tie.InvT-loop
@@ -36,8 +30,7 @@ returns : tie.Need-returns Inv-loop μ-loop
 unfolding phi
 returns c = let a = c .before .before .args in let l = c .before .loop in (sum-end (λ j. bit (eqb (gcd j (a .m)) 1)) (l .x) (l .i) (a .m) (l .inv .0) (c .loop-test .left) (l .inv .1), omega arith)
 
-pub phi-of-spec : {M : Type 1} → statement M
+pub phi-of-spec : {M : Type 1} → Rattle.how_many_phi_inner.proofs.phi_of.Statement.statement M
 phi-of-spec =
-    tie.close
-    (tie.spec Inv-loop μ-loop loop-holds (λ c. search needs) (λ c κs. search needs) add-x (λ c. search needs)
+    tie.close (tie.spec Inv-loop μ-loop loop-holds (λ c. search needs) (λ c κs. search needs) add-x (λ c. search needs)
     loop-again returns)

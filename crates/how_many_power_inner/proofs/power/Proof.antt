@@ -1,11 +1,7 @@
 -- `how_many_power_inner::power` meets its contract. The loop's invariant: p is k to the power i.
-use Prim.Native.Nat.{_≤_, _-_, _^_}
-use mathlib.Core.Path.{_≡_, sym, ap, _∙_}
-use native.Mathlib.Omega.{arith}
+use Rattle.words.proofs.Needs.{needs, _≤_, _-_, _^_, arith, _≡_, sym, ap, _∙_}
 use native.Mathlib.Nat.{pow-zero}
 use Rattle.how_many_power_inner.proofs.Powers.{power-step}
-use borrow.Author.Needs.{needs}
-use Rattle.how_many_power_inner.proofs.power.Statement.{statement}
 use Rattle.how_many_power_inner.proofs.power.Tie as tie
 
 abbrev Inv-loop : tie.InvT-loop
@@ -32,6 +28,6 @@ loop-again c =
 returns : tie.Need-returns Inv-loop μ-loop
 returns c = let e : c .before .loop .i ≡ c .before .before .args .e = omega arith in c .before .loop .inv .1 ∙ ap (λ x. c .before .before .args .k ^ x) e
 
-pub power-spec : {M : Type 1} → statement M
+pub power-spec : {M : Type 1} → Rattle.how_many_power_inner.proofs.power.Statement.statement M
 power-spec =
     tie.close (tie.spec Inv-loop μ-loop loop-holds mul-p (λ c. search needs) (λ c. search needs) loop-again returns)

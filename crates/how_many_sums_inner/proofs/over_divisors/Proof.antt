@@ -1,12 +1,8 @@
 -- `how_many_sums_inner::over_divisors` meets its contract. The loop's invariant: x is the sum up to d.
-use Prim.Native.Nat.{ℕ, _≤_, _-_, _*_}
-use mathlib.Core.Path.{_≡_}
-use native.Mathlib.Omega.{arith}
+use Rattle.words.proofs.Needs.{needs, ℕ, _≤_, _-_, _*_, arith, _≡_}
 use Rattle.how_many_number_spec.specs.Divisors.{when, sumTo, divides, overDivisors}
 use Rattle.how_many_sums_inner.specs.Weights.{powers}
 use Rattle.how_many_number_laws.proofs.Loops.{sum-start, sum-on, sum-end}
-use borrow.Author.Needs.{needs}
-use Rattle.how_many_sums_inner.proofs.over_divisors.Statement.{statement}
 use Rattle.how_many_sums_inner.proofs.over_divisors.Tie as tie
 
 abbrev Inv-loop : tie.InvT-loop
@@ -39,8 +35,7 @@ returns c =
     let a = c .before .before .args in let l = c .before .loop in
     sum-end (λ j. when (divides j (a .n)) (powers (a .w) (a .k) (a .n) j)) (l .x) (l .d) (a .n) (l .inv .0) (c .loop-test .left) (l .inv .1)
 
-pub over-divisors-spec : {M : Type 1} → statement M
+pub over-divisors-spec : {M : Type 1} → Rattle.how_many_sums_inner.proofs.over_divisors.Statement.statement M
 over-divisors-spec =
-    tie.close
-    (tie.spec Inv-loop μ-loop loop-holds (λ c. search needs) summand-requires add-x (λ c. search needs) loop-again
+    tie.close (tie.spec Inv-loop μ-loop loop-holds (λ c. search needs) summand-requires add-x (λ c. search needs) loop-again
     returns)

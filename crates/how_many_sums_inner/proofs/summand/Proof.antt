@@ -1,12 +1,7 @@
 -- `how_many_sums_inner::summand` meets its contract.
-use native.Mathlib.Omega.{arith}
-use Prim.Native.Nat.{_≤_, _/_, _^_}
-use mathlib.Core.Path.{_≡_}
-use Rattle.how_many_sums_inner.proofs.Powers.{power-fits, product-fits}
-use Rattle.how_many_sums_inner.proofs.Sums.{summand-none, summand-some}
+use Rattle.words.proofs.Needs.{needs, _≤_, _/_, _^_, arith, _≡_}
+use Rattle.how_many_sums_inner.proofs.{Powers.power-fits, Powers.product-fits, Sums.summand-none, Sums.summand-some}
 use Rattle.how_many_sums_inner.proofs.Powers.{limit}
-use borrow.Author.Needs.{needs}
-use Rattle.how_many_sums_inner.proofs.summand.Statement.{statement}
 use Rattle.how_many_sums_inner.proofs.summand.Tie as tie
 
 returns : tie.Need-returns
@@ -25,11 +20,7 @@ mul-result c =
       c .power .ensures,
       power-fits (a .k) (omega (arith, c .before .before .before .pre)) (a .n)
           (a .d) (c .before .before .before .pre .0 .few),
-    ) in omega (
-      arith,
-      product-fits (c .before .weigh .result) (c .power .result)
-          (c .before .weigh .ensures .1) b,
-    )
+    ) in omega (arith, product-fits (c .before .weigh .result) (c .power .result) (c .before .weigh .ensures .1) b)
 
 returns-2 : tie.Need-returns-2
 returns-2 c =
@@ -46,8 +37,7 @@ returns-2 c =
           (c .before .weigh .ensures .1) b,
     )
 
-pub summand-spec : {M : Type 1} → statement M
+pub summand-spec : {M : Type 1} → Rattle.how_many_sums_inner.proofs.summand.Statement.statement M
 summand-spec =
-    tie.close
-    (tie.spec (λ c. search needs) returns (λ c. search needs) (λ c κs. search needs) power-requires mul-result
+    tie.close (tie.spec (λ c. search needs) returns (λ c. search needs) (λ c κs. search needs) power-requires mul-result
     returns-2)

@@ -1,8 +1,6 @@
 -- `how_many_sums_inner::weigh` meets its contract.
-use native.Mathlib.Omega.{arith}
+use Rattle.words.proofs.Needs.{needs, arith}
 use Rattle.how_many_number_spec.specs.Mu.{muPlus, muMinus}
-use borrow.Author.Needs.{needs}
-use Rattle.how_many_sums_inner.proofs.weigh.Statement.{statement}
 use Rattle.how_many_sums_inner.proofs.weigh.Tie as tie
 
 enum-told : tie.Need-enum-told
@@ -19,8 +17,7 @@ returns-3 : tie.Need-returns-3
 unfolding muMinus
 returns-3 c = rw (c .before .enum-told3 .given .1) (c .mu-of2 .ensures .0, omega (arith, c .mu-of2 .ensures .1))
 
-pub weigh-spec : {M : Type 1} → statement M
+pub weigh-spec : {M : Type 1} → Rattle.how_many_sums_inner.proofs.weigh.Statement.statement M
 weigh-spec =
-    tie.close
-    (tie.spec enum-told (λ c κs. search needs) (λ c. search needs) (λ c κs. search needs) (λ c. search needs)
+    tie.close (tie.spec enum-told (λ c κs. search needs) (λ c. search needs) (λ c κs. search needs) (λ c. search needs)
     (λ c κs. search needs) returns returns-2 returns-3)

@@ -1,11 +1,5 @@
 -- `limits::plan_numbers` meets its contract.
-use Prim.Native.Nat.{_^_}
-use mathlib.Core.Path.{_∙_, sym, refl}
-use mathlib.Core.Logic.{inl, inr}
-use native.Mathlib.Omega.{arith}
-use borrow.Author.Needs.{needs}
-use borrow.Author.Tests.{ltb-true, ltb-false}
-use Rattle.limits.proofs.plan_numbers.Statement.{statement}
+use Rattle.words.proofs.Needs.{needs, _^_, arith, _∙_, sym, refl, inl, inr, ltb-true, ltb-false}
 use Rattle.limits.proofs.plan_numbers.Tie as tie
 
 returns : tie.Need-returns
@@ -25,14 +19,7 @@ returns-5 c =
     let a = c .before .before .before .before .before .before .args in
     inr (
       (search needs, search needs),
-      (
-        refl,
-        λ h. omega (
-          arith,
-          ltb-true (a .limit) (a .k ^ a .n)
-              (sym (c .before .power-above .ensures) ∙ c .if5 .taken),
-        ),
-      ),
+      (refl, λ h. omega (arith, ltb-true (a .limit) (a .k ^ a .n) (sym (c .before .power-above .ensures) ∙ c .if5 .taken))),
     )
 
 returns-6 : tie.Need-returns-6
@@ -48,7 +35,6 @@ returns-6 c =
       },
     )
 
-pub plan-numbers-spec : {M : Type 1} → statement M
+pub plan-numbers-spec : {M : Type 1} → Rattle.limits.proofs.plan_numbers.Statement.statement M
 plan-numbers-spec =
-    tie.close
-    (tie.spec returns returns-2 returns-3 returns-4 (λ c κs. search needs) returns-5 returns-6)
+    tie.close (tie.spec returns returns-2 returns-3 returns-4 (λ c κs. search needs) returns-5 returns-6)

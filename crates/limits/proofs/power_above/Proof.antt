@@ -1,11 +1,7 @@
 -- `limits::power_above` meets its contract. The loop's invariant: p is k to the power i, and within the limit.
-use Prim.Native.Nat.{_≤_, _-_, _^_}
-use mathlib.Core.Path.{_≡_, sym}
-use native.Mathlib.Omega.{arith}
-use borrow.Author.Needs.{needs}
+use Rattle.words.proofs.Needs.{needs, _≤_, _-_, _^_, arith, _≡_, sym}
 use native.Mathlib.Nat.{pow-zero}
 use Rattle.limits.proofs.Power.{power-none, power-small, power-zero, power-over, power-within, power-on, power-end}
-use Rattle.limits.proofs.power_above.Statement.{statement}
 use Rattle.limits.proofs.power_above.Tie as tie
 
 abbrev Inv-loop : tie.InvT-loop
@@ -59,8 +55,7 @@ returns-5 c =
     (c .before .before .before .before .before .args .limit) (c .before .loop .i) (c .before .loop .p) (c .before .before .before .if2 .left)
     (c .before .loop .inv .1) (c .before .loop .inv .0) (c .loop-test .left) (c .before .loop .inv .2)
 
-pub power-above-spec : {M : Type 1} → statement M
+pub power-above-spec : {M : Type 1} → Rattle.limits.proofs.power_above.Statement.statement M
 power-above-spec =
-    tie.close
-    (tie.spec Inv-loop μ-loop returns returns-2 returns-3 loop-holds (λ c. search needs) returns-4 mul-p
+    tie.close (tie.spec Inv-loop μ-loop returns returns-2 returns-3 loop-holds (λ c. search needs) returns-4 mul-p
     (λ c. search needs) (λ c. search needs) loop-again returns-5)

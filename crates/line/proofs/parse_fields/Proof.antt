@@ -1,12 +1,6 @@
 -- `line::parse_fields` meets its contract: k stands before the first space, n behind it.
-use Prim.Native.Nat.{_+_, _-_}
-use mathlib.Core.Path.{_≡_}
-use native.Mathlib.Omega.{arith}
-use lib.ListN.{length, take, drop, length-take, length-drop}
-use lib.Seq.{take-all}
-use borrow.Author.Needs.{needs}
+use Rattle.words.proofs.Needs.{needs, _+_, _-_, arith, _≡_, length, take, drop, length-take, length-drop, take-all}
 use Rattle.line_spec.proofs.Lines.{two-fields, no-fields}
-use Rattle.line.proofs.parse_fields.Statement.{statement}
 use Rattle.line.proofs.parse_fields.Tie as tie
 
 returns : tie.Need-returns
@@ -23,7 +17,7 @@ returns-2 c =
     let rest : take (length t - from) (drop from t) ≡ drop from t = take-all (length t - from) (drop from t) (simp length-drop (omega arith)) in
     two-fields t (s .before .piece-end .result) (s .before .piece-end .ensures) (s .if1 .left) (c .parse-two .result) (rw rest at (c .parse-two .ensures))
 
-pub parse-fields-spec : {M : Type 1} → statement M
+pub parse-fields-spec : {M : Type 1} → Rattle.line.proofs.parse_fields.Statement.statement M
 parse-fields-spec =
     tie.close
     (tie.spec (λ c κs. search needs) returns slice-aggregate-parse-two (λ c. search needs) (λ c. search needs) (λ c. search needs)

@@ -1,10 +1,6 @@
 -- `line::parse_number` meets its contract. The loop's invariant: the characters passed are digits, and x is what they spell.
-use Prim.Native.Nat.{_-_}
-use native.Mathlib.Omega.{arith}
-use lib.ListN.{length}
-use borrow.Author.Needs.{needs}
+use Rattle.words.proofs.Needs.{needs, _-_, arith, length}
 use Rattle.line.proofs.Spelling.{Spelling, spelling-start, spelling-on, spelling-small, spelling-end, too-short, too-long, zero-first, no-digit, zero-text}
-use Rattle.line.proofs.parse_number.Statement.{statement}
 use Rattle.line.proofs.parse_number.Tie as tie
 
 abbrev Inv-loop : tie.InvT-loop
@@ -12,6 +8,9 @@ Inv-loop s m x₀ i₀ x i = Spelling s x i
 
 abbrev μ-loop : tie.MeasureT-loop
 μ-loop s m x₀ i₀ x i = length s - i
+
+abbrev start : tie.In-loop Inv-loop μ-loop → tie.Start Inv-loop μ-loop
+start c = c .before .before .before .before .before .before
 
 returns : tie.Need-returns Inv-loop μ-loop
 returns c = λ x h e. too-short (c .before .args .s .now) x e (c .if1 .taken)
@@ -30,19 +29,19 @@ loop-holds c = spelling-start (c .before .before .before .before .args .s .now)
 
 returns-5 : tie.Need-returns-5 Inv-loop μ-loop
 returns-5 c =
-    λ x h e. no-digit (c .before .before .before .before .before .before .before .before .args .s .now) x e (c .before .before .before .loop .i)
+    λ x h e. no-digit (start (c .before .before) .args .s .now) x e (c .before .before .before .loop .i)
     (omega arith) (λ lo hi. omega (arith, c .if5 .taken))
 
 returns-6 : tie.Need-returns-6 Inv-loop μ-loop
 returns-6 c =
-    λ x h e. no-digit (c .before .before .before .before .before .before .before .before .before .args .s .now) x e
+    λ x h e. no-digit (start (c .before .before .before) .args .s .now) x e
     (c .before .before .before .before .loop .i) (omega arith) (λ lo hi. omega (arith, c .if6 .taken))
 
 mul-x : tie.Need-mul-x Inv-loop μ-loop
 mul-x c =
     omega (
       arith,
-      spelling-small (c .before .before .before .before .before .before .before .before .before .args .s .now)
+      spelling-small (start (c .before .before .before) .args .s .now)
           (c .before .before .before .before .loop .x) (c .before .before .before .before .loop .i) (c .before .before .before .before .loop .inv)
           (let b = c .before .before .before .before .loop .inv .inside in omega arith),
     )
@@ -51,14 +50,14 @@ add-x : tie.Need-add-x Inv-loop μ-loop
 add-x c =
     omega (
       arith,
-      spelling-small (c .before .before .before .before .before .before .before .before .before .args .s .now)
+      spelling-small (start (c .before .before .before) .args .s .now)
           (c .before .before .before .before .loop .x) (c .before .before .before .before .loop .i) (c .before .before .before .before .loop .inv)
           (let b = c .before .before .before .before .loop .inv .inside in omega arith),
     )
 
 loop-again : tie.Need-loop-again Inv-loop μ-loop
 loop-again c =
-    spelling-on (c .before .before .before .before .before .before .before .before .before .args .s .now) (c .before .before .before .before .loop .x)
+    spelling-on (start (c .before .before .before) .args .s .now) (c .before .before .before .before .loop .x)
     (c .before .before .before .before .loop .i) (c .before .before .before .before .loop .inv) (omega arith) (c .before .if5 .left) (c .if6 .left)
 
 returns-7 : tie.Need-returns-7 Inv-loop μ-loop
@@ -70,8 +69,7 @@ returns-7 c =
           (l .i) (l .inv) (omega arith) (omega arith) (c .before .before .if3 .left),
     )
 
-pub parse-number-spec : {M : Type 1} → statement M
+pub parse-number-spec : {M : Type 1} → Rattle.line.proofs.parse_number.Statement.statement M
 parse-number-spec =
-    tie.close
-    (tie.spec Inv-loop μ-loop returns returns-2 (λ c. search needs) returns-3 returns-4 loop-holds (λ c. search needs)
+    tie.close (tie.spec Inv-loop μ-loop returns returns-2 (λ c. search needs) returns-3 returns-4 loop-holds (λ c. search needs)
     returns-5 returns-6 mul-x (λ c. search needs) add-x (λ c. search needs) (λ c. search needs) loop-again returns-7)

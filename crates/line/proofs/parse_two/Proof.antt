@@ -1,6 +1,5 @@
 -- `line::parse_two` meets its contract: both texts are numbers, or one is none.
-use borrow.Author.Needs.{needs}
-use Rattle.line.proofs.parse_two.Statement.{statement}
+use Rattle.words.proofs.Needs.{needs}
 use Rattle.line.proofs.parse_two.Tie as tie
 
 returns : tie.Need-returns
@@ -15,8 +14,7 @@ returns-3 c =
     let p = rw (a .k .given .1) at (a .before .before .parse-number .ensures) in
     let q = rw (c .before .n .given .1) at (c .before .before .before .parse-number2 .ensures) in (p .0, q .0, p .1, q .1)
 
-pub parse-two-spec : {M : Type 1} → statement M
+pub parse-two-spec : {M : Type 1} → Rattle.line.proofs.parse_two.Statement.statement M
 parse-two-spec =
-    tie.close
-    (tie.spec (λ c κs. search needs) (λ c. search needs) (λ c. search needs) (λ c κs. search needs) (λ c. search needs)
+    tie.close (tie.spec (λ c κs. search needs) (λ c. search needs) (λ c. search needs) (λ c κs. search needs) (λ c. search needs)
     (λ c. search needs) returns returns-2 returns-3)

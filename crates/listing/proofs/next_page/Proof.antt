@@ -1,9 +1,6 @@
 -- `listing::next_page` meets its contract.
-use native.Mathlib.Omega.{arith}
-use borrow.Author.Tests.{not-true, not-false}
-use borrow.Author.Needs.{needs}
+use Rattle.words.proofs.Needs.{needs, arith, not-true, not-false}
 use Rattle.listing.proofs.Making.{next-none, next-filled}
-use Rattle.listing.proofs.next_page.Statement.{statement}
 use Rattle.listing.proofs.next_page.Tie as tie
 
 returns : tie.Need-returns
@@ -17,12 +14,12 @@ fill-page-requires c κs = (rw (not-false (c .before .before .is-good .result) (
 
 returns-2 : tie.Need-returns-2
 returns-2 c =
-    let a = c .before .before .before .before .before .before .before .args in
+    let d = c .before .before .before .before .before .before in
+    let a = d .before .args in
     next-filled (a .s) (a .buf .now) _ _ (rw (not-false (c .before .before .before .before .before .is-good .result)
     (c .before .before .before .before .if1 .left)) at (c .before .before .before .before .before .is-good .ensures))
     (c .before .before .fill-page .ensures)
 
-pub next-page-spec : {M : Type 1} → statement M
+pub next-page-spec : {M : Type 1} → Rattle.listing.proofs.next_page.Statement.statement M
 next-page-spec =
-    tie.close
-    (tie.spec (λ c κs. search needs) (λ c κs. search needs) returns fill-page-requires (λ c. search needs) returns-2)
+    tie.close (tie.spec (λ c κs. search needs) (λ c κs. search needs) returns fill-page-requires (λ c. search needs) returns-2)

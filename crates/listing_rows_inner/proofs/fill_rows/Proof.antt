@@ -1,14 +1,8 @@
 -- `listing_rows_inner::fill_rows` meets its contract. The loop's invariant, `Along`: what is placed so far is the beginning of the page, and the rings and moves are counted
 -- right.
-use Prim.Native.Nat.{_-_}
-use mathlib.Core.Path.{_≡_, refl}
-use mathlib.Core.Bool.{true}
-use native.Mathlib.Omega.{arith}
-use lib.ListN.{length, take, drop, length-take}
-use borrow.Author.Needs.{needs}
+use Rattle.words.proofs.Needs.{needs, _-_, arith, _≡_, refl, true, length, take, drop, length-take}
 use Rattle.listing_rows_inner.proofs.Loop.{Along, along-start, along-fits, along-size, along-ready, along-rings, along-on}
 use Rattle.listing_rows_inner.proofs.Loop.{came, came-size, came-moves, line-room, line-further, stops, keeps-length, says-full, says-ended}
-use Rattle.listing_rows_inner.proofs.fill_rows.Statement.{statement}
 use Rattle.listing_rows_inner.proofs.fill_rows.Tie as tie
 
 abbrev Inv-loop : tie.InvT-loop
@@ -17,6 +11,12 @@ Inv-loop buf₀ from n k ring₀ rings₀ moves₀ at₀ more₀ buf ring rings 
 
 abbrev μ-loop : tie.MeasureT-loop
 μ-loop buf₀ from n k ring₀ rings₀ moves₀ at₀ more₀ buf ring rings moves at more = length buf - at
+
+abbrev start : tie.In-loop Inv-loop μ-loop → tie.Start Inv-loop μ-loop
+start c = c .before .before .before .before
+
+abbrev in-loop : tie.After-outcome Inv-loop μ-loop → tie.In-loop Inv-loop μ-loop
+in-loop c = c .before .before .before .before .before
 
 loop-holds : tie.Need-loop-holds Inv-loop μ-loop
 loop-holds c =
@@ -35,7 +35,8 @@ go-on-requires c κs = along-ready (c .before .before .loop .inv .0)
 
 array-share-prefix-ring : tie.Need-array-share-prefix-ring Inv-loop μ-loop
 array-share-prefix-ring c =
-    let a = c .before .before .before .before .before .before .before .before .loop .inv .0 in
+    let d = c .before .before .before .before .before .before in
+    let a = d .before .before .loop .inv .0 in
     let w = c .before .before .before .before .before .go-on in
     let o = c .before .before .outcome .given in
     let q = came a _ (o .0 .0) (w .result .period) (rw (o .1) at (w .ensures)) in
@@ -43,7 +44,8 @@ array-share-prefix-ring c =
 
 slice-aggregate-place-ring : tie.Need-slice-aggregate-place-ring Inv-loop μ-loop
 slice-aggregate-place-ring c =
-    let a = c .before .before .before .before .before .before .before .before .before .loop .inv .0 in
+    let d = c .before .before .before .before .before .before in
+    let a = d .before .before .before .loop .inv .0 in
     let w = c .before .before .before .before .before .before .go-on in
     let o = c .before .before .before .outcome .given in
     let q = came a _ (o .0 .0) (w .result .period) (rw (o .1) at (w .ensures)) in
@@ -52,38 +54,41 @@ slice-aggregate-place-ring c =
 -- there is room for the line of any two numbers; that it is the ring's own line is asked in `loop-again`
 place-ring-requires : tie.Need-place-ring-requires Inv-loop μ-loop
 place-ring-requires c κs =
-    let a = c .before .before .before .before .before .before .before .before .before .loop .inv .0 in
+    let d = c .before .before .before .before .before .before in
+    let a = d .before .before .before .loop .inv .0 in
     let w = c .before .before .before .before .before .before .go-on in
     let o = c .before .before .before .outcome .given in
     let q = came a _ (o .0 .0) (w .result .period) (rw (o .1) at (w .ensures)) in
-    let h = c .before .before .before .before .before .before .before .before .loop-test .taken in
+    let h = d .before .before .loop-test .taken in
     line-room _ _ _ _ _ (omega (arith, h)) (simp length-take (omega (arith, along-fits a))) (omega (arith, came-moves a _ (o .0 .0) (w .result .period) q)) (search needs)
 
 add-rings : tie.Need-add-rings Inv-loop μ-loop
-add-rings c = omega (arith, along-rings (c .before .before .before .before .before .before .before .before .before .before .before .before .loop .inv .0))
+add-rings c = omega (arith, along-rings (in-loop (c .before .before .before .before .before .before) .before .loop .inv .0))
 
 add-moves : tie.Need-add-moves Inv-loop μ-loop
 add-moves c =
-    let a = c .before .before .before .before .before .before .before .before .before .before .before .before .loop .inv .0 in
-    let w = c .before .before .before .before .before .before .before .before .before .go-on in
+    let d = c .before .before .before .before .before .before in
+    let a = d .before .before .before .before .before .before .loop .inv .0 in
+    let w = d .before .before .before .go-on in
     let o = c .before .before .before .before .before .before .outcome .given in
     let q = came a _ (o .0 .0) (w .result .period) (rw (o .1) at (w .ensures)) in
     omega (arith, came-moves a _ (o .0 .0) (w .result .period) q)
 
 loop-less : tie.Need-loop-less Inv-loop μ-loop
 loop-less c =
-    let h = c .before .before .before .before .before .before .before .before .before .before .before .loop-test .taken in
+    let h = in-loop (c .before .before .before .before .before .before) .loop-test .taken in
     omega (arith, h, line-further _ _ _ _ _ _ _ (c .before .before .place-ring .ensures))
 
 loop-again : tie.Need-loop-again Inv-loop μ-loop
 loop-again c =
-    let a = c .before .before .before .before .before .before .before .before .before .before .before .before .loop .inv .0 in
-    let w = c .before .before .before .before .before .before .before .before .before .go-on in
+    let d = c .before .before .before .before .before .before in
+    let a = d .before .before .before .before .before .before .loop .inv .0 in
+    let w = d .before .before .before .go-on in
     let o = c .before .before .before .before .before .before .outcome .given in
     let q = came a _ (o .0 .0) (w .result .period) (rw (o .1) at (w .ensures)) in
-    let h = c .before .before .before .before .before .before .before .before .before .before .before .loop-test .taken in
+    let h = d .before .before .before .before .before .loop-test .taken in
     let p = c .before .before .place-ring .ensures in
-    (along-on a _ (o .0 .0) (w .result .period) q _ _ (omega (arith, h)) p, c .before .before .before .before .before .before .before .before .before .before .before .before .loop .inv .1)
+    (along-on a _ (o .0 .0) (w .result .period) q _ _ (omega (arith, h)) p, d .before .before .before .before .before .before .loop .inv .1)
 
 same-length : tie.Need-same-length Inv-loop μ-loop
 same-length c =
@@ -99,21 +104,20 @@ returns c =
 
 same-length-2 : tie.Need-same-length-2 Inv-loop μ-loop
 same-length-2 c =
-    let g = c .before .before .before .before .before .before .before .before .args in
+    let g = start (c .before .before .before .before) .args in
     let l = c .before .before .before .before .before .loop in
     keeps-length (g .s) (g .buf .now) (g .from) (l .ring) (l .rings) (l .moves) (l .at) (l .buf) (l .inv .0)
 
 returns-2 : tie.Need-returns-2 Inv-loop μ-loop
 returns-2 c =
-    let g = c .before .before .before .before .before .before .before .before .args in
+    let g = start (c .before .before .before .before) .args in
     let l = c .before .before .before .before .before .loop in
     let w = c .before .before .go-on in
     let d = stops (l .inv .0) _ (w .result .outcome) (w .result .period) (c .match .keys2) (w .ensures) in
     says-ended (g .s) (g .buf .now) (g .from) (l .ring) (l .rings) (l .moves) (l .at) (l .buf) (l .inv .0) _ (d .1) _ refl (omega (arith, c .before .before .before .before .loop-test .taken)) (d .0)
 
-pub fill-rows-spec : {M : Type 1} → statement M
+pub fill-rows-spec : {M : Type 1} → Rattle.listing_rows_inner.proofs.fill_rows.Statement.statement M
 fill-rows-spec =
-    tie.close
-    (tie.spec Inv-loop μ-loop loop-holds (λ c. search needs) array-borrow-prefix-ring slice-aggregate-go-on
+    tie.close (tie.spec Inv-loop μ-loop loop-holds (λ c. search needs) array-borrow-prefix-ring slice-aggregate-go-on
     go-on-requires (λ c. search needs) array-share-prefix-ring slice-aggregate-place-ring place-ring-requires
     add-rings add-moves loop-less loop-again same-length returns same-length-2 returns-2)

@@ -1,7 +1,6 @@
 -- `listing_states_inner::is_ring` meets its contract.
-use borrow.Author.Needs.{needs}
+use Rattle.words.proofs.Needs.{needs}
 use Rattle.listing_states_inner.proofs.States.{ring-refused, ring-decided}
-use Rattle.listing_states_inner.proofs.is_ring.Statement.{statement}
 use Rattle.listing_states_inner.proofs.is_ring.Tie as tie
 
 enum-told : tie.Need-enum-told
@@ -16,7 +15,6 @@ returns-2 c =
     let p = rw (g .1) at (c .before .before .before .before .classify .ensures) in
     ring-decided (a .ring .now) (a .k) (g .0 .0) (c .is-necklace .result) (p .0) (p .1) (c .is-necklace .ensures)
 
-pub is-ring-spec : {M : Type 1} → statement M
+pub is-ring-spec : {M : Type 1} → Rattle.listing_states_inner.proofs.is_ring.Statement.statement M
 is-ring-spec =
-    tie.close
-    (tie.spec (λ c κs. search needs) enum-told (λ c. search needs) (λ c κs. search needs) returns returns-2)
+    tie.close (tie.spec (λ c κs. search needs) enum-told (λ c. search needs) (λ c κs. search needs) returns returns-2)

@@ -1,9 +1,7 @@
 -- `packing_bits_inner::byte_of` meets its contract.
-use mathlib.Core.Path.{refl}
-use native.Mathlib.Omega.{arith}
+use Rattle.words.proofs.Plain.{arith, refl}
 use Rattle.packing_spec.specs.Packing.{byteOf}
 use Rattle.packing_laws.proofs.Lengths.{few-bits}
-use Rattle.packing_bits_inner.proofs.byte_of.Statement.{statement}
 use Rattle.packing_bits_inner.proofs.byte_of.Tie as tie
 
 mul-result : tie.Need-mul-result
@@ -13,5 +11,5 @@ returns : tie.Need-returns
 unfolding byteOf
 returns c = refl
 
-pub byte-of-spec : {M : Type 1} → statement M
+pub byte-of-spec : {M : Type 1} → Rattle.packing_bits_inner.proofs.byte_of.Statement.statement M
 byte-of-spec = tie.close (tie.spec mul-result returns)

@@ -1,10 +1,8 @@
 -- `packing_bits_inner::lower` meets its contract. A shift of 1 is a power of 2.
-use native.Mathlib.Omega.{arith}
+use Rattle.words.proofs.Needs.{needs, arith}
 use native.Mathlib.Nat.{one-mul}
 use lib.Pow.{pow-pos}
-use borrow.Author.Needs.{needs}
 use Rattle.packing_bits_inner.proofs.Shifts.{shifted}
-use Rattle.packing_bits_inner.proofs.lower.Statement.{statement}
 use Rattle.packing_bits_inner.proofs.lower.Tie as tie
 
 rem-result : tie.Need-rem-result
@@ -13,5 +11,5 @@ rem-result c = rw (shifted 1 (c .args .held) (omega arith) (omega arith), one-mu
 returns : tie.Need-returns
 returns c = rw (shifted 1 (c .args .held) (omega arith) (omega arith), one-mul)
 
-pub lower-spec : {M : Type 1} → statement M
+pub lower-spec : {M : Type 1} → Rattle.packing_bits_inner.proofs.lower.Statement.statement M
 lower-spec = tie.close (tie.spec (λ c. search needs) rem-result returns)

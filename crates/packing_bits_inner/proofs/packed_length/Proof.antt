@@ -1,9 +1,7 @@
 -- `packing_bits_inner::packed_length` meets its contract.
-use mathlib.Core.Path.{refl}
-use native.Mathlib.Omega.{arith}
+use Rattle.words.proofs.Plain.{arith, refl}
 use Rattle.packing_spec.specs.Packing.{packedLength}
 use Rattle.packing_laws.proofs.Lengths.{few-bits}
-use Rattle.packing_bits_inner.proofs.packed_length.Statement.{statement}
 use Rattle.packing_bits_inner.proofs.packed_length.Tie as tie
 
 mul-result : tie.Need-mul-result
@@ -16,5 +14,5 @@ returns : tie.Need-returns
 unfolding packedLength
 returns c = refl
 
-pub packed-length-spec : {M : Type 1} → statement M
+pub packed-length-spec : {M : Type 1} → Rattle.packing_bits_inner.proofs.packed_length.Statement.statement M
 packed-length-spec = tie.close (tie.spec mul-result add-result returns)

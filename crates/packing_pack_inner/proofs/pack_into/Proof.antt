@@ -1,11 +1,7 @@
 -- `packing_pack_inner::pack_into` meets its contract. The loop's invariant: the written bytes and the held bits are the taken sectors as one number.
-use Prim.Native.Nat.{_-_}
-use mathlib.Core.Path.{sym, _∙_}
-use native.Mathlib.Omega.{arith}
-use lib.ListN.{length-set}
+use Rattle.words.proofs.Plain.{_-_, arith, sym, _∙_, length-set}
 use Rattle.packing_laws.proofs.Moving.{held-lt}
 use Rattle.packing_pack_inner.proofs.Packs.{Packs, packs-start, packs-on, packs-fits, packs-room, packs-given, packs-end, last-room, packs-last}
-use Rattle.packing_pack_inner.proofs.pack_into.Statement.{statement}
 use Rattle.packing_pack_inner.proofs.pack_into.Tie as tie
 
 abbrev Inv-loop : tie.InvT-loop
@@ -78,9 +74,8 @@ same-length-2 c = c .before .before .loop .inv .long ∙ sym (c .before .before 
 returns-2 : tie.Need-returns-2 Inv-loop μ-loop
 returns-2 c = packs-end _ _ _ _ _ _ _ (c .before .before .loop .inv) (omega arith) (omega arith)
 
-pub pack-into-spec : {M : Type 1} → statement M
+pub pack-into-spec : {M : Type 1} → Rattle.packing_pack_inner.proofs.pack_into.Statement.statement M
 pack-into-spec =
-    tie.close
-    (tie.spec Inv-loop μ-loop loop-holds shared-slice-read-appended appended-requires add-held add-i loop-less
+    tie.close (tie.spec Inv-loop μ-loop loop-holds shared-slice-read-appended appended-requires add-held add-i loop-less
     loop-again upper-requires slice-write-out lower-requires add-j loop-less-2 loop-again-2 highest-requires
     slice-write-out-2 same-length returns same-length-2 returns-2)

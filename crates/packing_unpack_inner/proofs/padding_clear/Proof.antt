@@ -1,10 +1,7 @@
 -- `packing_unpack_inner::padding_clear` meets its contract: the last byte alone has unused bits.
-use Prim.Native.Nat.{_-_}
-use native.Mathlib.Omega.{arith}
-use lib.ListN.{length}
+use Rattle.words.proofs.Plain.{_-_, arith, length}
 use Rattle.packing_laws.proofs.Lengths.{bits-bytes, spare-lt, packed-some, few-bits}
 use Rattle.packing_unpack_inner.proofs.Unpacks.{clear-is}
-use Rattle.packing_unpack_inner.proofs.padding_clear.Statement.{statement}
 use Rattle.packing_unpack_inner.proofs.padding_clear.Tie as tie
 
 mul-spare : tie.Need-mul-spare
@@ -42,7 +39,6 @@ returns : tie.Need-returns
 returns c =
     let a = c .before .before .before .args in clear-is (a .width) (a .n) (a .bytes .now) (c .before .before .before .pre .4) (c .lower .result) (c .lower .ensures)
 
-pub padding-clear-spec : {M : Type 1} → statement M
+pub padding-clear-spec : {M : Type 1} → Rattle.packing_unpack_inner.proofs.padding_clear.Statement.statement M
 padding-clear-spec =
-    tie.close
-    (tie.spec mul-spare mul-spare-2 sub-spare sub-lower shared-slice-read-lower cast-lower lower-requires returns)
+    tie.close (tie.spec mul-spare mul-spare-2 sub-spare sub-lower shared-slice-read-lower cast-lower lower-requires returns)

@@ -1,11 +1,7 @@
 -- `packing_unpack_inner::unpack_into` meets its contract. The loop's invariant: the written sectors and the held bits are the taken bytes as one number.
-use Prim.Native.Nat.{_+_, _-_}
-use mathlib.Core.Path.{refl}
-use native.Mathlib.Omega.{arith}
-use lib.ListN.{length}
+use Rattle.words.proofs.Plain.{_+_, _-_, arith, refl, length}
 use Rattle.packing_laws.proofs.Moving.{held-lt}
 use Rattle.packing_unpack_inner.proofs.Unpacks.{Unpacks, unpacks-start, unpacks-more, unpacks-taken, unpacks-fits, unpacks-given, unpacks-end}
-use Rattle.packing_unpack_inner.proofs.unpack_into.Statement.{statement}
 use Rattle.packing_unpack_inner.proofs.unpack_into.Tie as tie
 
 abbrev Inv-loop : tie.InvT-loop
@@ -61,8 +57,7 @@ same-length c = c .before .loop .inv .long
 returns : tie.Need-returns Inv-loop μ-loop
 returns c = unpacks-end _ _ _ _ _ _ _ _ (c .before .loop .inv) (omega arith)
 
-pub unpack-into-spec : {M : Type 1} → statement M
+pub unpack-into-spec : {M : Type 1} → Rattle.packing_unpack_inner.proofs.unpack_into.Statement.statement M
 unpack-into-spec =
-    tie.close
-    (tie.spec Inv-loop μ-loop loop-holds shared-slice-read-appended appended-requires add-held add-i loop-less
+    tie.close (tie.spec Inv-loop μ-loop loop-holds shared-slice-read-appended appended-requires add-held add-i loop-less
     loop-again upper-requires slice-write-out lower-requires add-j loop-less-2 loop-again-2 same-length returns)

@@ -1,12 +1,7 @@
 -- `picture_ring_inner::place_arcs` meets its contract. The invariant, `Drawing`: the first i sectors are drawn, and `before` is the last one's shade.
-use Prim.Native.Nat.{_-_, _≤_}
-use mathlib.Core.Path.{_≡_, refl, _∙_}
-use native.Mathlib.Omega.{arith}
-use lib.ListN.{length}
+use Rattle.words.proofs.Needs.{needs, _-_, _≤_, arith, _≡_, refl, _∙_, length}
 use Rattle.text_form_inner.proofs.Fits.{fits-length}
 use Rattle.picture_ring_inner.proofs.Drawing.{Drawing, drawing-none, drawing-room, drawing-on, drawing-end}
-use borrow.Author.Needs.{needs}
-use Rattle.picture_ring_inner.proofs.place_arcs.Statement.{statement}
 use Rattle.picture_ring_inner.proofs.place_arcs.Tie as tie
 
 abbrev Inv-loop : tie.InvT-loop
@@ -46,8 +41,7 @@ same-length c = c .before .loop .inv .2
 returns : tie.Need-returns Inv-loop μ-loop
 returns c = drawing-end _ _ _ _ _ _ _ _ _ _ (c .before .loop .inv .1) (c .loop-test .left) (omega (arith, c .before .loop .inv .0, c .before .before .before .before .pre .0 .2))
 
-pub place-arcs-spec : {M : Type 1} → statement M
+pub place-arcs-spec : {M : Type 1} → Rattle.picture_ring_inner.proofs.place_arcs.Statement.statement M
 place-arcs-spec =
-    tie.close
-    (tie.spec Inv-loop μ-loop loop-holds place-sector-requires (λ c. search needs) (λ c. search needs)
+    tie.close (tie.spec Inv-loop μ-loop loop-holds place-sector-requires (λ c. search needs) (λ c. search needs)
     (λ c. search needs) loop-again same-length returns)

@@ -1,13 +1,10 @@
 -- `picture_ring_inner::place_ring` meets its contract.
-use Prim.Native.Nat.{_≤_, _<_}
-use mathlib.Core.Path.{_≡_, sym, _∙_}
-use native.Mathlib.Omega.{arith}
-use lib.ListN.{length, length-take, length-drop, length-append}
-use lib.Seq.{take-at}
+use Rattle.words.proofs.Needs.{needs, _≤_, _<_, arith, _≡_, sym, _∙_, length, length-take, length-drop, length-append, take-at}
 use Rattle.picture_ring_inner.proofs.Drawing.{run-le, turned-long, turned-short, turned-from, turned-below, ring-fits}
-use borrow.Author.Needs.{needs}
-use Rattle.picture_ring_inner.proofs.place_ring.Statement.{statement}
 use Rattle.picture_ring_inner.proofs.place_ring.Tie as tie
+
+abbrev after-run-at : tie.After-turned2 → tie.After-run-at
+after-run-at c = c .before .before .before
 
 run-at-requires : tie.Need-run-at-requires
 run-at-requires c κs = c .before .before .pre .0 .2
@@ -25,12 +22,12 @@ write-turn-requires c κs = (run-le _ (c .before .before .before .before .args .
 
 array-share-prefix-turned : tie.Need-array-share-prefix-turned
 array-share-prefix-turned c =
-    let w = c .before .before .before .before .before .before .before .args .ring .now in
+    let w = after-run-at (c .before) .before .before .before .args .ring .now in
     let e = c .before .before .before .before .run-at .ensures in
     let t = c .before .before .write-turn .ensures in
     let l = run-le _ w 0 _ e in
     let v = turned-long w _ l _ t in
-    simp (length-append, length-drop) (omega (arith, v, c .before .before .before .before .before .before .before .pre .0 .3))
+    simp (length-append, length-drop) (omega (arith, v, after-run-at (c .before) .before .before .before .pre .0 .3))
 
 slice-aggregate-place-arcs : tie.Need-slice-aggregate-place-arcs
 slice-aggregate-place-arcs c =
@@ -39,27 +36,26 @@ slice-aggregate-place-arcs c =
 
 place-arcs-requires : tie.Need-place-arcs-requires
 place-arcs-requires c κs =
-    let w = c .before .before .before .before .before .before .before .before .args .ring .now in
+    let w = after-run-at (c .before .before) .before .before .before .args .ring .now in
     let e = c .before .before .before .before .before .run-at .ensures in
     let t = c .before .before .before .write-turn .ensures in
     let l = run-le _ w 0 _ e in
     let v = turned-long w _ l _ t in
-    let z = c .before .before .before .before .before .before .before .before .pre in (
+    let z = after-run-at (c .before .before) .before .before .before .pre in (
       (z .0 .0, z .0 .1, turned-short w _ l _ (take-at _ _ (length w) v ∙ t) (z .0 .3), turned-from w _ l _ (take-at _ _ (length w) v ∙ t)),
       (turned-below w _ l _ (take-at _ _ (length w) v ∙ t) _ (z .0 .2) (z .1 .0), z .1 .1),
     )
 
 returns : tie.Need-returns
 returns c =
-    let w = c .before .before .before .before .before .before .before .before .before .before .before .args .ring .now in
-    let e = c .before .before .before .before .before .before .before .before .run-at .ensures in
+    let w = after-run-at (c .before .before .before .before .before) .before .before .before .args .ring .now in
+    let e = after-run-at (c .before .before .before .before .before) .run-at .ensures in
     let t = c .before .before .before .before .before .before .write-turn .ensures in
     let l = run-le _ w 0 _ e in
     let v = turned-long w _ l _ t in
     ring-fits w _ e _ (take-at _ _ (length w) v ∙ t) _ _ _ _ _ _ (c .before .before .place-arcs .ensures)
 
-pub place-ring-spec : {M : Type 1} → statement M
+pub place-ring-spec : {M : Type 1} → Rattle.picture_ring_inner.proofs.place_ring.Statement.statement M
 place-ring-spec =
-    tie.close
-    (tie.spec run-at-requires array-borrow-prefix-turned slice-aggregate-write-turn write-turn-requires
+    tie.close (tie.spec run-at-requires array-borrow-prefix-turned slice-aggregate-write-turn write-turn-requires
     array-share-prefix-turned slice-aggregate-place-arcs place-arcs-requires (λ c. search needs) returns)

@@ -1,12 +1,7 @@
 -- `picture_ring_inner::run_at` meets its contract. The invariant: what is left of the run from place j on, and the sectors from i to j, are the run.
-use Prim.Native.Nat.{_+_, _-_, _≤_}
-use mathlib.Core.Path.{_≡_}
-use native.Mathlib.Omega.{arith}
-use lib.ListN.{length, drop}
+use Rattle.words.proofs.Needs.{needs, _+_, _-_, _≤_, arith, _≡_, length, drop}
 use Rattle.picture_spec.specs.Arcs.{reach}
 use Rattle.picture_ring_inner.proofs.Drawing.{run-on, run-out, run-cut}
-use borrow.Author.Needs.{needs}
-use Rattle.picture_ring_inner.proofs.run_at.Statement.{statement}
 use Rattle.picture_ring_inner.proofs.run_at.Tie as tie
 
 abbrev Inv-loop : tie.InvT-loop
@@ -35,8 +30,7 @@ loop-again c = (
 returns-2 : tie.Need-returns-2 Inv-loop μ-loop
 returns-2 c = run-out _ _ _ _ (c .loop-test .left) (c .before .loop .inv .2)
 
-pub run-at-spec : {M : Type 1} → statement M
+pub run-at-spec : {M : Type 1} → Rattle.picture_ring_inner.proofs.run_at.Statement.statement M
 run-at-spec =
-    tie.close
-    (tie.spec Inv-loop μ-loop (λ c. search needs) loop-holds (λ c. search needs) sub-result returns
+    tie.close (tie.spec Inv-loop μ-loop (λ c. search needs) loop-holds (λ c. search needs) sub-result returns
     (λ c. search needs) (λ c. search needs) loop-again (λ c. search needs) returns-2)

@@ -1,12 +1,6 @@
 -- `pictures::draw` meets its contract.
-use Prim.Native.Nat.{_+_, _≤_}
-use mathlib.Core.Path.{refl}
-use mathlib.Core.Logic.{inl, inr}
-use native.Mathlib.Omega.{arith}
-use Rattle.refusal.specs.Order.{Passed, Given}
-use Rattle.refusal.specs.Calls.{oneReading}
-use borrow.Author.Needs.{needs}
-use Rattle.pictures.proofs.draw.Statement.{statement}
+use Rattle.words.proofs.Needs.{needs, _+_, _≤_, arith, refl, inl, inr}
+use Rattle.refusal.specs.{Order.Passed, Order.Given, Calls.oneReading}
 use Rattle.pictures.proofs.draw.Tie as tie
 
 enum-told : tie.Need-enum-told
@@ -20,7 +14,8 @@ returns c =
 
 place-picture-requires : tie.Need-place-picture-requires
 place-picture-requires c κs =
-    let a = c .before .before .before .before .before .before .before .args in
+    let d = c .before .before .before .before .before .before in
+    let a = d .before .args in
     let p : Passed (oneReading (a .reading .now) (a .k)) = rw (c .before .before .enum-told .given .1) at (c .before .before .before .before .check-reading .ensures) in
     let n = p .0 .0 .0 .0 .0 .0 in
     let s = p .0 .0 .0 .0 .1 in
@@ -34,14 +29,14 @@ returns-2 c =
 
 returns-3 : tie.Need-returns-3
 returns-3 c =
-    let a = c .before .before .before .before .before .before .before .before .before .before .args in
+    let d = c .before .before .before .before .before .before in
+    let a = d .before .before .before .before .args in
     let p : Passed (oneReading (a .reading .now) (a .k)) = rw (c .before .before .before .before .before .enum-told .given .1) at
-    (c .before .before .before .before .before .before .before .check-reading .ensures) in
+    (d .before .check-reading .ensures) in
     let f = c .before .before .place-picture .ensures in
     ((p, c .before .before .before .before .if1 .left), f .placed, omega (arith, f .short, f .placed .next))
 
-pub draw-spec : {M : Type 1} → statement M
+pub draw-spec : {M : Type 1} → Rattle.pictures.proofs.draw.Statement.statement M
 draw-spec =
-    tie.close
-    (tie.spec (λ c κs. search needs) (λ c. search needs) enum-told returns place-picture-requires returns-2
+    tie.close (tie.spec (λ c κs. search needs) (λ c. search needs) enum-told returns place-picture-requires returns-2
     (λ c. search needs) returns-3)

@@ -1,14 +1,10 @@
 -- `program_ending_inner::place_ending` meets its contract: each text has room, and is the one of its case.
-use Prim.Native.Nat.{_<_, _^_}
-use native.Mathlib.Omega.{arith}
+use Rattle.words.proofs.Needs.{needs, _<_, _^_, arith}
 use Rattle.text_spec.specs.Ascii.{ascii}
-use Rattle.text_spec.proofs.Digits.{length-decimal}
-use Rattle.text_spec.proofs.Put.{length-two, placed-none}
+use Rattle.text_spec.proofs.{Digits.length-decimal, Put.length-two, Put.placed-none}
 use Rattle.program_ending_inner.specs.declared.Ending.the-variants.{Whole, Refused, Unread, Unwritten, TooLong, NoFile, Lost, Changed}
 use Rattle.program_ending_inner.specs.Text.{endingText}
 use Rattle.program_ending_inner.proofs.Unique.{said-as}
-use borrow.Author.Needs.{needs}
-use Rattle.program_ending_inner.proofs.place_ending.Statement.{statement}
 use Rattle.program_ending_inner.proofs.place_ending.Tie as tie
 
 enum-told : tie.Need-enum-told
@@ -16,8 +12,9 @@ enum-told c = search needs
 
 place-two-requires : tie.Need-place-two-requires
 place-two-requires c κs =
+    let d = c .before .before .before .before .before .before in
     let e = c .before .before .before .before .e in
-    let pre = c .before .before .before .before .before .before .before .pre in
+    let pre = d .before .pre in
     let g = e .given .0 in
     let x : g .0 < 10 ^ 20 = search needs in
     let y : g .1 .0 < 10 ^ 20 = search needs in
@@ -32,7 +29,8 @@ returns c = said-as _ Whole _ _ _ (c .enum-told .given .1) (omega arith) (placed
 returns-2 : tie.Need-returns-2
 unfolding endingText
 returns-2 c =
-    let e = c .before .before .before .before .before .before .before .e in
+    let d = c .before .before .before .before .before .before in
+    let e = d .before .e in
     let g = e .given .0 in
     let x : g .0 < 10 ^ 20 = search needs in
     let y : g .1 .0 < 10 ^ 20 = search needs in
@@ -63,10 +61,9 @@ returns-8 : tie.Need-returns-8
 unfolding endingText
 returns-8 c = said-as _ Changed _ _ _ (c .before .before .before .before .before .enum-told7 .given .1) (omega arith) (c .before .before .place-text6 .ensures)
 
-pub place-ending-spec : {M : Type 1} → statement M
+pub place-ending-spec : {M : Type 1} → Rattle.program_ending_inner.proofs.place_ending.Statement.statement M
 place-ending-spec =
-    tie.close
-    (tie.spec enum-told (λ c. search needs) (λ c. search needs) (λ c. search needs) place-two-requires
+    tie.close (tie.spec enum-told (λ c. search needs) (λ c. search needs) (λ c. search needs) place-two-requires
     (λ c. search needs) (λ c. search needs) (λ c κs. search needs) (λ c. search needs) (λ c. search needs)
     (λ c κs. search needs) (λ c. search needs) (λ c. search needs) (λ c κs. search needs) (λ c. search needs)
     (λ c. search needs) (λ c κs. search needs) (λ c. search needs) (λ c. search needs) (λ c κs. search needs)

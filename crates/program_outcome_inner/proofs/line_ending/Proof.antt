@@ -1,10 +1,7 @@
 -- `program_outcome_inner::line_ending` meets its contract.
-use mathlib.Core.Path.{refl}
+use Rattle.words.proofs.Needs.{needs, refl, not-true, not-false}
 use Rattle.program_outcome_inner.specs.Says.{lineEnding}
 use Rattle.program_outcome_inner.proofs.Outcomes.{outcome-by}
-use borrow.Author.Tests.{not-true, not-false}
-use borrow.Author.Needs.{needs}
-use Rattle.program_outcome_inner.proofs.line_ending.Statement.{statement}
 use Rattle.program_outcome_inner.proofs.line_ending.Tie as tie
 
 returns : tie.Need-returns
@@ -31,6 +28,6 @@ returns-4 c =
     let if1 = c .before .before .if1 in
     outcome-by lineEnding (args .wrote) _ (args .most) _ (not-false _ (if1 .left)) (c .enum-told3 .given .1)
 
-pub line-ending-spec : {M : Type 1} → statement M
+pub line-ending-spec : {M : Type 1} → Rattle.program_outcome_inner.proofs.line_ending.Statement.statement M
 line-ending-spec = tie.close (tie.spec returns enum-told (λ c. search needs) (λ c. search needs) returns-2 returns-3
     returns-4)

@@ -1,10 +1,7 @@
 -- `program_outcome_inner::stream_ending` meets its contract.
-use mathlib.Core.Path.{refl}
+use Rattle.words.proofs.Needs.{needs, refl, not-true, not-false}
 use Rattle.program_outcome_inner.specs.Says.{streamEnding}
 use Rattle.program_outcome_inner.proofs.Outcomes.{outcome-by}
-use borrow.Author.Tests.{not-true, not-false}
-use borrow.Author.Needs.{needs}
-use Rattle.program_outcome_inner.proofs.stream_ending.Statement.{statement}
 use Rattle.program_outcome_inner.proofs.stream_ending.Tie as tie
 
 returns : tie.Need-returns
@@ -31,6 +28,6 @@ returns-4 c =
     let if1 = c .before .before .if1 in
     outcome-by streamEnding (args .wrote) _ (args .got) _ (not-false _ (if1 .left)) (c .enum-told3 .given .1)
 
-pub stream-ending-spec : {M : Type 1} → statement M
+pub stream-ending-spec : {M : Type 1} → Rattle.program_outcome_inner.proofs.stream_ending.Statement.statement M
 stream-ending-spec = tie.close (tie.spec returns enum-told (λ c. search needs) (λ c. search needs) returns-2 returns-3
     returns-4)

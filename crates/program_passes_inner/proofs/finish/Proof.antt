@@ -1,8 +1,5 @@
 -- `program_passes_inner::finish` meets its contract: by what follows the block.
-use mathlib.Core.Path.{refl}
-use native.Mathlib.Omega.{arith}
-use borrow.Author.Needs.{needs}
-use Rattle.program_passes_inner.proofs.finish.Statement.{statement}
+use Rattle.words.proofs.Needs.{needs, arith, refl}
 use Rattle.program_passes_inner.proofs.finish.Tie as tie
 
 add-t7 : tie.Need-add-t7
@@ -19,7 +16,6 @@ returns-2 c = rw (c .before .enum-told2 .given .1) refl
 returns-3 : tie.Need-returns-3
 returns-3 c = rw (c .enum-told3 .given .1) refl
 
-pub finish-spec : {M : Type 1} → statement M
+pub finish-spec : {M : Type 1} → Rattle.program_passes_inner.proofs.finish.Statement.statement M
 finish-spec =
-    tie.close
-    (tie.spec (λ c. search needs) (λ c. search needs) add-t7 (λ c. search needs) returns returns-2 returns-3)
+    tie.close (tie.spec (λ c. search needs) (λ c. search needs) add-t7 (λ c. search needs) returns returns-2 returns-3)

@@ -1,10 +1,7 @@
 -- `program_reading_inner::told` meets its contract.
-use mathlib.Core.Path.{_≡_}
-use native.Mathlib.Omega.{arith}
+use Rattle.words.proofs.Needs.{needs, arith, _≡_}
 use mir.Facts.{toZ-ofZ}
 use Rattle.program_reading_inner.proofs.Telling.{told-failed, told-over, told-bytes}
-use borrow.Author.Needs.{needs}
-use Rattle.program_reading_inner.proofs.told.Statement.{statement}
 use Rattle.program_reading_inner.proofs.told.Tie as tie
 
 returns : tie.Need-returns
@@ -20,5 +17,5 @@ returns-3 c =
     let g = c .before .before .before .before in
     told-bytes (g .args .got) _ (toZ-ofZ (g .fits .got)) (c .before .before .if1 .left) _ (g .pre) _ (c .before .count .ensures .1) (c .if2 .left)
 
-pub told-spec : {M : Type 1} → statement M
+pub told-spec : {M : Type 1} → Rattle.program_reading_inner.proofs.told.Statement.statement M
 told-spec = tie.close (tie.spec returns (λ c κs. search needs) returns-2 returns-3)

@@ -1,7 +1,6 @@
 -- `record_behind_inner::check_bytes` meets its contract: what the check of the form of that kind answers.
 use Rattle.record_behind_inner.proofs.Heads.{front-checked}
-use borrow.Author.Needs.{needs}
-use Rattle.record_behind_inner.proofs.check_bytes.Statement.{statement}
+use Rattle.words.proofs.Needs.{needs}
 use Rattle.record_behind_inner.proofs.check_bytes.Tie as tie
 
 check-body-requires : tie.Need-check-body-requires
@@ -21,6 +20,6 @@ returns c =
 returns-2 : tie.Need-returns-2
 returns-2 c = rw (c .before .enum-told2 .given .1) (c .check-packed-body .ensures)
 
-pub check-bytes-spec : {M : Type 1} → statement M
+pub check-bytes-spec : {M : Type 1} → Rattle.record_behind_inner.proofs.check_bytes.Statement.statement M
 check-bytes-spec = tie.close (tie.spec (λ c. search needs) check-body-requires (λ c. search needs)
     check-packed-body-requires returns returns-2)

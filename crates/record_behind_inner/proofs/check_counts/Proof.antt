@@ -1,10 +1,6 @@
 -- `record_behind_inner::check_counts` meets its contract: what the check of n and k answers.
-use mathlib.Core.Path.{_∙_, sym, refl}
-use mathlib.Core.Logic.{inl, inr}
-use native.Mathlib.Omega.{arith}
+use Rattle.words.proofs.Needs.{needs, arith, _∙_, sym, refl, inl, inr}
 use Rattle.record_behind_inner.proofs.Heads.{bad-length, bad-shades}
-use borrow.Author.Needs.{needs}
-use Rattle.record_behind_inner.proofs.check_counts.Statement.{statement}
 use Rattle.record_behind_inner.proofs.check_counts.Tie as tie
 
 cast-n : tie.Need-cast-n
@@ -32,8 +28,7 @@ returns-2 c =
 returns-3 : tie.Need-returns-3
 returns-3 c = let g = rw (c .enum-told .given .1) at (c .before .before .check-numbers .ensures) in (g .0 .0 .0 .0 .0 .0, g .0 .0 .0 .0 .1)
 
-pub check-counts-spec : {M : Type 1} → statement M
+pub check-counts-spec : {M : Type 1} → Rattle.record_behind_inner.proofs.check_counts.Statement.statement M
 check-counts-spec =
-    tie.close
-    (tie.spec (λ c. search needs) cast-n (λ c. search needs) cast-k (λ c κs. search needs) (λ c. search needs)
+    tie.close (tie.spec (λ c. search needs) cast-n (λ c. search needs) cast-k (λ c κs. search needs) (λ c. search needs)
     (λ c κs. search needs) (λ c. search needs) returns (λ c. search needs) (λ c. search needs) returns-2 returns-3)

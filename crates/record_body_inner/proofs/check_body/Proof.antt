@@ -1,13 +1,8 @@
 -- `record_body_inner::check_body` meets its contract: what looking at the sectors tells, at their places.
-use Prim.Native.Nat.{ℕ, _+_}
-use mathlib.Core.Path.{ap, refl}
-use mathlib.Core.Logic.{inl, inr}
-use native.Mathlib.Omega.{arith}
+use Rattle.words.proofs.Needs.{needs, ℕ, _+_, arith, ap, refl, inl, inr}
 use Rattle.refusal.specs.declared.Refusal.the-variants.{NotHome}
 use Rattle.words.proofs.Split.{clash}
 use Rattle.record_body_inner.proofs.Bodies.{look-in}
-use borrow.Author.Needs.{needs}
-use Rattle.record_body_inner.proofs.check_body.Statement.{statement}
 use Rattle.record_body_inner.proofs.check_body.Tie as tie
 
 add-t9 : tie.Need-add-t9
@@ -29,8 +24,7 @@ returns-3 c =
     let a = c .before .before .before .before .before .args in let g = rw (c .before .i2 .given .1) at (c .before .before .before .look .ensures) in
     inr ((g .1, refl), (ap (λ (x : ℕ). NotHome (a .start + 4 + x)) (g .0), λ e. clash _ e (g .2)))
 
-pub check-body-spec : {M : Type 1} → statement M
+pub check-body-spec : {M : Type 1} → Rattle.record_body_inner.proofs.check_body.Statement.statement M
 check-body-spec =
-    tie.close
-    (tie.spec (λ c κs. search needs) (λ c. search needs) (λ c. search needs) (λ c. search needs) add-t9
+    tie.close (tie.spec (λ c κs. search needs) (λ c. search needs) (λ c. search needs) (λ c. search needs) add-t9
     (λ c. search needs) (λ c. search needs) add-t12 returns returns-2 returns-3)

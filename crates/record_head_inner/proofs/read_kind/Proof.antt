@@ -1,8 +1,6 @@
 -- `record_head_inner::read_kind` meets its contract: what the checks behind the mark answer, or the record.
-use mathlib.Core.Path.{refl}
+use Rattle.words.proofs.Needs.{needs, refl}
 use Rattle.record_spec.proofs.Forms.{behind-given}
-use borrow.Author.Needs.{needs}
-use Rattle.record_head_inner.proofs.read_kind.Statement.{statement}
 use Rattle.record_head_inner.proofs.read_kind.Tie as tie
 
 read-good-requires : tie.Need-read-good-requires
@@ -18,8 +16,7 @@ returns c =
       refl,
     )
 
-pub read-kind-spec : {M : Type 1} → statement M
+pub read-kind-spec : {M : Type 1} → Rattle.record_head_inner.proofs.read_kind.Statement.statement M
 read-kind-spec =
-    tie.close
-    (tie.spec (λ c κs. search needs) (λ c. search needs) (λ c. search needs) read-good-requires returns
+    tie.close (tie.spec (λ c κs. search needs) (λ c. search needs) (λ c. search needs) read-good-requires returns
     (λ c. search needs) (λ c. search needs))

@@ -1,17 +1,13 @@
 -- `record_packed_body_inner::check_packed_body` meets its contract: the sectors that the bytes hold stand at the front of the array, and are checked.
-use Prim.Native.Nat.{ℕ}
-use mathlib.Core.Path.{sym, ap, _∙_, subst}
-use mathlib.Core.List.{List}
-use native.Mathlib.Omega.{arith}
-use lib.ListN.{length, length-append, length-take, length-drop}
-use lib.Seq.{take-at}
+use Rattle.words.proofs.Needs.{needs, ℕ, arith, sym, ap, _∙_, subst, List, length, length-append, length-take, length-drop, take-at}
 use Rattle.packing_laws.proofs.Packing.{length-unpacked}
 use Rattle.record_spec.specs.declared.Kind.the-variants.{Packed}
 use Rattle.record_body_inner.specs.Steps.{BodySays}
 use Rattle.record_packed_body_inner.proofs.Bodies.{unpack-asks, unpacked-held, check-asks}
-use borrow.Author.Needs.{needs}
-use Rattle.record_packed_body_inner.proofs.check_packed_body.Statement.{statement}
 use Rattle.record_packed_body_inner.proofs.check_packed_body.Tie as tie
+
+abbrev start : tie.After-sectors3 → tie.Start
+start c = c .before .before .before .before .before .before
 
 array-borrow-prefix-sectors : tie.Need-array-borrow-prefix-sectors
 array-borrow-prefix-sectors c = search needs
@@ -43,12 +39,11 @@ check-unpacked-requires c κs =
 
 returns : tie.Need-returns
 returns c =
-    let a = c .before .before .before .before .before .before .before .args in
+    let a = start (c .before) .args in
     subst (λ (m : ℕ). BodySays Packed m (a .k) (a .bytes .now) (a .start) (c .check-unpacked .result))
     (sym (slice-aggregate-check-unpacked (c .before))) (c .check-unpacked .ensures)
 
-pub check-packed-body-spec : {M : Type 1} → statement M
+pub check-packed-body-spec : {M : Type 1} → Rattle.record_packed_body_inner.proofs.check_packed_body.Statement.statement M
 check-packed-body-spec =
-    tie.close
-    (tie.spec (λ c κs. search needs) array-borrow-prefix-sectors slice-aggregate-unpack-into unpack-into-requires
+    tie.close (tie.spec (λ c κs. search needs) array-borrow-prefix-sectors slice-aggregate-unpack-into unpack-into-requires
     array-share-prefix-sectors slice-aggregate-check-unpacked check-unpacked-requires returns)

@@ -1,9 +1,7 @@
 -- `record_packed_body_inner::check_unpacked` meets its contract: what looking at the sectors tells, and whether the unused bits are 0, at the places of their bytes.
-use native.Mathlib.Omega.{arith}
+use Rattle.words.proofs.Needs.{needs, arith}
 use Rattle.record_body_inner.proofs.Bodies.{look-in}
 use Rattle.record_packed_body_inner.proofs.Bodies.{Holding, pad-asks, byte-asks, byte-there, byte-in, is-good, bad-shade, bit-set, not-home}
-use borrow.Author.Needs.{needs}
-use Rattle.record_packed_body_inner.proofs.check_unpacked.Statement.{statement}
 use Rattle.record_packed_body_inner.proofs.check_unpacked.Tie as tie
 
 -- what the bytes hold, once their width is known
@@ -42,14 +40,16 @@ byte-of-requires-2 c κs =
 
 add-t24 : tie.Need-add-t24
 add-t24 c =
-    let x = holding (c .before .before .before .before .before .before .before) in
+    let d = c .before .before .before .before .before .before in
+    let x = holding (d .before) in
     let g = rw (c .before .before .before .j .given .1) at (c .before .before .before .before .before .look .ensures) in
     omega (arith, x .room, byte-in x _ (look-in _ _ (x .sized) (g .0)) (c .byte-of2 .ensures))
 
 returns-2 : tie.Need-returns-2
 returns-2 c =
+    let d = c .before .before .before .before .before .before in
     let g = rw (c .before .before .before .j .given .1) at (c .before .before .before .before .before .look .ensures) in
-    not-home (holding (c .before .before .before .before .before .before .before)) (g .1) (c .before .before .before .before .before .before .padding-clear .ensures)
+    not-home (holding (d .before)) (g .1) (c .before .before .before .before .before .before .padding-clear .ensures)
     (c .byte-of2 .ensures) (g .0) (g .2) (c .before .if2 .taken)
 
 returns-3 : tie.Need-returns-3
@@ -65,10 +65,9 @@ returns-5 c =
     let g = rw (c .before .before .j .given .1) at (c .before .before .before .before .look .ensures) in
     bit-set (holding (c .before .before .before .before .before .before)) (g .1) (c .before .before .before .before .before .padding-clear .ensures) (c .if2 .left)
 
-pub check-unpacked-spec : {M : Type 1} → statement M
+pub check-unpacked-spec : {M : Type 1} → Rattle.record_packed_body_inner.proofs.check_unpacked.Statement.statement M
 check-unpacked-spec =
-    tie.close
-    (tie.spec (λ c κs. search needs) padding-clear-requires (λ c. search needs) sub-last (λ c. search needs)
+    tie.close (tie.spec (λ c κs. search needs) padding-clear-requires (λ c. search needs) sub-last (λ c. search needs)
     (λ c κs. search needs) (λ c. search needs) (λ c. search needs) byte-of-requires add-t17 (λ c. search needs)
     returns (λ c. search needs) (λ c. search needs) byte-of-requires-2 add-t24 returns-2 returns-3 returns-4
     returns-5)

@@ -1,15 +1,12 @@
 -- `record_ring_inner::read_good` meets its contract: the ring is shown at the front of the output.
-use Prim.Native.Nat.{ℕ}
-use mathlib.Core.Path.{refl, sym, ap}
-use mathlib.Core.List.{List, _++_}
-use native.Mathlib.Omega.{arith}
-use lib.ListN.{drop, length-take}
+use Rattle.words.proofs.Needs.{needs, ℕ, arith, refl, sym, ap, List, _++_, drop, length-take}
 use Rattle.record_spec.specs.Layout.{nOf}
 use Rattle.record_behind_inner.proofs.Heads.{few}
 use Rattle.record_ring_inner.proofs.Showing.{whole, follows, show-asks, shown-ring}
-use borrow.Author.Needs.{needs}
-use Rattle.record_ring_inner.proofs.read_good.Statement.{statement}
 use Rattle.record_ring_inner.proofs.read_good.Tie as tie
+
+abbrev start : tie.After-body-length → tie.Start
+start c = c .before .before .before .before .before
 
 body-length-requires : tie.Need-body-length-requires
 body-length-requires c κs = c .before .before .before .before .pre .2 .0 .0
@@ -28,12 +25,12 @@ slice-aggregate-show c = let h = slice-relend-prefix-show (c .before) in simp le
 
 show-requires : tie.Need-show-requires
 show-requires c κs =
-    let e = c .before .before .before .before .before .before .before in
+    let e = start (c .before .before) in
     show-asks (e .args .kind) (e .args .rest .now) (e .args .start) _ (e .pre .2 .0) (c .before .before .body-length .ensures) _ _ refl (sym (slice-aggregate-show c))
 
 add-t11 : tie.Need-add-t11
 add-t11 c =
-    let e = c .before .before .before .before .before .before .before .before .before .before in
+    let e = start (c .before .before .before .before .before) in
     omega (
       arith,
       e .pre .0,
@@ -43,7 +40,7 @@ add-t11 c =
 
 returns : tie.Need-returns
 returns c =
-    let e = c .before .before .before .before .before .before .before .before .before .before in
+    let e = start (c .before .before .before .before .before) in
     let t = e .args .rest .now in
     let told = c .before .before .before .before .before .body-length .ensures in
     let ring = shown-ring (e .args .kind) (e .args .rest .now) (e .args .start) _ (e .pre .2 .0) told _ _ refl
@@ -57,9 +54,8 @@ returns c =
       ring = ap (λ (v : List ℕ). v ++ drop (nOf t) (e .args .out .now)) ring;
     }
 
-pub read-good-spec : {M : Type 1} → statement M
+pub read-good-spec : {M : Type 1} → Rattle.record_ring_inner.proofs.read_good.Statement.statement M
 read-good-spec =
-    tie.close
-    (tie.spec (λ c. search needs) (λ c. search needs) (λ c. search needs) (λ c. search needs) body-length-requires
+    tie.close (tie.spec (λ c. search needs) (λ c. search needs) (λ c. search needs) (λ c. search needs) body-length-requires
     add-e (λ c. search needs) (λ c. search needs) part-show-end slice-relend-prefix-show slice-aggregate-show
     show-requires add-t11 (λ c. search needs) returns)

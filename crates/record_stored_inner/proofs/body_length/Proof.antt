@@ -1,9 +1,7 @@
 -- `record_stored_inner::body_length` meets its contract: n, or the packed length.
-use native.Mathlib.Omega.{arith}
+use Rattle.words.proofs.Needs.{needs, arith}
 use Rattle.packing_laws.proofs.Width.{narrow}
 use Rattle.record_stored_inner.proofs.Stored.{length-told}
-use borrow.Author.Needs.{needs}
-use Rattle.record_stored_inner.proofs.body_length.Statement.{statement}
 use Rattle.record_stored_inner.proofs.body_length.Tie as tie
 
 packed-length-requires : tie.Need-packed-length-requires
@@ -12,8 +10,7 @@ packed-length-requires c κs = let e = c .before .before .before in (omega (arit
 returns-2 : tie.Need-returns-2
 returns-2 c = let a = c .before .before .before .before .args in rw (c .before .before .enum-told2 .given .1) (length-told (a .n) (a .k) _ _ (c .before .width-of .ensures) (c .packed-length .ensures))
 
-pub body-length-spec : {M : Type 1} → statement M
+pub body-length-spec : {M : Type 1} → Rattle.record_stored_inner.proofs.body_length.Statement.statement M
 body-length-spec =
-    tie.close
-    (tie.spec (λ c. search needs) (λ c. search needs) (λ c κs. search needs) packed-length-requires
+    tie.close (tie.spec (λ c. search needs) (λ c. search needs) (λ c κs. search needs) packed-length-requires
     (λ c. search needs) returns-2)

@@ -1,13 +1,9 @@
 -- `report::finish` meets its contract.
-use mathlib.Core.Path.{_≡_, refl}
-use native.Mathlib.Omega.{arith}
-use lib.ListN.{length, length-take}
+use Rattle.words.proofs.Needs.{needs, arith, _≡_, refl, length, length-take}
 use Rattle.report_spec.specs.Blocks.{small}
 use Rattle.stream_kind_inner.specs.Says.{Said}
 use Rattle.stream_blocks_inner.proofs.Smaller.{smaller-right}
 use Rattle.report.proofs.Making.{end-says}
-use borrow.Author.Needs.{needs}
-use Rattle.report.proofs.finish.Statement.{statement}
 use Rattle.report.proofs.finish.Tie as tie
 
 returns : tie.Need-returns
@@ -29,14 +25,15 @@ place-last-requires c κs = c .before .before .before .before .if1 .left
 returns-2 : tie.Need-returns-2
 unfolding Said
 returns-2 c =
-    let args = c .before .before .before .before .before .before .before .before .before .args in
-    let if1 = c .before .before .before .before .before .before .before .if1 in
+    let d = c .before .before .before .before .before .before in
+    let args = d .before .before .before .args in
+    let if1 = d .before .if1 in
     let smaller-of = c .before .before .before .before .before .smaller-of in
     let place-last = c .before .before .place-last in
     let a = args in
     let l : length (args .p .line) ≡ 9 = search needs in
     end-says (a .p) (a .buf .now) l (if1 .left) _ (smaller-of .ensures) _ _ (place-last .ensures)
 
-pub finish-spec : {M : Type 1} → statement M
+pub finish-spec : {M : Type 1} → Rattle.report.proofs.finish.Statement.statement M
 finish-spec = tie.close (tie.spec returns (λ c κs. search needs) array-share-prefix-line slice-aggregate-place-last
     place-last-requires (λ c. search needs) returns-2)

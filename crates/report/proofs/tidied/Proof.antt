@@ -1,11 +1,6 @@
 -- `report::tidied` meets its contract. The loop's invariant: i bytes are copied, and those behind them are 0.
-use Prim.Native.Nat.{_-_, _<_, _≤_}
-use mathlib.Core.Path.{_≡_, refl}
-use native.Mathlib.Omega.{arith}
-use lib.ListN.{length, length-set}
+use Rattle.words.proofs.Needs.{needs, _-_, _<_, _≤_, arith, _≡_, refl, length, length-set}
 use Rattle.report.proofs.Making.{Copied, tidied-none, tidied-on, tidied-is}
-use borrow.Author.Needs.{needs}
-use Rattle.report.proofs.tidied.Statement.{statement}
 use Rattle.report.proofs.tidied.Tie as tie
 
 abbrev Inv-loop : tie.InvT-loop
@@ -45,6 +40,6 @@ returns c =
     let e : l .i ≡ a .len = omega (arith, l .inv .0, c .loop-test .left) in
     tidied-is (a .bytes .now) (a .len) (l .line) (c .before .before .pre .0) (c .before .before .pre .1) (rw e at (l .inv .2))
 
-pub tidied-spec : {M : Type 1} → statement M
+pub tidied-spec : {M : Type 1} → Rattle.report.proofs.tidied.Statement.statement M
 tidied-spec = tie.close (tie.spec Inv-loop μ-loop loop-holds shared-slice-read-line array-write-line add-i
     (λ c. search needs) loop-again returns)

@@ -1,10 +1,8 @@
 -- `report_answers_inner::place_counts` meets its contract: each piece stands behind the one before it, and there is room for all.
-use native.Mathlib.Omega.{arith}
+use Rattle.words.proofs.Needs.{needs, arith}
 use Rattle.text_spec.proofs.Put.{placed-length, placed-append}
 use Rattle.report_spec.specs.Lines.{countsLine}
 use Rattle.report_answers_inner.proofs.Placing.{length-counts}
-use borrow.Author.Needs.{needs}
-use Rattle.report_answers_inner.proofs.place_counts.Statement.{statement}
 use Rattle.report_answers_inner.proofs.place_counts.Tie as tie
 
 place-decimal-requires : tie.Need-place-decimal-requires
@@ -54,8 +52,7 @@ returns c =
     let t3 = placed-append _ _ _ _ _ _ _ _ (placed-append _ _ _ _ _ _ _ _ (s1 .place-decimal .ensures) (s2 .place-text .ensures)) (s3 .place-decimal2 .ensures) in
     placed-append _ _ _ _ _ _ _ _ t3 (s4 .place-text2 .ensures)
 
-pub place-counts-spec : {M : Type 1} → statement M
+pub place-counts-spec : {M : Type 1} → Rattle.report_answers_inner.proofs.place_counts.Statement.statement M
 place-counts-spec =
-    tie.close
-    (tie.spec place-decimal-requires (λ c. search needs) place-text-requires place-decimal-requires-2
+    tie.close (tie.spec place-decimal-requires (λ c. search needs) place-text-requires place-decimal-requires-2
     (λ c. search needs) place-text-requires-2 same-length returns)

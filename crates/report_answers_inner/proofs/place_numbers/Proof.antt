@@ -1,11 +1,7 @@
 -- `report_answers_inner::place_numbers` meets its contract.
-use Prim.Native.Nat.{ℕ}
-use mathlib.Core.Path.{_≡_}
-use native.Mathlib.Omega.{arith}
+use Rattle.words.proofs.Needs.{needs, ℕ, arith, _≡_}
 use Rattle.text_spec.proofs.Put.{placed-length}
 use Rattle.report_laws.proofs.Room.{counts-short}
-use borrow.Author.Needs.{needs}
-use Rattle.report_answers_inner.proofs.place_numbers.Statement.{statement}
 use Rattle.report_answers_inner.proofs.place_numbers.Tie as tie
 
 place-counts-requires : tie.Need-place-counts-requires
@@ -20,6 +16,6 @@ same-length c = placed-length _ _ _ _ _ (c .before .before .place-counts .ensure
 returns : tie.Need-returns
 returns c = rw (c .before .before .before .before .before .necklaces-of .ensures, c .before .before .before .before .lyndon-of .ensures) at (c .before .before .place-counts .ensures)
 
-pub place-numbers-spec : {M : Type 1} → statement M
+pub place-numbers-spec : {M : Type 1} → Rattle.report_answers_inner.proofs.place_numbers.Statement.statement M
 place-numbers-spec = tie.close (tie.spec (λ c κs. search needs) (λ c κs. search needs) place-counts-requires
     same-length returns)

@@ -1,10 +1,6 @@
 -- `set_checks_inner::check_set` meets its contract.
-use mathlib.Core.Path.{refl}
-use mathlib.Core.Logic.{inl, inr}
+use Rattle.words.proofs.Needs.{needs, arith, refl, inl, inr}
 use Rattle.set_checks_inner.proofs.Checks.{distance-says}
-use native.Mathlib.Omega.{arith}
-use borrow.Author.Needs.{needs}
-use Rattle.set_checks_inner.proofs.check_set.Statement.{statement}
 use Rattle.set_checks_inner.proofs.check_set.Tie as tie
 
 returns : tie.Need-returns
@@ -23,7 +19,6 @@ returns-3 c =
     (omega (arith, c .before .before .before .before .if1 .left)) (rw (g .1) at (c .before .before .before .plan-numbers .ensures))
     (c .check-distance .ensures)
 
-pub check-set-spec : {M : Type 1} → statement M
+pub check-set-spec : {M : Type 1} → Rattle.set_checks_inner.proofs.check_set.Statement.statement M
 check-set-spec =
-    tie.close
-    (tie.spec returns (λ c κs. search needs) (λ c. search needs) enum-told (λ c κs. search needs) returns-2 returns-3)
+    tie.close (tie.spec returns (λ c κs. search needs) (λ c. search needs) enum-told (λ c κs. search needs) returns-2 returns-3)

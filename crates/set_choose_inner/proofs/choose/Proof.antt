@@ -1,15 +1,9 @@
 -- `set_choose_inner::choose` meets its contract. Its loop is that of Along: the choice from the Lyndon words above the ring that the walk has come to, from those
 -- taken on, is the set; each turn leaves fewer readings above.
-use mathlib.Core.Path.{sym}
-use native.Mathlib.Omega.{arith}
-use lib.ListN.{length-take}
-use lib.Seq.{length-take-le}
-use Rattle.words.specs.Order.{before}
-use Rattle.words.specs.Readings.{readings, count}
+use Rattle.words.proofs.Needs.{needs, arith, sym, length-take, length-take-le}
+use Rattle.words.specs.{Order.before, Readings.readings, Readings.count}
 use Rattle.walk_spec.specs.Record.{ringOf}
 use Rattle.set_choose_inner.proofs.Along.{Along, zeros-part, taken-few, started, along-start, along-ended, Turned, turned, along-full}
-use borrow.Author.Needs.{needs}
-use Rattle.set_choose_inner.proofs.choose.Statement.{statement}
 use Rattle.set_choose_inner.proofs.choose.Tie as tie
 
 abbrev Inv-loop : tie.InvT-loop
@@ -17,6 +11,12 @@ Inv-loop rule n k d wanted w₀ places₀ tallies₀ taken₀ w places tallies t
 
 abbrev μ-loop : tie.MeasureT-loop
 μ-loop rule n k d wanted w₀ places₀ tallies₀ taken₀ w places tallies taken = count (before (ringOf w)) (readings n k)
+
+abbrev start : tie.In-loop Inv-loop μ-loop → tie.Start Inv-loop μ-loop
+start c = c .before .before .before .before .before .before
+
+abbrev after-w2 : tie.After-counts2 Inv-loop μ-loop → tie.After-w2 Inv-loop μ-loop
+after-w2 c = c .before .before .before .before .before .before
 
 array-share-prefix-zeros : tie.Need-array-share-prefix-zeros Inv-loop μ-loop
 array-share-prefix-zeros c = omega (arith, c .pre .short)
@@ -41,16 +41,16 @@ enum-told c = search needs
 returns : tie.Need-returns Inv-loop μ-loop
 returns c =
     let r = c .before .next-word in
-    along-ended (c .before .before .before .before .before .before .before .before .pre) (c .before .before .before .loop .inv) (r .result .walk) (r .result .outcome) (c .match .keys2) (r .ensures)
+    along-ended (start (c .before .before) .pre) (c .before .before .before .loop .inv) (r .result .walk) (r .result .outcome) (c .match .keys2) (r .ensures)
     (omega (arith, c .before .before .loop-test .taken))
 
 -- behind a step that moved
 moved : (c : tie.After-enum-told Inv-loop μ-loop) →
-    let a = c .before .before .before .before .before .before .before .before .before .args in
+    let a = start (c .before .before .before) .args in
     let l = c .before .before .before .before .loop in
     Turned (a .rule) (a .n) (a .k) (a .d) (a .wanted) (l .w) (l .places) (l .tallies) (l .taken) (c .before .before .next-word .result .walk)
 moved c =
-    turned (c .before .before .before .before .before .before .before .before .before .pre) (c .before .before .before .before .loop .inv) (omega (arith, c .before .before .before .loop-test .taken))
+    turned (start (c .before .before .before) .pre) (c .before .before .before .before .loop .inv) (omega (arith, c .before .before .before .loop-test .taken))
     (rw (c .enum-told .given .1) at (c .before .before .next-word .ensures))
 
 slice-aggregate-offer : tie.Need-slice-aggregate-offer Inv-loop μ-loop
@@ -66,18 +66,18 @@ slice-aggregate-offer-3 : tie.Need-slice-aggregate-offer-3 Inv-loop μ-loop
 slice-aggregate-offer-3 c = sym (length-take-le _ _ (moved (c .before .before .before .before .before .before) .size))
 
 offer-requires : tie.Need-offer-requires Inv-loop μ-loop
-offer-requires c κs = moved (c .before .before .before .before .before .before .before) .asked
+offer-requires c κs = moved (after-w2 c .before) .asked
 
 loop-less : tie.Need-loop-less Inv-loop μ-loop
-loop-less c = moved (c .before .before .before .before .before .before .before .before .before .before) .less
+loop-less c = moved (after-w2 (c .before .before .before) .before) .less
 
 loop-again : tie.Need-loop-again Inv-loop μ-loop
-loop-again c = moved (c .before .before .before .before .before .before .before .before .before .before) .on _ _ _ (c .before .before .offer .ensures)
+loop-again c = moved (after-w2 (c .before .before .before) .before) .on _ _ _ (c .before .before .offer .ensures)
 
 returns-2 : tie.Need-returns-2 Inv-loop μ-loop
 returns-2 c = along-full (c .before .before .before .before .before .before .pre) (c .before .loop .inv) (omega (arith, c .loop-test .left))
 
-pub choose-spec : {M : Type 1} → statement M
+pub choose-spec : {M : Type 1} → Rattle.set_choose_inner.proofs.choose.Statement.statement M
 choose-spec =
     tie.close (tie.spec Inv-loop μ-loop array-share-prefix-zeros slice-aggregate-start (λ c κs. search needs)
     (λ c κs. search needs) cast-tallies (λ c. search needs) loop-holds (λ c κs. search needs) enum-told returns

@@ -1,10 +1,6 @@
 -- `set_layout_inner::write_rings` meets its contract. The loop's invariant: the first j rings stand at the beginning of the output.
-use Prim.Native.Nat.{_-_}
-use mathlib.Core.Path.{sym, _∙_}
-use native.Mathlib.Omega.{arith}
+use Rattle.words.proofs.Needs.{needs, _-_, arith, sym, _∙_}
 use Rattle.set_layout_inner.proofs.Laying.{ring-room, Laid, Turn, laid-start, laid-on, laid-all}
-use borrow.Author.Needs.{needs}
-use Rattle.set_layout_inner.proofs.write_rings.Statement.{statement}
 use Rattle.set_layout_inner.proofs.write_rings.Tie as tie
 
 abbrev Inv-loop : tie.InvT-loop
@@ -63,7 +59,7 @@ same-length c = c .before .loop .inv .long ∙ sym (c .before .before .before .b
 returns : tie.Need-returns Inv-loop μ-loop
 returns c = laid-all (c .before .loop .inv) (omega (arith, c .loop-test .left))
 
-pub write-rings-spec : {M : Type 1} → statement M
+pub write-rings-spec : {M : Type 1} → Rattle.set_layout_inner.proofs.write_rings.Statement.statement M
 write-rings-spec =
     tie.close (tie.spec Inv-loop μ-loop loop-holds mul-from add-past mul-at add-end (λ c. search needs) (λ c. search needs)
     part-copy-end (λ c. search needs) (λ c. search needs) part-copy-end-2 (λ c κs. search needs) add-j loop-less

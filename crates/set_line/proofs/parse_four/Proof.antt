@@ -1,11 +1,6 @@
 -- `set_line::parse_four` meets its contract: two numbers stand before the second space, two behind it.
-use Prim.Native.Nat.{_+_}
-use mathlib.Core.Path.{_∙_, sym}
-use native.Mathlib.Omega.{arith}
+use Rattle.words.proofs.Needs.{needs, _+_, arith, _∙_, sym, length-take}
 use Rattle.set_line_spec.proofs.Four.{rest-all, four-at, four-join}
-use lib.ListN.{length-take}
-use borrow.Author.Needs.{needs}
-use Rattle.set_line.proofs.parse_four.Statement.{statement}
 use Rattle.set_line.proofs.parse_four.Tie as tie
 
 returns : tie.Need-returns
@@ -21,24 +16,26 @@ enum-told c = search needs
 
 returns-2 : tie.Need-returns-2
 returns-2 c =
-    λ n k d want short e. let f = four-at (c .before .before .before .before .before .before .before .args .s .now)
+    let g = c .before .before .before .before .before .before in
+    λ n k d want short e. let f = four-at (g .before .args .s .now)
     (c .before .before .before .before .before .second-space .result) n k d want (c .before .before .before .before .before .second-space .ensures) e
     in (rw (c .enum-told .given .1) at (c .before .before .parse-fields .ensures)) n k (short .n-short) (short .k-short) (f .1)
 
 returns-3 : tie.Need-returns-3
 returns-3 c =
-    λ n k d want short e. let f = four-at
-    (c .before .before .before .before .before .before .before .before .before .before .before .before .args .s .now)
-    (c .before .before .before .before .before .before .before .before .before .before .second-space .result) n k d want
-    (c .before .before .before .before .before .before .before .before .before .before .second-space .ensures) e in
+    let g = c .before .before .before .before .before .before in
+    λ n k d want short e. let f = four-at (g .before .before .before .before .before .before .args .s .now)
+    (g .before .before .before .before .second-space .result) n k d want
+    (g .before .before .before .before .second-space .ensures) e in
     (rw (c .enum-told2 .given .1) at (c .before .before .parse-fields2 .ensures)) d want (short .d-short) (short .want-short)
-    (rest-all (c .before .before .before .before .before .before .before .before .before .before .before .before .args .s .now)
-    (c .before .before .before .before .before .before .before .before .before .before .second-space .result + 1) ∙ f .2)
+    (rest-all (g .before .before .before .before .before .before .args .s .now)
+    (g .before .before .before .before .second-space .result + 1) ∙ f .2)
 
 returns-4 : tie.Need-returns-4
 returns-4 c =
-    let p = rw (c .before .before .before .before .before .before .n .given .1) at
-    (c .before .before .before .before .before .before .before .before .parse-fields .ensures) in
+    let e = c .before .before .before .before .before .before in
+    let f = e .before .before .before .before .before .before in
+    let p = rw (c .before .before .before .before .before .before .n .given .1) at (e .before .before .parse-fields .ensures) in
     let q = rw (c .before .d .given .1) at (c .before .before .before .parse-fields2 .ensures) in (
       record {
         n-short = omega (arith, p .0, p .1);
@@ -48,17 +45,13 @@ returns-4 c =
             (arith, q .0, q .1);
       },
       four-join
-          (c .before .before .before .before .before .before .before .before .before .before .before .before .before .args .s .now)
-          (c .before .before .before .before .before .before .before .before .before .before .before .second-space .result) _ _ _ _
-          (c .before .before .before .before .before .before .before .before .before .before .before .second-space .ensures)
-          (c .before .before .before .before .before .before .before .before .before .before .if1 .left) (p .2)
-          (sym (rest-all (c .before .before .before .before .before .before .before .before .before .before .before .before .before .args .s .now)
-          (c .before .before .before .before .before .before .before .before .before .before .before .second-space .result + 1)) ∙ q .2),
+          (f .before .args .s .now) (e .before .before .before .before .before .second-space .result) _ _ _ _
+          (e .before .before .before .before .before .second-space .ensures) (e .before .before .before .before .if1 .left) (p .2)
+          (sym (rest-all (f .before .args .s .now) (e .before .before .before .before .before .second-space .result + 1)) ∙ q .2),
     )
 
-pub parse-four-spec : {M : Type 1} → statement M
+pub parse-four-spec : {M : Type 1} → Rattle.set_line.proofs.parse_four.Statement.statement M
 parse-four-spec =
-    tie.close
-    (tie.spec (λ c κs. search needs) returns slice-aggregate-parse-fields (λ c κs. search needs) enum-told
+    tie.close (tie.spec (λ c κs. search needs) returns slice-aggregate-parse-fields (λ c κs. search needs) enum-told
     (λ c. search needs) (λ c. search needs) (λ c. search needs) (λ c. search needs) (λ c. search needs)
     (λ c κs. search needs) (λ c. search needs) (λ c. search needs) returns-2 returns-3 returns-4)

@@ -1,9 +1,6 @@
 -- `set_line::parse_set` meets its contract: the last character says whether there is a newline.
-use native.Mathlib.Omega.{arith}
+use Rattle.words.proofs.Needs.{needs, arith, length-take}
 use Rattle.set_line_spec.proofs.Four.{set-line-some, ended-four, bare-four}
-use lib.ListN.{length-take}
-use borrow.Author.Needs.{needs}
-use Rattle.set_line.proofs.parse_set.Statement.{statement}
 use Rattle.set_line.proofs.parse_set.Tie as tie
 
 returns : tie.Need-returns
@@ -20,8 +17,7 @@ returns-2 c =
 returns-3 : tie.Need-returns-3
 returns-3 c = bare-four (c .before .before .before .before .before .args .s .now) (c .parse-four2 .result) (c .before .if2 .left) (c .parse-four2 .ensures)
 
-pub parse-set-spec : {M : Type 1} → statement M
+pub parse-set-spec : {M : Type 1} → Rattle.set_line.proofs.parse_set.Statement.statement M
 parse-set-spec =
-    tie.close
-    (tie.spec returns (λ c. search needs) slice-aggregate-parse-four (λ c κs. search needs) returns-2
+    tie.close (tie.spec returns (λ c. search needs) slice-aggregate-parse-four (λ c κs. search needs) returns-2
     (λ c κs. search needs) returns-3)

@@ -1,10 +1,6 @@
 -- `set_output::print_refused` meets its contract.
-use Prim.Native.Nat.{_<_}
-use native.Mathlib.Omega.{arith}
-use Prim.Native.Nat.{_^_}
+use Rattle.words.proofs.Needs.{needs, _<_, _^_, arith}
 use Rattle.set_output.proofs.Output.{refused-room, refused-says}
-use borrow.Author.Needs.{needs}
-use Rattle.set_output.proofs.print_refused.Statement.{statement}
 use Rattle.set_output.proofs.print_refused.Tie as tie
 
 place-refused-requires : tie.Need-place-refused-requires
@@ -17,6 +13,6 @@ returns c =
     (c .before .before .before .number .ensures) h (c .before .before .before .before .before .before .args .buf .now) _ _
     (c .before .before .place-refused .ensures)
 
-pub print-refused-spec : {M : Type 1} → statement M
+pub print-refused-spec : {M : Type 1} → Rattle.set_output.proofs.print_refused.Statement.statement M
 print-refused-spec =
     tie.close (tie.spec (λ c κs. search needs) place-refused-requires (λ c. search needs) returns)

@@ -1,15 +1,10 @@
 -- `set_text_inner::place_rings` meets its contract. The lines of the rings in the first j places are placed, one behind another.
-use Prim.Native.Nat.{_≤_, _-_}
-use mathlib.Core.Path.{_≡_}
-use native.Mathlib.Omega.{arith}
+use Rattle.words.proofs.Needs.{needs, _≤_, _-_, arith, _≡_, length-take}
 use Rattle.set_text_inner.proofs.Lines.{lines-start, lines-room, lines-on}
 use Rattle.text_spec.specs.Put.{Placed}
 use Rattle.text_spec.proofs.Put.{placed-length}
 use Rattle.set_spec.specs.Places.{setIn}
 use Rattle.set_text_spec.specs.Text.{ringTexts}
-use lib.ListN.{length-take}
-use borrow.Author.Needs.{needs}
-use Rattle.set_text_inner.proofs.place_rings.Statement.{statement}
 use Rattle.set_text_inner.proofs.place_rings.Tie as tie
 
 abbrev Inv-loop : tie.InvT-loop
@@ -17,6 +12,9 @@ Inv-loop buf₀ places n taken at₀ j₀ buf at j = (j ≤ taken) × Placed buf
 
 abbrev μ-loop : tie.MeasureT-loop
 μ-loop buf₀ places n taken at₀ j₀ buf at j = taken - j
+
+abbrev start : tie.In-loop Inv-loop μ-loop → tie.Start Inv-loop μ-loop
+start c = c .before .before .before .before
 
 loop-holds : tie.Need-loop-holds Inv-loop μ-loop
 loop-holds c = let a = c .before .before .args in let q = c .before .before .pre in (omega arith, lines-start (a .buf .now) (a .places .now) (a .n) (a .taken) (q .0) (q .1))
@@ -43,8 +41,8 @@ place-ring-requires c κs =
 
 loop-again : tie.Need-loop-again Inv-loop μ-loop
 loop-again c =
-    let a = c .before .before .before .before .before .before .before .before .before .args in
-    let q = c .before .before .before .before .before .before .before .before .before .pre in
+    let a = start (c .before .before .before .before .before) .args in
+    let q = start (c .before .before .before .before .before) .pre in
     let l = c .before .before .before .before .before .before .loop in (
       omega (arith, c .before .before .before .before .before .loop-test .taken),
       lines-on (a .buf .now) (a .places .now) (a .n) (a .taken) (q .0)
@@ -61,8 +59,7 @@ returns c =
     let a = c .before .before .before .before .args in let q = c .before .before .before .before .pre in let l = c .before .loop in
     let e : l .j ≡ a .taken = omega (arith, l .inv .0, c .loop-test .left) in rw e at (l .inv .1)
 
-pub place-rings-spec : {M : Type 1} → statement M
+pub place-rings-spec : {M : Type 1} → Rattle.set_text_inner.proofs.place_rings.Statement.statement M
 place-rings-spec =
-    tie.close
-    (tie.spec Inv-loop μ-loop loop-holds (λ c. search needs) (λ c. search needs) sub-place-ring part-place-ring-start
+    tie.close (tie.spec Inv-loop μ-loop loop-holds (λ c. search needs) (λ c. search needs) sub-place-ring part-place-ring-start
     part-place-ring-end place-ring-requires (λ c. search needs) (λ c. search needs) loop-again same-length returns)

@@ -1,8 +1,5 @@
 -- `set_words_inner::zero_taken` meets its contract.
-use mathlib.Core.Path.{_≡_, refl}
-use borrow.Author.Tests.{eq-eqb, ne-eqb}
-use borrow.Author.Needs.{needs}
-use Rattle.set_words_inner.proofs.zero_taken.Statement.{statement}
+use Rattle.words.proofs.Needs.{needs, _≡_, refl, eq-eqb, ne-eqb}
 use Rattle.set_words_inner.proofs.zero_taken.Tie as tie
 
 returns : tie.Need-returns
@@ -11,5 +8,5 @@ returns c = let n = c .before .before .before .args .n in let e : n ≡ 1 = sear
 returns-3 : tie.Need-returns-3
 returns-3 c = let n = c .before .before .before .args .n in let e : n ≡ 1 → ⊥ = search needs in rw (c .before .enum-told2 .given .1, ne-eqb n 1 e) refl
 
-pub zero-taken-spec : {M : Type 1} → statement M
+pub zero-taken-spec : {M : Type 1} → Rattle.set_words_inner.proofs.zero_taken.Statement.statement M
 zero-taken-spec = tie.close (tie.spec (λ c. search needs) (λ c. search needs) returns (λ c. search needs) returns-3)

@@ -1,12 +1,10 @@
 -- `sets::lay_out` meets its contract: the checks in their order, and then the rings end to end.
-use mathlib.Core.Path.{_≡_, refl}
-use mathlib.Core.Logic.{inl, inr}
-use native.Mathlib.Omega.{arith}
+use Rattle.words.proofs.Needs.{needs, arith, _≡_, refl, inl, inr, length}
 use native.Mathlib.Nat.{mul-le-mul-left}
-use lib.ListN.{length}
-use borrow.Author.Needs.{needs}
-use Rattle.sets.proofs.lay_out.Statement.{statement}
 use Rattle.sets.proofs.lay_out.Tie as tie
+
+abbrev else3 : tie.After-out → tie.Else3
+else3 c = c .before .before .before .before .before .before
 
 returns : tie.Need-returns
 returns c = (inl (inl (refl, λ s. omega (arith, s .0, c .if1 .taken))), refl)
@@ -26,26 +24,20 @@ returns-4 c = (inr (((omega (arith, c .before .before .before .if1 .left), omega
 
 write-rings-requires : tie.Need-write-rings-requires
 write-rings-requires c κs =
-    let l : length (c .before .before .before .before .before .before .before .before .args .p .places) ≡ 768 = search needs in
+    let d = c .before .before .before .before .before .before in
+    let l : length (d .before .before .args .p .places) ≡ 768 = search needs in
     (l, omega (arith, c .before .before .before .before .before .if2 .left), omega (arith, c .before .before .before .before .if3 .left), c .before .before .before .if4 .left)
 
 returns-5 : tie.Need-returns-5
-returns-5 c = (
-  (
-    (
+returns-5 c =
+    let e = else3 (c .before) in (
       (
-        omega (arith, c .before .before .before .before .before .before .before .before .before .if1 .left),
-        omega
-            (arith, c .before .before .before .before .before .before .before .before .if2 .left),
+        ((omega (arith, e .before .before .if1 .left), omega (arith, e .before .if2 .left)), omega (arith, e .if3 .left)),
+        c .before .before .before .before .before .before .if4 .left,
       ),
-      omega
-          (arith, c .before .before .before .before .before .before .before .if3 .left),
-    ),
-    c .before .before .before .before .before .before .if4 .left,
-  ),
-  c .before .before .write-rings .ensures,
-)
+      c .before .before .write-rings .ensures,
+    )
 
-pub lay-out-spec : {M : Type 1} → statement M
+pub lay-out-spec : {M : Type 1} → Rattle.sets.proofs.lay_out.Statement.statement M
 lay-out-spec = tie.close (tie.spec returns returns-2 returns-3 mul-if4 returns-4 (λ c. search needs)
     write-rings-requires (λ c. search needs) returns-5)

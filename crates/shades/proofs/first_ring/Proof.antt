@@ -1,9 +1,6 @@
 -- `shades::first_ring` meets its contract. Behind the checks, the letters of the counts in increasing order are the first ring.
-use mathlib.Core.Path.{refl}
-use lib.ListN.{length}
-use borrow.Author.Needs.{needs}
+use Rattle.words.proofs.Needs.{needs, refl, length}
 use Rattle.shades.proofs.Asking.{first-asks, first-found}
-use Rattle.shades.proofs.first_ring.Statement.{statement}
 use Rattle.shades.proofs.first_ring.Tie as tie
 
 enum-told : tie.Need-enum-told
@@ -20,7 +17,8 @@ returns c = (rw (c .before .r .given .1) at (c .before .before .before .check-fi
 
 returns-2 : tie.Need-returns-2
 returns-2 c =
-    let a = c .before .before .before .before .before .before .before .before .before .args in
+    let d = c .before .before .before .before .before .before in
+    let a = d .before .before .before .args in
     let p = (rw (c .before .before .before .before .enum-told .given .1) at (c .before .before .before .before .before .before .check-first .ensures))
     in (
       p,
@@ -28,8 +26,7 @@ returns-2 c =
           (c .before .before .fill .ensures .1),
     )
 
-pub first-ring-spec : {M : Type 1} → statement M
+pub first-ring-spec : {M : Type 1} → Rattle.shades.proofs.first_ring.Statement.statement M
 first-ring-spec =
-    tie.close
-    (tie.spec (λ c κs. search needs) (λ c. search needs) enum-told fill-requires returns (λ c. search needs)
+    tie.close (tie.spec (λ c κs. search needs) (λ c. search needs) enum-told fill-requires returns (λ c. search needs)
     returns-2)

@@ -1,10 +1,6 @@
 -- `shades_cap_inner::counted_to` meets its contract. The loop: no shade from j on has a count.
-use Prim.Native.Nat.{_≤_}
-use native.Mathlib.Omega.{arith}
-use lib.ListN.{length}
-use borrow.Author.Needs.{needs}
+use Rattle.words.proofs.Needs.{needs, _≤_, arith, length}
 use Rattle.shades_cap_inner.proofs.Writing.{NoneFrom, count-down}
-use Rattle.shades_cap_inner.proofs.counted_to.Statement.{statement}
 use Rattle.shades_cap_inner.proofs.counted_to.Tie as tie
 
 abbrev Inv-loop : tie.InvT-loop
@@ -25,6 +21,6 @@ loop-again c = let l = c .before .before .before .loop in (omega arith, count-do
 returns-2 : tie.Need-returns-2 Inv-loop μ-loop
 returns-2 c = record { within = omega arith; last = λ h. absurd (omega arith); none = c .before .loop .inv .1 }
 
-pub counted-to-spec : {M : Type 1} → statement M
+pub counted-to-spec : {M : Type 1} → Rattle.shades_cap_inner.proofs.counted_to.Statement.statement M
 counted-to-spec = tie.close (tie.spec Inv-loop μ-loop loop-holds (λ c. search needs) (λ c. search needs)
     (λ c. search needs) returns (λ c. search needs) (λ c. search needs) loop-again returns-2)

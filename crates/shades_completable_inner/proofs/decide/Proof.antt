@@ -1,12 +1,7 @@
 -- `shades_completable_inner::decide` meets its contract. The loop: the arrays hold the groups of a pool; the last group's place falls, or the least word grows.
-use Prim.Native.Nat.{_+_, _-_}
-use mathlib.Core.Path.{sym}
-use native.Mathlib.Omega.{arith}
-use lib.ListN.{length}
+use Rattle.words.proofs.Needs.{needs, _+_, _-_, arith, sym, length}
 use Rattle.shades_completable_inner.proofs.Testing.{Testing, test-start, test-stuck, test-order, test-bounds, test-dropped, test-pushed}
 use Rattle.shades_completable_inner.proofs.Testing.{test-chained, test-under, test-over, test-on, test-longer}
-use borrow.Author.Needs.{needs}
-use Rattle.shades_completable_inner.proofs.decide.Statement.{statement}
 use Rattle.shades_completable_inner.proofs.decide.Tie as tie
 
 abbrev Inv-loop : tie.InvT-loop
@@ -14,6 +9,9 @@ Inv-loop al rem b num₀ pre₀ next₀ first q₀ a₀ f₀ e₀ num pre next q
 
 abbrev μ-loop : tie.MeasureT-loop
 μ-loop al rem b num₀ pre₀ next₀ first q₀ a₀ f₀ e₀ num pre next q a f e = e + (length al - a)
+
+abbrev else1 : tie.After-against Inv-loop μ-loop → tie.Else1 Inv-loop μ-loop
+else1 c = c .before .before .before .before .before
 
 numbers-requires : tie.Need-numbers-requires Inv-loop μ-loop
 numbers-requires c κs = (c .before .before .pre .completing .shades, c .before .before .pre .completing .room)
@@ -98,22 +96,22 @@ against-requires c κs = let t = c .before .before .before .before .before .loop
 
 returns-2 : tie.Need-returns-2 Inv-loop μ-loop
 returns-2 c =
-    let t = c .before .before .before .before .before .before .before .loop .inv in
+    let t = else1 (c .before) .before .loop .inv in
     test-under t (c .before .before .before .before .before .before .if1 .left) (omega (arith, c .before .before .before .before .if3 .left)) _
     (c .before .against .ensures) (c .if4 .taken)
 
 returns-3 : tie.Need-returns-3 Inv-loop μ-loop
 returns-3 c =
-    let t = c .before .before .before .before .before .before .before .before .loop .inv in
-    test-over t (c .before .before .before .before .before .before .before .if1 .left)
+    let t = else1 (c .before .before) .before .loop .inv in
+    test-over t (else1 (c .before .before) .if1 .left)
     (omega (arith, c .before .before .before .before .before .if3 .left)) _ (c .before .before .against .ensures) (c .if5 .taken)
 
 loop-less-3 : tie.Need-loop-less-3 Inv-loop μ-loop
 loop-less-3 c =
-    let t = c .before .before .before .before .before .before .before .before .loop .inv in
+    let t = else1 (c .before .before) .before .loop .inv in
     omega (
       arith,
-      test-longer t (c .before .before .before .before .before .before .before .if1 .left)
+      test-longer t (else1 (c .before .before) .if1 .left)
           (omega (arith, c .before .before .before .before .before .if3 .left)) _ (c .before .before .against .ensures) (c .before .if4 .left)
           (omega (arith, c .if5 .left)),
       c .if5 .left,
@@ -121,15 +119,14 @@ loop-less-3 c =
 
 loop-again-3 : tie.Need-loop-again-3 Inv-loop μ-loop
 loop-again-3 c =
-    let t = c .before .before .before .before .before .before .before .before .loop .inv in
-    test-on t (c .before .before .before .before .before .before .before .if1 .left)
+    let t = else1 (c .before .before) .before .loop .inv in
+    test-on t (else1 (c .before .before) .if1 .left)
     (omega (arith, c .before .before .before .before .before .if3 .left)) _ (c .before .before .against .ensures) (c .before .if4 .left)
     (omega (arith, c .if5 .left))
 
-pub decide-spec : {M : Type 1} → statement M
+pub decide-spec : {M : Type 1} → Rattle.shades_completable_inner.proofs.decide.Statement.statement M
 decide-spec =
-    tie.close
-    (tie.spec Inv-loop μ-loop numbers-requires add-first mul-q shared-slice-read-q add-e loop-holds returns sub-g
+    tie.close (tie.spec Inv-loop μ-loop numbers-requires add-first mul-q shared-slice-read-q add-e loop-holds returns sub-g
     array-read-x cast-x loop-less loop-again sub-f cast-num array-write-num cast-pre array-write-pre cast-next
     array-write-next sub-q loop-less-2 loop-again-2 cast-num-2 array-write-num-2 slice-aggregate-against
     slice-aggregate-against-2 against-requires returns-2 returns-3 loop-less-3 loop-again-3)

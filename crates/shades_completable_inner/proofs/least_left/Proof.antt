@@ -1,10 +1,6 @@
 -- `shades_completable_inner::least_left` meets its contract. The loop: no letter below b is left.
-use Prim.Native.Nat.{_-_}
-use native.Mathlib.Omega.{arith}
-use lib.ListN.{length}
-use borrow.Author.Needs.{needs}
+use Rattle.words.proofs.Needs.{needs, _-_, arith, length}
 use Rattle.shades_completable_inner.proofs.Testing.{Seeking, least-start, least-more, least-end}
-use Rattle.shades_completable_inner.proofs.least_left.Statement.{statement}
 use Rattle.shades_completable_inner.proofs.least_left.Tie as tie
 
 abbrev Inv-loop : tie.InvT-loop
@@ -25,8 +21,7 @@ loop-again c = least-more _ _ (c .before .before .before .loop .inv) (c .before 
 returns-2 : tie.Need-returns-2 Inv-loop μ-loop
 returns-2 c = least-end _ _ (c .before .loop .inv) (λ h. absurd (omega (arith, c .loop-test .left)))
 
-pub least-left-spec : {M : Type 1} → statement M
+pub least-left-spec : {M : Type 1} → Rattle.shades_completable_inner.proofs.least_left.Statement.statement M
 least-left-spec =
-    tie.close
-    (tie.spec Inv-loop μ-loop loop-holds (λ c. search needs) (λ c. search needs) returns (λ c. search needs)
+    tie.close (tie.spec Inv-loop μ-loop loop-holds (λ c. search needs) (λ c. search needs) returns (λ c. search needs)
     (λ c. search needs) loop-again returns-2)

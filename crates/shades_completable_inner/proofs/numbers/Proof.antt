@@ -1,10 +1,6 @@
 -- `shades_completable_inner::numbers` meets its contract. The loop: the numbers of the letters below b are written.
-use Prim.Native.Nat.{_-_}
-use native.Mathlib.Omega.{arith}
-use lib.ListN.{length}
-use borrow.Author.Needs.{needs}
+use Rattle.words.proofs.Needs.{needs, _-_, arith, length}
 use Rattle.shades_completable_inner.proofs.Testing.{Counting, count-start, count-more, count-le}
-use Rattle.shades_completable_inner.proofs.numbers.Statement.{statement}
 use Rattle.shades_completable_inner.proofs.numbers.Tie as tie
 
 abbrev Inv-loop : tie.InvT-loop
@@ -25,8 +21,7 @@ loop-again c = count-more _ _ _ (c .before .before .loop .inv) (omega (arith, c 
 returns : tie.Need-returns Inv-loop μ-loop
 returns c = λ b h. c .before .loop .inv .done b (omega (arith, c .loop-test .left))
 
-pub numbers-spec : {M : Type 1} → statement M
+pub numbers-spec : {M : Type 1} → Rattle.shades_completable_inner.proofs.numbers.Statement.statement M
 numbers-spec =
-    tie.close
-    (tie.spec Inv-loop μ-loop loop-holds (λ c. search needs) (λ c. search needs) cast-num (λ c. search needs)
+    tie.close (tie.spec Inv-loop μ-loop loop-holds (λ c. search needs) (λ c. search needs) cast-num (λ c. search needs)
     (λ c. search needs) (λ c. search needs) (λ c. search needs) loop-again returns)

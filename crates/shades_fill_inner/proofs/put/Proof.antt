@@ -1,9 +1,6 @@
 -- `shades_fill_inner::put` meets its contract. The loop: the letter is written from i up to j.
-use Prim.Native.Nat.{_-_}
-use native.Mathlib.Omega.{arith}
-use borrow.Author.Needs.{needs}
+use Rattle.words.proofs.Needs.{needs, _-_, arith}
 use Rattle.shades_fill_inner.proofs.Filling.{Putting, put-start, put-more, put-end}
-use Rattle.shades_fill_inner.proofs.put.Statement.{statement}
 use Rattle.shades_fill_inner.proofs.put.Tie as tie
 
 abbrev Inv-loop : tie.InvT-loop
@@ -27,8 +24,7 @@ same-length c = c .before .loop .inv .long
 returns : tie.Need-returns Inv-loop μ-loop
 returns c = put-end _ _ _ _ _ _ (c .before .loop .inv) (c .loop-test .left)
 
-pub put-spec : {M : Type 1} → statement M
+pub put-spec : {M : Type 1} → Rattle.shades_fill_inner.proofs.put.Statement.statement M
 put-spec =
-    tie.close
-    (tie.spec Inv-loop μ-loop loop-holds slice-write-w (λ c. search needs) (λ c. search needs) loop-again same-length
+    tie.close (tie.spec Inv-loop μ-loop loop-holds slice-write-w (λ c. search needs) (λ c. search needs) loop-again same-length
     returns)

@@ -1,9 +1,6 @@
 -- `shades_lift_inner::left_from` meets its contract. The loop: no shade from b up to x is left.
-use Prim.Native.Nat.{_-_}
-use native.Mathlib.Omega.{arith}
+use Rattle.words.proofs.Needs.{needs, _-_, arith}
 use Rattle.shades_lift_inner.proofs.Barring.{Leftless, left-start, left-more, left-end}
-use borrow.Author.Needs.{needs}
-use Rattle.shades_lift_inner.proofs.left_from.Statement.{statement}
 use Rattle.shades_lift_inner.proofs.left_from.Tie as tie
 
 abbrev Inv-loop : tie.InvT-loop
@@ -27,6 +24,6 @@ loop-again c = left-more _ _ _ _ (c .before .before .before .loop .inv) (c .befo
 returns-2 : tie.Need-returns-2 Inv-loop μ-loop
 returns-2 c = left-end _ _ _ _ (c .before .loop .inv) (λ h. absurd (omega (arith, c .loop-test .left)))
 
-pub left-from-spec : {M : Type 1} → statement M
+pub left-from-spec : {M : Type 1} → Rattle.shades_lift_inner.proofs.left_from.Statement.statement M
 left-from-spec = tie.close (tie.spec Inv-loop μ-loop loop-holds (λ c. search needs) shared-slice-read-if1 returns
     (λ c. search needs) (λ c. search needs) loop-again returns-2)

@@ -1,11 +1,10 @@
 -- `shades_next_inner::above` meets its contract. Where the reading is no prenecklace, its longest beginning that is one is repeated first.
-use mathlib.Core.Path.{_∙_, sym}
-use native.Mathlib.Omega.{arith}
-use borrow.Author.Needs.{needs}
-use lib.Seq.{length-take-le}
+use Rattle.words.proofs.Needs.{needs, arith, _∙_, sym, length-take-le}
 use Rattle.shades_next_inner.proofs.Seeking.{above-opening, above-asks, above-size, above-run, above-found, above-on, above-answers}
-use Rattle.shades_next_inner.proofs.above.Statement.{statement}
 use Rattle.shades_next_inner.proofs.above.Tie as tie
+
+abbrev else1 : tie.After-is-counted → tie.Else1
+else1 c = c .before .before .before .before .before
 
 slice-aggregate-scan : tie.Need-slice-aggregate-scan
 slice-aggregate-scan c = sym (c .before .before .pre .reading .long)
@@ -44,26 +43,25 @@ is-counted-requires c κs =
 
 returns-2 : tie.Need-returns-2
 returns-2 c =
-    let d = c .before .before .before .before .before .before .before .before in
+    let d = else1 (c .before) .before .before in
     above-found (search needs) (d .before .before .before .pre) (d .scan .ensures) (c .before .before .before .before .before .before .if1 .left) (c .before .before .before .before .repeat .ensures)
     (sym (c .if2 .taken) ∙ c .before .is-counted .ensures)
 
 seek-requires-2 : tie.Need-seek-requires-2
 seek-requires-2 c κs =
-    let d = c .before .before .before .before .before .before .before .before in
+    let d = else1 (c .before) .before .before in
     above-on (search needs) (d .before .before .before .pre) (d .scan .ensures) (c .before .before .before .before .before .before .if1 .left) (c .before .before .before .before .repeat .ensures)
     (sym (c .if2 .left) ∙ c .before .is-counted .ensures)
 
 returns-3 : tie.Need-returns-3
 returns-3 c =
-    let d = c .before .before .before .before .before .before .before .before .before in
-    above-answers (search needs) (d .before .before .before .pre) (d .scan .ensures) (c .before .before .before .before .before .before .before .if1 .left)
+    let d = else1 (c .before .before) .before .before in
+    above-answers (search needs) (d .before .before .before .pre) (d .scan .ensures) (else1 (c .before .before) .if1 .left)
     (c .before .before .before .before .before .repeat .ensures)
     (sym (c .before .if2 .left) ∙ c .before .before .is-counted .ensures) (c .seek2 .ensures)
 
-pub above-spec : {M : Type 1} → statement M
+pub above-spec : {M : Type 1} → Rattle.shades_next_inner.proofs.above.Statement.statement M
 above-spec =
-    tie.close
-    (tie.spec (λ c. search needs) slice-aggregate-scan scan-requires seek-requires returns (λ c. search needs)
+    tie.close (tie.spec (λ c. search needs) slice-aggregate-scan scan-requires seek-requires returns (λ c. search needs)
     slice-aggregate-repeat repeat-requires array-share-prefix-ring slice-aggregate-is-counted is-counted-requires
     returns-2 seek-requires-2 returns-3)

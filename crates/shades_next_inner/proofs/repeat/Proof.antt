@@ -1,10 +1,6 @@
 -- `shades_next_inner::repeat` meets its contract. The loop: the first m sectors repeat the first p.
-use Prim.Native.Nat.{_-_}
-use native.Mathlib.Omega.{arith}
-use lib.ListN.{length}
-use borrow.Author.Needs.{needs}
+use Rattle.words.proofs.Needs.{needs, _-_, arith, length}
 use Rattle.shades_next_inner.proofs.Repeating.{Copying, repeat-start, repeat-more, repeat-end}
-use Rattle.shades_next_inner.proofs.repeat.Statement.{statement}
 use Rattle.shades_next_inner.proofs.repeat.Tie as tie
 
 abbrev Inv-loop : tie.InvT-loop
@@ -34,8 +30,7 @@ same-length c = c .before .loop .inv .long
 returns : tie.Need-returns Inv-loop μ-loop
 returns c = repeat-end _ _ _ _ (c .before .loop .inv) (c .loop-test .left)
 
-pub repeat-spec : {M : Type 1} → statement M
+pub repeat-spec : {M : Type 1} → Rattle.shades_next_inner.proofs.repeat.Statement.statement M
 repeat-spec =
-    tie.close
-    (tie.spec Inv-loop μ-loop loop-holds sub-s slice-read-s (λ c. search needs) (λ c. search needs) loop-less
+    tie.close (tie.spec Inv-loop μ-loop loop-holds sub-s slice-read-s (λ c. search needs) (λ c. search needs) loop-less
     loop-again same-length returns)

@@ -1,10 +1,6 @@
 -- `shades_pool_inner::agree` meets its contract. The loop: v and w agree in the first j letters.
-use Prim.Native.Nat.{_-_}
-use native.Mathlib.Omega.{arith}
-use lib.ListN.{length}
-use borrow.Author.Needs.{needs}
+use Rattle.words.proofs.Needs.{needs, _-_, arith, length}
 use Rattle.shades_pool_inner.proofs.Chains.{Agreeing, agree-start, agree-more, agree-end}
-use Rattle.shades_pool_inner.proofs.agree.Statement.{statement}
 use Rattle.shades_pool_inner.proofs.agree.Tie as tie
 
 abbrev Inv-loop : tie.InvT-loop
@@ -28,8 +24,7 @@ loop-again c = agree-more _ _ _ (c .before .before .before .before .before .loop
 returns-3 : tie.Need-returns-3 Inv-loop μ-loop
 returns-3 c = agree-end _ _ _ (c .before .loop .inv) (λ h. absurd (omega (arith, c .loop-test .left)))
 
-pub agree-spec : {M : Type 1} → statement M
+pub agree-spec : {M : Type 1} → Rattle.shades_pool_inner.proofs.agree.Statement.statement M
 agree-spec =
-    tie.close
-    (tie.spec Inv-loop μ-loop loop-holds returns (λ c. search needs) (λ c. search needs) returns-2 (λ c. search needs)
+    tie.close (tie.spec Inv-loop μ-loop loop-holds returns (λ c. search needs) (λ c. search needs) returns-2 (λ c. search needs)
     (λ c. search needs) loop-again returns-3)

@@ -1,13 +1,6 @@
 -- `shades_raise_inner::reach` meets its contract. The loop: the first i sectors fit into the counts, and the first p of them are a Lyndon word.
-use Prim.Native.Nat.{_-_}
-use mathlib.Core.Path.{sym}
-use native.Mathlib.Omega.{arith}
-use lib.ListN.{getD, length-set}
-use lib.Seq.{length-take-le}
-use borrow.Author.Tests.{not-true}
+use Rattle.words.proofs.Needs.{needs, _-_, arith, sym, getD, length-set, length-take-le, not-true}
 use Rattle.shades_raise_inner.proofs.Blocking.{Ahead, find-part, find-fits, find-start, reach-start, reach-none, reach-end, reach-shade, reach-asks, reach-stop, reach-more, reach-count}
-use borrow.Author.Needs.{needs}
-use Rattle.shades_raise_inner.proofs.reach.Statement.{statement}
 use Rattle.shades_raise_inner.proofs.reach.Tie as tie
 
 abbrev Inv-loop : tie.InvT-loop
@@ -15,6 +8,15 @@ Inv-loop n k p counts w i₀ rem₀ i rem = Ahead w n k counts p i rem
 
 abbrev μ-loop : tie.MeasureT-loop
 μ-loop n k p counts w i₀ rem₀ i rem = n - i
+
+abbrev start : tie.Else1 Inv-loop μ-loop → tie.Start Inv-loop μ-loop
+start c = c .before .before
+
+abbrev else1 : tie.At-loop Inv-loop μ-loop → tie.Else1 Inv-loop μ-loop
+else1 c = c .before .before .before .before .before .before
+
+abbrev at-loop : tie.After-completable Inv-loop μ-loop → tie.At-loop Inv-loop μ-loop
+at-loop c = c .before .before .before .before .before .before
 
 sub-w : tie.Need-sub-w Inv-loop μ-loop
 sub-w c = omega (arith, c .before .before .pre .0 .ready .pos)
@@ -24,9 +26,7 @@ array-share-prefix-w c = find-part (search needs) (c .before .before .pre .0) (c
 
 slice-aggregate-fitting : tie.Need-slice-aggregate-fitting Inv-loop μ-loop
 slice-aggregate-fitting c =
-    sym
-    (length-take-le _ _
-    (find-part (search needs) (c .before .before .before .pre .0) (c .before .before .before .args .n - 1)
+    sym (length-take-le _ _ (find-part (search needs) (c .before .before .before .pre .0) (c .before .before .before .args .n - 1)
     (omega (arith, c .before .before .before .pre .0 .ready .pos))))
 
 fitting-requires : tie.Need-fitting-requires Inv-loop μ-loop
@@ -55,24 +55,25 @@ returns-2 c =
 
 loop-holds : tie.Need-loop-holds Inv-loop μ-loop
 loop-holds c =
+    let s = start (c .before .before .before .before .before) in
     record {
       size = search needs;
-      opening = c .before .before .before .before .before .before .before .pre .0;
-      head = c .before .before .before .before .before .before .before .pre .1;
+      opening = s .pre .0;
+      head = s .pre .1;
       short = omega (arith, c .before .before .before .before .before .if1 .left);
       from = omega arith;
       inside = omega (arith, c .before .before .before .before .before .if1 .left);
       left =
-          reach-start (search needs) (c .before .before .before .before .before .before .before .pre .0)
-          (c .before .before .before .before .before .before .before .args .p) (omega (arith, c .before .before .before .before .before .if1 .left))
+          reach-start (search needs) (s .pre .0)
+          (s .args .p) (omega (arith, c .before .before .before .before .before .if1 .left))
           (c .before .before .before .fitting2 .ensures) (λ h. omega (arith, c .before .if2 .left));
     }
 
 add-loop : tie.Need-add-loop Inv-loop μ-loop
-add-loop c = omega (arith, c .loop .inv .inside, c .before .before .before .before .before .before .before .before .pre .0 .ready .size)
+add-loop c = omega (arith, c .loop .inv .inside, start (else1 c) .pre .0 .ready .size)
 
 array-read-x : tie.Need-array-read-x Inv-loop μ-loop
-array-read-x c = omega (arith, c .before .loop .inv .inside, c .before .loop .inv .size, c .before .before .before .before .before .before .before .before .before .pre .0 .ready .size)
+array-read-x c = omega (arith, c .before .loop .inv .inside, c .before .loop .inv .size, start (else1 (c .before)) .pre .0 .ready .size)
 
 cast-x : tie.Need-cast-x Inv-loop μ-loop
 cast-x c = omega (arith, reach-shade (c .before .loop .inv))
@@ -96,7 +97,7 @@ array-write-rem : tie.Need-array-write-rem Inv-loop μ-loop
 array-write-rem c = omega (arith, reach-shade (c .before .before .loop .inv), c .before .before .loop .inv .left .size)
 
 add-i : tie.Need-add-i Inv-loop μ-loop
-add-i c = omega (arith, c .before .before .before .loop .inv .inside, c .before .before .before .before .before .before .before .before .before .before .before .pre .0 .ready .size)
+add-i c = omega (arith, c .before .before .before .loop .inv .inside, start (else1 (c .before .before .before)) .pre .0 .ready .size)
 
 loop-less : tie.Need-loop-less Inv-loop μ-loop
 loop-less c = omega (arith, c .before .before .before .loop .inv .inside)
@@ -110,85 +111,75 @@ array-share-prefix-w-3 c =
       arith,
       c .before .before .before .loop .inv .short,
       c .before .before .before .loop .inv .size,
-      c .before .before .before .before .before .before .before .before .before .before .before .pre .0 .ready .size,
+      start (else1 (c .before .before .before)) .pre .0 .ready .size,
     )
 
 slice-aggregate-completable : tie.Need-slice-aggregate-completable Inv-loop μ-loop
 slice-aggregate-completable c =
-    sym
-    (length-take-le _ _
-    (omega (
+    sym (length-take-le _ _ (omega (
       arith,
       c .before .before .before .before .loop .inv .short,
       c .before .before .before .before .loop .inv .size,
-      c .before .before .before .before .before .before .before .before .before .before .before .before .pre .0 .ready .size,
+      start (else1 (c .before .before .before .before)) .pre .0 .ready .size,
     )))
 
 array-share-prefix-rem : tie.Need-array-share-prefix-rem Inv-loop μ-loop
 array-share-prefix-rem c =
     simp length-set
-    (omega (arith, c .before .before .before .before .loop .inv .left .size, c .before .before .before .before .before .before .before .before .before .before .before .before .pre .0 .ready .shades))
+    (omega (arith, c .before .before .before .before .loop .inv .left .size, start (else1 (c .before .before .before .before)) .pre .0 .ready .shades))
 
 slice-aggregate-completable-2 : tie.Need-slice-aggregate-completable-2 Inv-loop μ-loop
 slice-aggregate-completable-2 c =
-    sym
-    (length-take-le _ _
-    (simp length-set
-    (omega (
+    sym (length-take-le _ _ (simp length-set (omega (
       arith,
       c .before .before .before .before .before .loop .inv .left .size,
-      c .before .before .before .before .before .before .before .before .before .before .before .before .before .pre .0 .ready .shades,
+      start (else1 (c .before .before .before .before .before)) .pre .0 .ready .shades,
     ))))
 
 completable-requires : tie.Need-completable-requires Inv-loop μ-loop
 completable-requires c κs = reach-asks (c .before .before .before .before .before .loop .inv) (c .before .before .before .if3 .left)
 
 mul-rem-2 : tie.Need-mul-rem-2 Inv-loop μ-loop
-mul-rem-2 c = omega (arith, reach-shade (c .before .before .before .before .before .before .before .loop .inv))
+mul-rem-2 c = omega (arith, reach-shade (at-loop (c .before) .loop .inv))
 
 array-read-rem-2 : tie.Need-array-read-rem-2 Inv-loop μ-loop
-array-read-rem-2 c = omega (arith, reach-shade (c .before .before .before .before .before .before .before .loop .inv))
+array-read-rem-2 c = omega (arith, reach-shade (at-loop (c .before) .loop .inv))
 
 add-rem : tie.Need-add-rem Inv-loop μ-loop
 add-rem c =
+    let l = at-loop (c .before) in
     omega (
       arith,
-      reach-count (c .before .before .before .before .before .before .before .loop .inv) (c .before .before .before .before .before .if3 .left)
-          (getD (c .before .before .before .before .before .before .before .before .before .before .before .before .before .before .before .args .t1)
-          (c .before .before .before .before .before .before .before .loop .i) 0),
+      reach-count (l .loop .inv) (c .before .before .before .before .before .if3 .left)
+          (getD (start (else1 l) .args .t1) (l .loop .i) 0),
     )
 
 array-write-rem-2 : tie.Need-array-write-rem-2 Inv-loop μ-loop
-array-write-rem-2 c = omega (arith, reach-shade (c .before .before .before .before .before .before .before .loop .inv))
+array-write-rem-2 c = omega (arith, reach-shade (at-loop (c .before) .loop .inv))
 
 returns-4 : tie.Need-returns-4 Inv-loop μ-loop
 returns-4 c =
-    reach-stop (c .before .before .before .before .before .before .before .loop .inv) (c .before .before .before .before .before .if3 .left)
+    reach-stop (at-loop (c .before) .loop .inv) (c .before .before .before .before .before .if3 .left)
     (rw (not-true (c .before .completable .result) (c .if5 .taken)) at (c .before .completable .ensures))
 
 add-i-2 : tie.Need-add-i-2 Inv-loop μ-loop
 add-i-2 c =
-    omega (
-      arith,
-      c .before .before .before .before .before .before .before .loop .inv .inside,
-      c .before .before .before .before .before .before .before .before .before .before .before .before .before .before .before .pre .0 .ready .size,
-    )
+    omega (arith, at-loop (c .before) .loop .inv .inside, start (else1 (at-loop (c .before))) .pre .0 .ready .size)
 
 loop-less-2 : tie.Need-loop-less-2 Inv-loop μ-loop
-loop-less-2 c = omega (arith, c .before .before .before .before .before .before .before .loop .inv .inside)
+loop-less-2 c = omega (arith, at-loop (c .before) .loop .inv .inside)
 
 loop-again-2 : tie.Need-loop-again-2 Inv-loop μ-loop
 loop-again-2 c =
-    reach-more (c .before .before .before .before .before .before .before .loop .inv) (c .before .before .before .before .before .if3 .left)
+    reach-more (at-loop (c .before) .loop .inv) (c .before .before .before .before .before .if3 .left)
     (c .before .before .before .before .before .before .loop-test .taken)
 
 returns-5 : tie.Need-returns-5 Inv-loop μ-loop
 returns-5 c = reach-end (c .before .loop .inv) (λ h. omega (arith, c .loop-test .left))
 
-pub reach-spec : {M : Type 1} → statement M
+pub reach-spec : {M : Type 1} → Rattle.shades_raise_inner.proofs.reach.Statement.statement M
 reach-spec =
-    tie.close
-    (tie.spec Inv-loop μ-loop sub-w array-share-prefix-w slice-aggregate-fitting fitting-requires returns
+    tie.close (tie.spec Inv-loop μ-loop sub-w array-share-prefix-w slice-aggregate-fitting fitting-requires returns
     array-share-prefix-w-2 slice-aggregate-fitting-2 fitting-requires-2 returns-2 loop-holds add-loop array-read-x
     cast-x mul-if3 array-read-if3 returns-3 mul-rem array-read-rem (λ c. search needs) array-write-rem add-i loop-less
     loop-again array-share-prefix-w-3 slice-aggregate-completable array-share-prefix-rem slice-aggregate-completable-2

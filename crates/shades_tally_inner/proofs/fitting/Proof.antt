@@ -1,12 +1,7 @@
 -- `shades_tally_inner::fitting` meets its contract. The loop: the first i sectors fit, and rem is what the counts leave beside them.
-use Prim.Native.Nat.{_<_, _≤_, _-_}
-use mathlib.Core.Path.{_≡_}
-use native.Mathlib.Omega.{arith}
-use lib.ListN.{length, take, getD}
-use borrow.Author.Needs.{needs}
+use Rattle.words.proofs.Needs.{needs, _<_, _≤_, _-_, arith, _≡_, length, take, getD}
 use Rattle.shades_tally_inner.specs.Remaining.{Remains}
 use Rattle.shades_tally_inner.proofs.Leaving.{remains-more, exceeds-one}
-use Rattle.shades_tally_inner.proofs.fitting.Statement.{statement}
 use Rattle.shades_tally_inner.proofs.fitting.Tie as tie
 
 abbrev Inv-loop : tie.InvT-loop
@@ -14,6 +9,9 @@ Inv-loop counts s rem₀ i₀ rem i = (i ≤ length s) × Remains counts (take i
 
 abbrev μ-loop : tie.MeasureT-loop
 μ-loop counts s rem₀ i₀ rem i = length s - i
+
+abbrev start : tie.In-loop Inv-loop μ-loop → tie.Start Inv-loop μ-loop
+start c = c .before .before .before .before .before
 
 untouched-requires : tie.Need-untouched-requires Inv-loop μ-loop
 untouched-requires c κs = c .before .before .pre .few
@@ -39,7 +37,7 @@ array-read-if1 c = omega (arith, inside (c .before))
 returns : tie.Need-returns Inv-loop μ-loop
 returns c =
     let l = c .before .before .before .loop in
-    let a = c .before .before .before .before .before .before .before .args in
+    let a = start (c .before .before) .args in
     let t = inside (c .before .before) in
     record {
       within = l .inv .0;
@@ -59,16 +57,15 @@ array-write-rem c = omega (arith, inside (c .before .before))
 loop-again : tie.Need-loop-again Inv-loop μ-loop
 loop-again c =
     let l = c .before .before .before .loop in
-    let a = c .before .before .before .before .before .before .before .args in
+    let a = start (c .before .before) .args in
     let t = inside (c .before .before) in
     (omega arith, remains-more (a .counts .now) (a .s .now) (l .rem) (l .i) (c .before .before .loop-test .taken) (t .0) (t .1) (l .inv .1) (c .if1 .left))
 
 returns-2 : tie.Need-returns-2 Inv-loop μ-loop
 returns-2 c = record { within = c .before .loop .inv .0; remains = c .before .loop .inv .1; exceeds = λ h. absurd (omega (arith, c .loop-test .left)) }
 
-pub fitting-spec : {M : Type 1} → statement M
+pub fitting-spec : {M : Type 1} → Rattle.shades_tally_inner.proofs.fitting.Statement.statement M
 fitting-spec =
-    tie.close
-    (tie.spec Inv-loop μ-loop untouched-requires loop-holds (λ c. search needs) cast-x mul-if1 array-read-if1 returns
+    tie.close (tie.spec Inv-loop μ-loop untouched-requires loop-holds (λ c. search needs) cast-x mul-if1 array-read-if1 returns
     mul-rem array-read-rem (λ c. search needs) array-write-rem (λ c. search needs) (λ c. search needs) loop-again
     returns-2)

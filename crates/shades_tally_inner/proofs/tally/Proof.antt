@@ -1,13 +1,7 @@
 -- `shades_tally_inner::tally` meets its contract. The loop: x of the first i sectors have the shade b.
-use Prim.Native.Nat.{_≤_, _-_}
-use mathlib.Core.Path.{_≡_, sym}
-use mathlib.Core.Logic.{⊎-elim}
-use native.Mathlib.Omega.{arith}
-use lib.ListN.{length, take}
-use borrow.Author.Needs.{needs}
+use Rattle.words.proofs.Needs.{needs, _≤_, _-_, arith, _≡_, sym, ⊎-elim, length, take}
 use Rattle.rings.specs.Counts.{occurs}
 use Rattle.shades_tally_inner.proofs.Tallying.{tally-hit, tally-miss, tally-end, occurs-none}
-use Rattle.shades_tally_inner.proofs.tally.Statement.{statement}
 use Rattle.shades_tally_inner.proofs.tally.Tie as tie
 
 abbrev Inv-loop : tie.InvT-loop
@@ -34,8 +28,7 @@ loop-again c =
 returns : tie.Need-returns Inv-loop μ-loop
 returns c = tally-end _ _ _ _ (c .loop-test .left) (c .before .loop .inv .0)
 
-pub tally-spec : {M : Type 1} → statement M
+pub tally-spec : {M : Type 1} → Rattle.shades_tally_inner.proofs.tally.Statement.statement M
 tally-spec =
-    tie.close
-    (tie.spec Inv-loop μ-loop loop-holds (λ c. search needs) cast-if1 (λ c. search needs) (λ c. search needs)
+    tie.close (tie.spec Inv-loop μ-loop loop-holds (λ c. search needs) cast-if1 (λ c. search needs) (λ c. search needs)
     (λ c. search needs) loop-again returns)

@@ -1,10 +1,6 @@
 -- `shades_tally_inner::untouched` meets its contract. The loop: the first b counts are copied.
-use Prim.Native.Nat.{_-_}
-use lib.ListN.{length}
-use borrow.Author.Needs.{needs}
-use mathlib.Core.List.{[]}
+use Rattle.words.proofs.Needs.{needs, _-_, [], length}
 use Rattle.shades_tally_inner.proofs.Leaving.{Leaving, leave-start, leave-untouched, leave-end}
-use Rattle.shades_tally_inner.proofs.untouched.Statement.{statement}
 use Rattle.shades_tally_inner.proofs.untouched.Tie as tie
 
 abbrev Inv-loop : tie.InvT-loop
@@ -22,8 +18,7 @@ loop-again c = leave-untouched _ _ _ (c .before .before .before .pre) (c .before
 returns : tie.Need-returns Inv-loop μ-loop
 returns c = leave-end _ _ _ _ (c .before .loop .inv) (c .loop-test .left)
 
-pub untouched-spec : {M : Type 1} → statement M
+pub untouched-spec : {M : Type 1} → Rattle.shades_tally_inner.proofs.untouched.Statement.statement M
 untouched-spec =
-    tie.close
-    (tie.spec Inv-loop μ-loop loop-holds (λ c. search needs) (λ c. search needs) (λ c. search needs)
+    tie.close (tie.spec Inv-loop μ-loop loop-holds (λ c. search needs) (λ c. search needs) (λ c. search needs)
     (λ c. search needs) (λ c. search needs) (λ c. search needs) loop-again returns)

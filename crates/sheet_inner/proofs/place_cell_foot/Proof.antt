@@ -1,11 +1,8 @@
 -- `sheet_inner::place_cell_foot` meets its contract.
-use Prim.Native.Nat.{_≤_}
-use native.Mathlib.Omega.{arith}
+use Rattle.words.proofs.Needs.{needs, _≤_, arith}
 use Rattle.text_fill_spec.specs.Filled.{slots, longest}
 use Rattle.text_form_inner.proofs.Fits.{fits-more}
 use Rattle.sheet_spec.specs.Text.{cellFoot}
-use borrow.Author.Needs.{needs}
-use Rattle.sheet_inner.proofs.place_cell_foot.Statement.{statement}
 use Rattle.sheet_inner.proofs.place_cell_foot.Tie as tie
 
 place-form-requires : tie.Need-place-form-requires
@@ -16,10 +13,9 @@ returns : tie.Need-returns
 unfolding longest slots cellFoot
 returns c = fits-more (c .before .before .place-form .ensures) 832 (omega arith)
 
-pub place-cell-foot-spec : {M : Type 1} → statement M
+pub place-cell-foot-spec : {M : Type 1} → Rattle.sheet_inner.proofs.place_cell_foot.Statement.statement M
 place-cell-foot-spec =
-    tie.close
-    (tie.spec (λ c. search needs) (λ c. search needs) (λ c. search needs) (λ c. search needs) (λ c. search needs)
+    tie.close (tie.spec (λ c. search needs) (λ c. search needs) (λ c. search needs) (λ c. search needs) (λ c. search needs)
     (λ c. search needs) (λ c. search needs) (λ c. search needs) (λ c. search needs) (λ c. search needs)
     (λ c. search needs) (λ c. search needs) (λ c. search needs) (λ c. search needs) place-form-requires
     (λ c. search needs) returns)

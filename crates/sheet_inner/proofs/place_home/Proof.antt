@@ -1,14 +1,11 @@
 -- `sheet_inner::place_home` meets its contract.
-use Prim.Native.Nat.{_≤_, _<_}
-use mathlib.Core.Path.{_≡_, sym, _∙_}
-use native.Mathlib.Omega.{arith}
-use lib.ListN.{length, length-take, length-drop, length-append}
-use lib.Seq.{take-at}
+use Rattle.words.proofs.Needs.{needs, _≤_, _<_, arith, _≡_, sym, _∙_, length, length-take, length-drop, length-append, take-at}
 use Rattle.picture_ring_inner.proofs.Drawing.{turned-long, turned-short, turned-some, turned-below}
 use Rattle.sheet_inner.proofs.Cells.{home-le, home-fits}
-use borrow.Author.Needs.{needs}
-use Rattle.sheet_inner.proofs.place_home.Statement.{statement}
 use Rattle.sheet_inner.proofs.place_home.Tie as tie
+
+abbrev after-least-shift : tie.After-turned2 → tie.After-least-shift
+after-least-shift c = c .before .before .before
 
 least-shift-requires : tie.Need-least-shift-requires
 least-shift-requires c κs = c .before .before .pre .0 .2
@@ -26,8 +23,8 @@ write-turn-requires c κs = (home-le _ _ (c .before .least-shift .ensures) (c .b
 
 array-share-prefix-turned : tie.Need-array-share-prefix-turned
 array-share-prefix-turned c =
-    let w = c .before .before .before .before .before .before .before .args .ring .now in
-    let z = c .before .before .before .before .before .before .before .pre in
+    let w = after-least-shift (c .before) .before .before .before .args .ring .now in
+    let z = after-least-shift (c .before) .before .before .before .pre in
     let e = c .before .before .before .before .least-shift .ensures in
     let t = c .before .before .write-turn .ensures in
     let l = home-le w _ e (z .0 .2) in
@@ -41,8 +38,8 @@ slice-aggregate-place-cell c =
 
 place-cell-requires : tie.Need-place-cell-requires
 place-cell-requires c κs =
-    let w = c .before .before .before .before .before .before .before .before .args .ring .now in
-    let z = c .before .before .before .before .before .before .before .before .pre in
+    let w = after-least-shift (c .before .before) .before .before .before .args .ring .now in
+    let z = after-least-shift (c .before .before) .before .before .before .pre in
     let e = c .before .before .before .before .before .least-shift .ensures in
     let t = c .before .before .before .write-turn .ensures in
     let l = home-le w _ e (z .0 .2) in
@@ -53,16 +50,16 @@ place-cell-requires c κs =
 
 returns : tie.Need-returns
 returns c =
-    let w = c .before .before .before .before .before .before .before .before .before .before .before .args .ring .now in
-    let z = c .before .before .before .before .before .before .before .before .before .before .before .pre in
-    let e = c .before .before .before .before .before .before .before .before .least-shift .ensures in
+    let s = after-least-shift (c .before .before .before .before .before) in
+    let w = s .before .before .before .args .ring .now in
+    let z = s .before .before .before .pre in
+    let e = s .least-shift .ensures in
     let t = c .before .before .before .before .before .before .write-turn .ensures in
     let l = home-le w _ e (z .0 .2) in
     let v = turned-long w _ l _ t in
     home-fits w _ e _ (take-at _ _ (length w) v ∙ t) _ _ _ _ _ _ (c .before .before .place-cell .ensures)
 
-pub place-home-spec : {M : Type 1} → statement M
+pub place-home-spec : {M : Type 1} → Rattle.sheet_inner.proofs.place_home.Statement.statement M
 place-home-spec =
-    tie.close
-    (tie.spec least-shift-requires array-borrow-prefix-turned slice-aggregate-write-turn write-turn-requires
+    tie.close (tie.spec least-shift-requires array-borrow-prefix-turned slice-aggregate-write-turn write-turn-requires
     array-share-prefix-turned slice-aggregate-place-cell place-cell-requires (λ c. search needs) returns)

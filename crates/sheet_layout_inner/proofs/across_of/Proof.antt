@@ -1,9 +1,6 @@
 -- `sheet_layout_inner::across_of` meets its contract.
-use Prim.Native.Nat.{_≤_, _<_}
-use native.Mathlib.Omega.{arith}
+use Rattle.words.proofs.Needs.{needs, _≤_, _<_, arith}
 use Rattle.sheet_layout_inner.proofs.Bounds.{wide, cell-wide}
-use borrow.Author.Needs.{needs}
-use Rattle.sheet_layout_inner.proofs.across_of.Statement.{statement}
 use Rattle.sheet_layout_inner.proofs.across_of.Tie as tie
 
 mul-left : tie.Need-mul-left
@@ -31,8 +28,7 @@ add-result-3 c =
     let a = c .args in
     omega (arith, c .pre .0 .narrow, cell-wide (a .size) (a .columns) (c .pre .0) (a .j))
 
-pub across-of-spec : {M : Type 1} → statement M
+pub across-of-spec : {M : Type 1} → Rattle.sheet_layout_inner.proofs.across_of.Statement.statement M
 across-of-spec =
-    tie.close
-    (tie.spec (λ c. search needs) (λ c. search needs) mul-left sub-left (λ c. search needs) mul-result add-result
+    tie.close (tie.spec (λ c. search needs) (λ c. search needs) mul-left sub-left (λ c. search needs) mul-result add-result
     (λ c. search needs) (λ c. search needs) add-result-3 (λ c. search needs))

@@ -1,11 +1,7 @@
 -- `sheet_layout_inner::per_page` meets its contract.
-use mathlib.Core.Path.{refl}
-use Prim.Native.Nat.{_≤_, _<_}
-use native.Mathlib.Omega.{arith}
+use Rattle.words.proofs.Needs.{needs, _≤_, _<_, arith, refl}
 use Rattle.sheet_spec.proofs.Rows.{per-some}
 use Rattle.sheet_layout_inner.proofs.Bounds.{per-most}
-use borrow.Author.Needs.{needs}
-use Rattle.sheet_layout_inner.proofs.per_page.Statement.{statement}
 use Rattle.sheet_layout_inner.proofs.per_page.Tie as tie
 
 mul-result : tie.Need-mul-result
@@ -18,5 +14,5 @@ returns c =
     let a = c .args in
     (refl, per-some (a .size) (a .columns) (c .pre), per-most (a .size) (a .columns) (c .pre))
 
-pub per-page-spec : {M : Type 1} → statement M
+pub per-page-spec : {M : Type 1} → Rattle.sheet_layout_inner.proofs.per_page.Statement.statement M
 per-page-spec = tie.close (tie.spec (λ c. search needs) (λ c. search needs) (λ c. search needs) mul-result returns)

@@ -1,11 +1,6 @@
 -- `sheet_lines_inner::line_end` meets its contract.
-use native.Mathlib.Omega.{arith}
-use lib.ListN.{length-drop}
-use mathlib.Core.Path.{ap, _∙_}
-use lib.ListN.{length}
+use Rattle.words.proofs.Needs.{needs, arith, ap, _∙_, length-drop, length}
 use Rattle.sheet_lines_inner.proofs.Lines.{line-at, rest-is}
-use borrow.Author.Needs.{needs}
-use Rattle.sheet_lines_inner.proofs.line_end.Statement.{statement}
 use Rattle.sheet_lines_inner.proofs.line_end.Tie as tie
 
 add-result : tie.Need-add-result
@@ -16,7 +11,6 @@ add-result c =
 returns : tie.Need-returns
 returns c = line-at (c .before .before .before .args .s .now) (c .before .before .before .args .at) _ (c .before .before .before .pre) (c .piece-end .ensures)
 
-pub line-end-spec : {M : Type 1} → statement M
+pub line-end-spec : {M : Type 1} → Rattle.sheet_lines_inner.proofs.line_end.Statement.statement M
 line-end-spec =
-    tie.close
-    (tie.spec (λ c. search needs) (λ c. search needs) (λ c. search needs) (λ c κs. search needs) add-result returns)
+    tie.close (tie.spec (λ c. search needs) (λ c. search needs) (λ c. search needs) (λ c κs. search needs) add-result returns)

@@ -1,10 +1,7 @@
 -- `sheet_lines_inner::own_sheet` meets its contract.
-use Prim.Native.Nat.{ℕ}
-use mathlib.Core.Path.{sym, ap}
+use Rattle.words.proofs.Needs.{needs, ℕ, sym, ap}
 use Rattle.sheet_words_spec.specs.Words.{withNumberN}
 use Rattle.sheet_lines_inner.proofs.Lines.{first-long}
-use borrow.Author.Needs.{needs}
-use Rattle.sheet_lines_inner.proofs.own_sheet.Statement.{statement}
 use Rattle.sheet_lines_inner.proofs.own_sheet.Tie as tie
 
 returns : tie.Need-returns
@@ -12,7 +9,6 @@ returns c =
     let a = c .before .before .args in
     ap (λ (x : ℕ). withNumberN x (a .sheet)) (sym (first-long (a .s .now) _ (c .piece-end .ensures)))
 
-pub own-sheet-spec : {M : Type 1} → statement M
+pub own-sheet-spec : {M : Type 1} → Rattle.sheet_lines_inner.proofs.own_sheet.Statement.statement M
 own-sheet-spec =
-    tie.close
-    (tie.spec (λ c κs. search needs) returns)
+    tie.close (tie.spec (λ c κs. search needs) returns)

@@ -1,9 +1,6 @@
 -- `sheet_own_target_inner::place_line` meets its contract.
-use native.Mathlib.Omega.{arith}
-use lib.ListN.{length, length-take}
+use Rattle.words.proofs.Needs.{needs, arith, length, length-take}
 use Rattle.sheet_own_target_inner.proofs.Targets.{line-short}
-use borrow.Author.Needs.{needs}
-use Rattle.sheet_own_target_inner.proofs.place_line.Statement.{statement}
 use Rattle.sheet_own_target_inner.proofs.place_line.Tie as tie
 
 array-borrow-prefix-ring : tie.Need-array-borrow-prefix-ring
@@ -21,8 +18,7 @@ place-spelt-requires c κs =
     let x = c .before .before .before .before in
     (x .pre .0, (simp length-take (omega (arith, line-short (x .args .sheet) (x .args .line .now) (x .args .i) (x .pre .0))), x .pre .1))
 
-pub place-line-spec : {M : Type 1} → statement M
+pub place-line-spec : {M : Type 1} → Rattle.sheet_own_target_inner.proofs.place_line.Statement.statement M
 place-line-spec =
-    tie.close
-    (tie.spec array-borrow-prefix-ring slice-aggregate-place-spelt place-spelt-requires (λ c. search needs)
+    tie.close (tie.spec array-borrow-prefix-ring slice-aggregate-place-spelt place-spelt-requires (λ c. search needs)
     (λ c. search needs))

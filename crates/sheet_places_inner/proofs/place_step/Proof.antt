@@ -1,10 +1,11 @@
 -- `sheet_places_inner::place_step` meets its contract.
-use native.Mathlib.Omega.{arith}
+use Rattle.words.proofs.Needs.{needs, arith}
 use Rattle.picture_spec.specs.declared.Drawn.the-variants.{Whole, Refused}
 use Rattle.sheet_places_inner.proofs.Places.{step-placed, step-never}
-use borrow.Author.Needs.{needs}
-use Rattle.sheet_places_inner.proofs.place_step.Statement.{statement}
 use Rattle.sheet_places_inner.proofs.place_step.Tie as tie
+
+abbrev start : tie.After-buf → tie.Start
+start c = c .before .before .before .before .before .before
 
 mul-from : tie.Need-mul-from
 mul-from c = omega (arith, c .before .before .pre .0 .most, c .before .before .pre .1 .0)
@@ -26,32 +27,21 @@ add-target c = omega (arith, c .before .before .before .pre .0 .most, c .before 
 
 returns : tie.Need-returns
 returns c =
-    step-placed (c .before .before .before .before .before .before .before .before .before .before .args .sheet)
-    (c .before .before .before .before .before .before .before .before .before .before .args .places .now)
-    (c .before .before .before .before .before .before .before .before .before .before .args .i) _
-    (c .before .before .before .before .before .before .before .before .before .before .args .buf .now)
+    let s = start (c .before .before .before .before) in
+    step-placed (s .args .sheet) (s .args .places .now) (s .args .i) _ (s .args .buf .now)
     (c .before .before .before .before .before .target .result) (Whole (c .before .m .given .0 .0)) _
     (c .before .before .before .before .before .target .ensures) (c .before .m .given .1)
 
 returns-2 : tie.Need-returns-2
 returns-2 c =
-    let s = step-placed (c .before .before .before .before .before .before .before .before .before .args .sheet)
-    (c .before .before .before .before .before .before .before .before .before .args .places .now)
-    (c .before .before .before .before .before .before .before .before .before .args .i) _
-    (c .before .before .before .before .before .before .before .before .before .args .buf .now)
+    let s1 = start (c .before .before .before) in
+    let s = step-placed (s1 .args .sheet) (s1 .args .places .now) (s1 .args .i) _ (s1 .args .buf .now)
     (c .before .before .before .before .target .result) (Refused (c .enum-told .given .0 .0)) _
     (c .before .before .before .before .target .ensures) (c .enum-told .given .1) in
-    absurd (step-never (c .before .before .before .before .before .before .before .before .before .args .sheet)
-    (c .before .before .before .before .before .before .before .before .before .args .places .now)
-    (c .before .before .before .before .before .before .before .before .before .args .count)
-    (c .before .before .before .before .before .before .before .before .before .args .i)
-    (c .before .before .before .before .before .before .before .before .before .pre .1 .0 .0)
-    (c .before .before .before .before .before .before .before .before .before .args .buf .now)
-    (c .before .before .before .before .before .before .before .before .before .pre .1 .0 .1)
-    (c .before .before .before .before .before .before .before .before .before .pre .1 .1) (c .enum-told .given .0 .0) (s .0))
+    absurd (step-never (s1 .args .sheet) (s1 .args .places .now) (s1 .args .count) (s1 .args .i) (s1 .pre .1 .0 .0)
+    (s1 .args .buf .now) (s1 .pre .1 .0 .1) (s1 .pre .1 .1) (c .enum-told .given .0 .0) (s .0))
 
-pub place-step-spec : {M : Type 1} → statement M
+pub place-step-spec : {M : Type 1} → Rattle.sheet_places_inner.proofs.place_step.Statement.statement M
 place-step-spec =
-    tie.close
-    (tie.spec mul-from add-to sub-target part-target-start part-target-end add-target (λ c κs. search needs)
+    tie.close (tie.spec mul-from add-to sub-target part-target-start part-target-end add-target (λ c κs. search needs)
     (λ c. search needs) (λ c. search needs) (λ c. search needs) returns (λ c. search needs) returns-2)

@@ -1,8 +1,6 @@
 -- `sheet_print_inner::judge` meets its contract.
-use mathlib.Core.Path.{_≡_, refl, sym, ap, _∙_}
+use Rattle.words.proofs.Needs.{needs, _≡_, refl, sym, ap, _∙_}
 use Rattle.sheet_print_inner.proofs.Ready.{picked-places, judge-refused, judge-none, judge-checked}
-use borrow.Author.Needs.{needs}
-use Rattle.sheet_print_inner.proofs.judge.Statement.{statement}
 use Rattle.sheet_print_inner.proofs.judge.Tie as tie
 
 returns : tie.Need-returns
@@ -31,7 +29,6 @@ returns-3 c =
     (c .before .before .before .before .before .args .taken) (c .before .before .before .before .before .args .full) c′ (c .check-targets .result)
     (c .before .if1 .left) (c .check-targets .ensures)
 
-pub judge-spec : {M : Type 1} → statement M
+pub judge-spec : {M : Type 1} → Rattle.sheet_print_inner.proofs.judge.Statement.statement M
 judge-spec =
-    tie.close
-    (tie.spec (λ c. search needs) (λ c. search needs) returns check-targets-requires returns-2 returns-3)
+    tie.close (tie.spec (λ c. search needs) (λ c. search needs) returns check-targets-requires returns-2 returns-3)

@@ -1,8 +1,6 @@
 -- `sheet_print_inner::prepare_set` meets its contract.
-use mathlib.Core.Path.{refl}
+use Rattle.words.proofs.Needs.{needs, refl}
 use Rattle.sheet_print_inner.proofs.Ready.{set-prepared}
-use borrow.Author.Needs.{needs}
-use Rattle.sheet_print_inner.proofs.prepare_set.Statement.{statement}
 use Rattle.sheet_print_inner.proofs.prepare_set.Tie as tie
 
 judge-requires : tie.Need-judge-requires
@@ -13,8 +11,7 @@ returns c =
     let x = c .before .judge in
     (refl, rw (c .set-answer .ensures) (set-prepared (c .before .before .before .before .before .before .args .sheet) _ _ (x .result) (x .ensures)))
 
-pub prepare-set-spec : {M : Type 1} → statement M
+pub prepare-set-spec : {M : Type 1} → Rattle.sheet_print_inner.proofs.prepare_set.Statement.statement M
 prepare-set-spec =
-    tie.close
-    (tie.spec (λ c κs. search needs) (λ c κs. search needs) (λ c. search needs) judge-requires
+    tie.close (tie.spec (λ c κs. search needs) (λ c κs. search needs) (λ c. search needs) judge-requires
     (λ c κs. search needs) returns)

@@ -1,9 +1,6 @@
 -- `sheet_program_inner::print_refusal` is safe: the line lies within the buffer.
-use native.Mathlib.Omega.{arith}
-use lib.ListN.{length, length-take}
+use Rattle.words.proofs.Needs.{needs, arith, length, length-take}
 use Rattle.sheet_program_inner.proofs.Output.{line-inside}
-use borrow.Author.Needs.{needs}
-use Rattle.sheet_program_inner.proofs.print_refusal.Statement.{statement}
 use Rattle.sheet_program_inner.proofs.print_refusal.Tie as tie
 
 place-refusal-requires : tie.Need-place-refusal-requires
@@ -20,8 +17,7 @@ slice-aggregate-write-all c =
     (c .before .before .before .before .before .before .pre) (c .before .before .before .place-refusal .ensures) in
     simp length-take (omega (arith, l))
 
-pub print-refusal-spec : {M : Type 1} → statement M
+pub print-refusal-spec : {M : Type 1} → Rattle.sheet_program_inner.proofs.print_refusal.Statement.statement M
 print-refusal-spec =
-    tie.close
-    (tie.spec place-refusal-requires slice-reshare-prefix-write-all slice-aggregate-write-all (λ c κs. search needs)
+    tie.close (tie.spec place-refusal-requires slice-reshare-prefix-write-all slice-aggregate-write-all (λ c κs. search needs)
     (λ c. search needs) (λ c. search needs))

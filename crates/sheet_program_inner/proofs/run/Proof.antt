@@ -1,9 +1,6 @@
 -- `sheet_program_inner::run` is safe: what it says lies within the buffer.
-use native.Mathlib.Omega.{arith}
-use lib.ListN.{length, length-take}
+use Rattle.words.proofs.Needs.{needs, arith, length, length-take}
 use Rattle.program_ending_inner.proofs.Unique.{say-within}
-use borrow.Author.Needs.{needs}
-use Rattle.sheet_program_inner.proofs.run.Statement.{statement}
 use Rattle.sheet_program_inner.proofs.run.Tie as tie
 
 print-input-requires : tie.Need-print-input-requires
@@ -21,9 +18,8 @@ array-share-prefix-buf c = omega (arith, say-within _ _ _ _ (c .before .say .ens
 slice-aggregate-write-all : tie.Need-slice-aggregate-write-all
 slice-aggregate-write-all c = simp length-take (omega (arith, say-within _ _ _ _ (c .before .before .say .ensures), c .before .before .say .kept))
 
-pub run-spec : {M : Type 1} → statement M
+pub run-spec : {M : Type 1} → Rattle.sheet_program_inner.proofs.run.Statement.statement M
 run-spec =
-    tie.close
-    (tie.spec (λ c κs. search needs) (λ c. search needs) (λ c κs. search needs) (λ c. search needs)
+    tie.close (tie.spec (λ c κs. search needs) (λ c. search needs) (λ c κs. search needs) (λ c. search needs)
     (λ c. search needs) (λ c. search needs) print-input-requires (λ c κs. search needs) (λ c. search needs)
     (λ c κs. search needs) array-share-prefix-buf slice-aggregate-write-all (λ c κs. search needs) (λ c. search needs))

@@ -1,8 +1,6 @@
 -- `sheet_words_inner::finish` meets its contract.
-use mathlib.Core.Path.{_≡_, refl, sym, ap, _∙_}
+use Rattle.words.proofs.Needs.{needs, _≡_, refl, sym, ap, _∙_}
 use Rattle.sheet_words_spec.specs.Words.{fitted}
-use borrow.Author.Needs.{needs}
-use Rattle.sheet_words_inner.proofs.finish.Statement.{statement}
 use Rattle.sheet_words_inner.proofs.finish.Tie as tie
 
 returns : tie.Need-returns
@@ -29,10 +27,9 @@ returns-7 c = rw (c .enum-told7 .given .1) (λ q x. x)
 returns-8 : tie.Need-returns-8
 returns-8 c = rw (c .enum-told8 .given .1) (λ q x. x)
 
-pub finish-spec : {M : Type 1} → statement M
+pub finish-spec : {M : Type 1} → Rattle.sheet_words_inner.proofs.finish.Statement.statement M
 finish-spec =
-    tie.close
-    (tie.spec (λ c. search needs) (λ c. search needs) (λ c κs. search needs) (λ c κs. search needs)
+    tie.close (tie.spec (λ c. search needs) (λ c. search needs) (λ c κs. search needs) (λ c κs. search needs)
     (λ c. search needs) (λ c. search needs) (λ c. search needs) (λ c κs. search needs) (λ c. search needs)
     (λ c. search needs) (λ c. search needs) returns returns-2 returns-3 returns-4 returns-5 returns-6 returns-7
     returns-8)

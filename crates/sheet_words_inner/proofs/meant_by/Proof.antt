@@ -1,7 +1,5 @@
 -- `sheet_words_inner::meant_by` meets its contract.
-use mathlib.Core.Path.{_≡_, refl, sym, ap, _∙_}
-use borrow.Author.Needs.{needs}
-use Rattle.sheet_words_inner.proofs.meant_by.Statement.{statement}
+use Rattle.words.proofs.Needs.{needs, _≡_, refl, sym, ap, _∙_}
 use Rattle.sheet_words_inner.proofs.meant_by.Tie as tie
 
 returns : tie.Need-returns
@@ -32,10 +30,9 @@ returns-6 c =
     let e = c .before .enum-told5 .given .1 in
     rw e (rw e at (c .meant-name5 .ensures))
 
-pub meant-by-spec : {M : Type 1} → statement M
+pub meant-by-spec : {M : Type 1} → Rattle.sheet_words_inner.proofs.meant_by.Statement.statement M
 meant-by-spec =
-    tie.close
-    (tie.spec (λ c. search needs) (λ c κs. search needs) (λ c. search needs) (λ c κs. search needs)
+    tie.close (tie.spec (λ c. search needs) (λ c κs. search needs) (λ c. search needs) (λ c κs. search needs)
     (λ c. search needs) (λ c κs. search needs) (λ c. search needs) (λ c κs. search needs) (λ c. search needs)
     (λ c κs. search needs) (λ c. search needs) (λ c κs. search needs) returns returns-2 returns-3 returns-4 returns-5
     returns-6)

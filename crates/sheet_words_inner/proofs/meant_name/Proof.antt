@@ -1,8 +1,6 @@
 -- `sheet_words_inner::meant_name` meets its contract.
-use mathlib.Core.Path.{_≡_, refl, sym, ap, _∙_}
+use Rattle.words.proofs.Needs.{needs, _≡_, refl, sym, ap, _∙_}
 use Rattle.sheet_words_spec.specs.Words.{wishFor}
-use borrow.Author.Needs.{needs}
-use Rattle.sheet_words_inner.proofs.meant_name.Statement.{statement}
 use Rattle.sheet_words_inner.proofs.meant_name.Tie as tie
 
 returns : tie.Need-returns
@@ -29,10 +27,9 @@ returns-7 c = rw (c .enum-told7 .given .1) refl
 returns-8 : tie.Need-returns-8
 returns-8 c = rw (c .enum-told8 .given .1) refl
 
-pub meant-name-spec : {M : Type 1} → statement M
+pub meant-name-spec : {M : Type 1} → Rattle.sheet_words_inner.proofs.meant_name.Statement.statement M
 meant-name-spec =
-    tie.close
-    (tie.spec (λ c. search needs) (λ c. search needs) (λ c κs. search needs) (λ c κs. search needs)
+    tie.close (tie.spec (λ c. search needs) (λ c. search needs) (λ c κs. search needs) (λ c κs. search needs)
     (λ c. search needs) (λ c. search needs) (λ c. search needs) (λ c κs. search needs) (λ c. search needs)
     (λ c. search needs) (λ c. search needs) returns returns-2 returns-3 returns-4 returns-5 returns-6 returns-7
     returns-8)

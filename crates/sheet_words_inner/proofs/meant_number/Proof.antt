@@ -1,7 +1,5 @@
 -- `sheet_words_inner::meant_number` meets its contract.
-use mathlib.Core.Path.{refl}
-use borrow.Author.Needs.{needs}
-use Rattle.sheet_words_inner.proofs.meant_number.Statement.{statement}
+use Rattle.words.proofs.Needs.{needs, refl}
 use Rattle.sheet_words_inner.proofs.meant_number.Tie as tie
 
 returns : tie.Need-returns
@@ -28,8 +26,7 @@ returns-7 c = rw (c .enum-told7 .given .1) refl
 returns-8 : tie.Need-returns-8
 returns-8 c = rw (c .enum-told8 .given .1) refl
 
-pub meant-number-spec : {M : Type 1} → statement M
+pub meant-number-spec : {M : Type 1} → Rattle.sheet_words_inner.proofs.meant_number.Statement.statement M
 meant-number-spec =
-    tie.close
-    (tie.spec (λ c. search needs) (λ c. search needs) (λ c. search needs) (λ c. search needs) (λ c. search needs)
+    tie.close (tie.spec (λ c. search needs) (λ c. search needs) (λ c. search needs) (λ c. search needs) (λ c. search needs)
     (λ c. search needs) (λ c. search needs) (λ c. search needs) returns returns-2 returns-3 returns-4 returns-5 returns-6 returns-7 returns-8)

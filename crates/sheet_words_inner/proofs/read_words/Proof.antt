@@ -1,13 +1,8 @@
 -- `sheet_words_inner::read_words` meets its contract: the words from the place on mean what all of them mean behind the first.
-use Prim.Native.Nat.{_+_, _-_, _≤_}
-use mathlib.Core.Path.{_≡_, refl, sym, ap, _∙_}
-use native.Mathlib.Omega.{arith}
-use lib.ListN.{length}
+use Rattle.words.proofs.Needs.{needs, _+_, _-_, _≤_, arith, _≡_, refl, sym, ap, _∙_, length}
 use Rattle.sheet_words_spec.specs.Words.{asked}
 use Rattle.sheet_words_inner.specs.Says.{wordsFrom}
 use Rattle.sheet_words_inner.proofs.Reading.{asked-on, asked-end}
-use borrow.Author.Needs.{needs}
-use Rattle.sheet_words_inner.proofs.read_words.Statement.{statement}
 use Rattle.sheet_words_inner.proofs.read_words.Tie as tie
 
 abbrev Inv-loop : tie.InvT-loop
@@ -48,8 +43,7 @@ loop-again c =
 returns : tie.Need-returns Inv-loop μ-loop
 returns c = sym (asked-end (c .before .before .before .args .t .now) (c .before .loop .at) (c .before .loop .a) (omega (arith, c .loop-test .left))) ∙ c .before .loop .inv .1
 
-pub read-words-spec : {M : Type 1} → statement M
+pub read-words-spec : {M : Type 1} → Rattle.sheet_words_inner.proofs.read_words.Statement.statement M
 read-words-spec =
-    tie.close
-    (tie.spec Inv-loop μ-loop loop-holds word-end-requires sub-word-of part-word-of-start part-word-of-end
+    tie.close (tie.spec Inv-loop μ-loop loop-holds word-end-requires sub-word-of part-word-of-start part-word-of-end
     (λ c κs. search needs) (λ c κs. search needs) add-at loop-less loop-again returns)

@@ -1,9 +1,7 @@
 -- `sheet_words_inner::wish_for` meets its contract.
-use mathlib.Core.Path.{_≡_, refl, sym, ap, _∙_}
+use Rattle.words.proofs.Needs.{needs, _≡_, refl, sym, ap, _∙_}
 use Rattle.sheet_words_spec.specs.declared.Awaits.the-variants as A
 use Rattle.sheet_words_spec.specs.Words.{awaiting}
-use borrow.Author.Needs.{needs}
-use Rattle.sheet_words_inner.proofs.wish_for.Statement.{statement}
 use Rattle.sheet_words_inner.proofs.wish_for.Tie as tie
 
 returns : tie.Need-returns
@@ -24,9 +22,8 @@ returns-5 c = rw (c .enum-told5 .given .1) refl
 returns-6 : tie.Need-returns-6
 returns-6 c = rw (c .enum-told6 .given .1) refl
 
-pub wish-for-spec : {M : Type 1} → statement M
+pub wish-for-spec : {M : Type 1} → Rattle.sheet_words_inner.proofs.wish_for.Statement.statement M
 wish-for-spec =
-    tie.close
-    (tie.spec (λ c. search needs) (λ c. search needs) (λ c κs. search needs) (λ c. search needs)
+    tie.close (tie.spec (λ c. search needs) (λ c. search needs) (λ c κs. search needs) (λ c. search needs)
     (λ c κs. search needs) (λ c. search needs) (λ c. search needs) (λ c. search needs) returns returns-2 returns-3
     returns-4 returns-5 returns-6)

@@ -1,13 +1,7 @@
 -- `sheets::check_target` meets its contract.
-use Prim.Native.Nat.{_≤_, _<_}
-use mathlib.Core.Path.{refl}
-use mathlib.Core.Logic.{inl, inr}
-use native.Mathlib.Omega.{arith}
-use Rattle.refusal.specs.Order.{Passed, Given}
-use Rattle.refusal.specs.Calls.{oneReading}
+use Rattle.words.proofs.Needs.{needs, _≤_, _<_, arith, refl, inl, inr}
+use Rattle.refusal.specs.{Order.Passed, Order.Given, Calls.oneReading}
 use Rattle.sheets.proofs.Fit.{fit-no, fit-yes}
-use borrow.Author.Needs.{needs}
-use Rattle.sheets.proofs.check_target.Statement.{statement}
 use Rattle.sheets.proofs.check_target.Tie as tie
 
 enum-told : tie.Need-enum-told
@@ -21,29 +15,28 @@ returns c =
 
 returns-2 : tie.Need-returns-2
 returns-2 c =
-    let a = c .before .before .before .before .before .before .before .args in
+    let d = c .before .before .before .before .before .before in
+    let a = d .before .args in
     let p : Passed (oneReading (a .ring .now) (a .sheet .k)) = rw (c .before .before .before .enum-told .given .1) at (c .before .before .before .before .before .check-reading .ensures) in
     inl (inl (inr ((p, c .before .if1 .left), (refl, λ h. omega (arith, h, c .if2 .taken)))))
 
 returns-3 : tie.Need-returns-3
 returns-3 c =
-    let a = c .before .before .before .before .before .before .before .before .before .args in
+    let d = c .before .before .before .before .before .before in
+    let a = d .before .before .before .args in
     let p : Passed (oneReading (a .ring .now) (a .sheet .k)) = rw (c .before .before .before .before .before .enum-told .given .1) at
-    (c .before .before .before .before .before .before .before .check-reading .ensures) in
+    (d .before .check-reading .ensures) in
     inl (inr (
       ((p, c .before .before .before .if1 .left), omega (arith, c .before .before .if2 .left)),
-      (
-        refl,
-        fit-no _ _ (c .before .fitting .result) (c .if3 .taken)
-            (c .before .fitting .ensures),
-      ),
+      (refl, fit-no _ _ (c .before .fitting .result) (c .if3 .taken) (c .before .fitting .ensures)),
     ))
 
 returns-4 : tie.Need-returns-4
 returns-4 c =
-    let a = c .before .before .before .before .before .before .before .before .before .before .args in
+    let d = c .before .before .before .before .before .before in
+    let a = d .before .before .before .before .args in
     let p : Passed (oneReading (a .ring .now) (a .sheet .k)) = rw (c .before .before .before .before .before .before .enum-told .given .1) at
-    (c .before .before .before .before .before .before .before .before .check-reading .ensures) in
+    (d .before .before .check-reading .ensures) in
     inr (
       (
         ((p, c .before .before .before .before .if1 .left), omega (arith, c .before .before .before .if2 .left)),
@@ -61,9 +54,10 @@ returns-5 c =
 
 returns-6 : tie.Need-returns-6
 returns-6 c =
-    let a = c .before .before .before .before .before .before .before .before .before .before .args in
+    let d = c .before .before .before .before .before .before in
+    let a = d .before .before .before .before .args in
     let p : Passed (oneReading (a .ring .now) (a .sheet .k)) = rw (c .before .before .before .before .before .before .enum-told .given .1) at
-    (c .before .before .before .before .before .before .before .before .check-reading .ensures) in (
+    (d .before .before .check-reading .ensures) in (
       (
         ((p, c .before .before .before .before .if1 .left), omega (arith, c .before .before .before .if2 .left)),
         fit-yes _ _ (c .before .before .fitting .result) (c .before .if3 .left)
@@ -72,8 +66,7 @@ returns-6 c =
       c .if4 .left,
     )
 
-pub check-target-spec : {M : Type 1} → statement M
+pub check-target-spec : {M : Type 1} → Rattle.sheets.proofs.check_target.Statement.statement M
 check-target-spec =
-    tie.close
-    (tie.spec (λ c κs. search needs) (λ c. search needs) enum-told returns returns-2 (λ c κs. search needs) returns-3
+    tie.close (tie.spec (λ c κs. search needs) (λ c. search needs) enum-told returns returns-2 (λ c κs. search needs) returns-3
     returns-4 returns-5 returns-6)

@@ -1,13 +1,7 @@
 -- `sheets::target` meets its contract.
-use Prim.Native.Nat.{_≤_, _<_}
-use mathlib.Core.Path.{refl}
-use mathlib.Core.Logic.{inl, inr}
-use native.Mathlib.Omega.{arith}
+use Rattle.words.proofs.Needs.{needs, _≤_, _<_, arith, refl, inl, inr, length}
 use Rattle.refusal.specs.Order.{Passed, Given}
-use lib.ListN.{length}
 use Rattle.sheet_spec.specs.Says.{sheetOrder}
-use borrow.Author.Needs.{needs}
-use Rattle.sheets.proofs.target.Statement.{statement}
 use Rattle.sheets.proofs.target.Tie as tie
 
 enum-told : tie.Need-enum-told
@@ -30,14 +24,14 @@ returns c =
 
 returns-2 : tie.Need-returns-2
 returns-2 c =
-    let a = c .before .before .before .before .before .before .before .before .before .args in
+    let d = c .before .before .before .before .before .before in
+    let a = d .before .before .before .args in
     let p : Passed (sheetOrder (a .sheet) (a .ring .now) (a .i) (length (a .buf .now))) = rw (c .before .before .before .before .enum-told .given .1) at
     (c .before .before .before .before .before .before .check-target .ensures) in
     let f = c .before .before .place-target .ensures in
     (p, f .placed, omega (arith, f .short, f .placed .next))
 
-pub target-spec : {M : Type 1} → statement M
+pub target-spec : {M : Type 1} → Rattle.sheets.proofs.target.Statement.statement M
 target-spec =
-    tie.close
-    (tie.spec (λ c κs. search needs) (λ c. search needs) enum-told place-target-requires returns (λ c. search needs)
+    tie.close (tie.spec (λ c κs. search needs) (λ c. search needs) enum-told place-target-requires returns (λ c. search needs)
     returns-2)

@@ -1,7 +1,6 @@
 -- `sight::sight` meets its contract: what the checks answer, or else what is seen.
-use borrow.Author.Needs.{needs}
+use Rattle.words.proofs.Needs.{needs}
 use Rattle.sight.proofs.Passing.{passed-seen}
-use Rattle.sight.proofs.sight.Statement.{statement}
 use Rattle.sight.proofs.sight.Tie as tie
 
 enum-told : tie.Need-enum-told
@@ -18,6 +17,6 @@ returns-2 c =
     let a = c .before .before .before .before .before .before .args in
     passed-seen (a .rings .now) (a .reading .now) (a .k) (a .most) (c .look .result) (rw (c .before .enum-told .given .1) at (c .before .before .before .check-rings .ensures)) (c .look .ensures)
 
-pub sight-spec : {M : Type 1} → statement M
+pub sight-spec : {M : Type 1} → Rattle.sight.proofs.sight.Statement.statement M
 sight-spec =
     tie.close (tie.spec (λ c κs. search needs) (λ c. search needs) enum-told look-requires returns returns-2)

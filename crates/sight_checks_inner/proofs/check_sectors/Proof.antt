@@ -1,9 +1,6 @@
 -- `sight_checks_inner::check_sectors` meets its contract: the first scan settles the reading's sectors, and the second those of the rings.
-use mathlib.Core.Path.{refl}
-use native.Mathlib.Omega.{arith}
+use Rattle.words.proofs.Needs.{needs, arith, refl}
 use Rattle.check_readings_inner.proofs.Sectors.{former-bad, former-good, latter-bad, latter-good}
-use borrow.Author.Needs.{needs}
-use Rattle.sight_checks_inner.proofs.check_sectors.Statement.{statement}
 use Rattle.sight_checks_inner.proofs.check_sectors.Tie as tie
 
 returns : tie.Need-returns
@@ -36,6 +33,6 @@ returns-3 c =
     (c .before .before .before .before .before .before .args .rings .now) (c .before .before .before .before .before .before .args .k) _
     (c .before .before .before .first-bad .ensures) (c .before .before .if1 .left)) _ (c .before .first-bad2 .ensures) (c .if2 .left)
 
-pub check-sectors-spec : {M : Type 1} → statement M
+pub check-sectors-spec : {M : Type 1} → Rattle.sight_checks_inner.proofs.check_sectors.Statement.statement M
 check-sectors-spec = tie.close (tie.spec (λ c κs. search needs) returns (λ c κs. search needs) add-t10 returns-2
     returns-3)

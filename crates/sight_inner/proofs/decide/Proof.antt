@@ -1,8 +1,6 @@
 -- `sight_inner::decide` meets its contract: what is near from the front and what from behind, put together (Both).
-use lib.ListN.{length}
-use borrow.Author.Needs.{needs}
+use Rattle.words.proofs.Needs.{needs, length}
 use Rattle.sight_inner.proofs.Both.{alone-inside, back-some, back-fits, many-front, many-behind, one-each, nobody, seen-front, seen-back}
-use Rattle.sight_inner.proofs.decide.Statement.{statement}
 use Rattle.sight_inner.proofs.decide.Tie as tie
 
 which-near-requires : tie.Need-which-near-requires
@@ -19,8 +17,9 @@ enum-told c = search needs
 
 nearest-to-requires : tie.Need-nearest-to-requires
 nearest-to-requires c κs =
-    let a = c .before .before .before .before .before .before .before .before .before .before .args in
-    let p = c .before .before .before .before .before .before .before .before .before .before .pre in
+    let d = c .before .before .before .before .before .before in
+    let a = d .before .before .before .before .args in
+    let p = d .before .before .before .before .pre in
     let f = c .before .before .before .before .before .before .which-near in
     let g = c .before .before .before .before .before .which-near2 in
     let o = c .before .before .before .front .given in
@@ -28,8 +27,9 @@ nearest-to-requires c κs =
 
 nearest-to-requires-2 : tie.Need-nearest-to-requires-2
 nearest-to-requires-2 c κs =
-    let a = c .before .before .before .before .before .before .before .before .before .before .args in
-    let p = c .before .before .before .before .before .before .before .before .before .before .pre in
+    let d = c .before .before .before .before .before .before in
+    let a = d .before .before .before .before .args in
+    let p = d .before .before .before .before .pre in
     let f = c .before .before .before .before .before .before .which-near in
     let g = c .before .before .before .before .before .which-near2 in
     let o = c .before .behind .given in (
@@ -40,24 +40,27 @@ nearest-to-requires-2 c κs =
 
 returns : tie.Need-returns
 returns c =
-    let a = c .before .before .before .before .before .before .before .args in
-    let p = c .before .before .before .before .before .before .before .pre in
+    let d = c .before .before .before .before .before .before in
+    let a = d .before .args in
+    let p = d .before .pre in
     let f = c .before .before .before .which-near in
     let g = c .before .before .which-near2 in
     many-front (a .most) (a .rings .now) (a .reading .now) (a .back .now) (p .0) (p .2) (rw (c .enum-told .given .1) at (f .ensures))
 
 returns-2 : tie.Need-returns-2
 returns-2 c =
-    let a = c .before .before .before .before .before .before .before .before .before .before .args in
-    let p = c .before .before .before .before .before .before .before .before .before .before .pre in
+    let d = c .before .before .before .before .before .before in
+    let a = d .before .before .before .before .args in
+    let p = d .before .before .before .before .pre in
     let f = c .before .before .before .before .before .before .which-near in
     let g = c .before .before .before .before .before .which-near2 in
     many-behind (a .most) (a .rings .now) (a .reading .now) (a .back .now) (p .0) (p .2) (rw (c .enum-told2 .given .1) at (g .ensures))
 
 returns-3 : tie.Need-returns-3
 returns-3 c =
-    let a = c .before .before .before .before .before .before .before .before .before .before .args in
-    let p = c .before .before .before .before .before .before .before .before .before .before .pre in
+    let d = c .before .before .before .before .before .before in
+    let a = d .before .before .before .before .args in
+    let p = d .before .before .before .before .pre in
     let f = c .before .before .before .before .before .before .which-near in
     let g = c .before .before .before .before .before .which-near2 in
     let o = c .before .before .before .front .given in
@@ -66,9 +69,10 @@ returns-3 c =
 
 returns-4 : tie.Need-returns-4
 returns-4 c =
-    let a = c .before .before .before .before .before .before .before .before .before .before .before .args in
-    let p = c .before .before .before .before .before .before .before .before .before .before .before .pre in
-    let f = c .before .before .before .before .before .before .before .which-near in
+    let d = c .before .before .before .before .before .before in
+    let a = d .before .before .before .before .before .args in
+    let p = d .before .before .before .before .before .pre in
+    let f = d .before .which-near in
     let g = c .before .before .before .before .before .before .which-near2 in
     let o = c .before .before .before .before .front .given in
     seen-front (a .most) (a .rings .now) (a .reading .now) (a .back .now) (p .0) (p .2) (o .0 .0) _ _ (rw (o .1) at (f .ensures))
@@ -76,17 +80,19 @@ returns-4 c =
 
 returns-5 : tie.Need-returns-5
 returns-5 c =
-    let a = c .before .before .before .before .before .before .before .before .before .args in
-    let p = c .before .before .before .before .before .before .before .before .before .pre in
+    let d = c .before .before .before .before .before .before in
+    let a = d .before .before .before .args in
+    let p = d .before .before .before .pre in
     let f = c .before .before .before .before .before .which-near in
     let g = c .before .before .before .before .which-near2 in
     many-behind (a .most) (a .rings .now) (a .reading .now) (a .back .now) (p .0) (p .2) (rw (c .enum-told6 .given .1) at (g .ensures))
 
 returns-6 : tie.Need-returns-6
 returns-6 c =
-    let a = c .before .before .before .before .before .before .before .before .before .before .before .args in
-    let p = c .before .before .before .before .before .before .before .before .before .before .before .pre in
-    let f = c .before .before .before .before .before .before .before .which-near in
+    let d = c .before .before .before .before .before .before in
+    let a = d .before .before .before .before .before .args in
+    let p = d .before .before .before .before .before .pre in
+    let f = d .before .which-near in
     let g = c .before .before .before .before .before .before .which-near2 in
     let o = c .before .before .behind .given in
     seen-back (a .most) (a .rings .now) (a .reading .now) (a .back .now) (p .0) (p .2) (o .0 .0) _ _
@@ -94,16 +100,16 @@ returns-6 c =
 
 returns-7 : tie.Need-returns-7
 returns-7 c =
-    let a = c .before .before .before .before .before .before .before .before .before .args in
-    let p = c .before .before .before .before .before .before .before .before .before .pre in
+    let d = c .before .before .before .before .before .before in
+    let a = d .before .before .before .args in
+    let p = d .before .before .before .pre in
     let f = c .before .before .before .before .before .which-near in
     let g = c .before .before .before .before .which-near2 in
     nobody (a .most) (a .rings .now) (a .reading .now) (a .back .now) (p .0) (p .2) (rw (c .before .before .enum-told5 .given .1) at (f .ensures)) (rw (c .enum-told7 .given .1) at (g .ensures))
 
-pub decide-spec : {M : Type 1} → statement M
+pub decide-spec : {M : Type 1} → Rattle.sight_inner.proofs.decide.Statement.statement M
 decide-spec =
-    tie.close
-    (tie.spec which-near-requires which-near-requires-2 enum-told (λ c. search needs) (λ c. search needs)
+    tie.close (tie.spec which-near-requires which-near-requires-2 enum-told (λ c. search needs) (λ c. search needs)
     (λ c. search needs) (λ c. search needs) nearest-to-requires (λ c. search needs) (λ c. search needs)
     (λ c. search needs) nearest-to-requires-2 (λ c. search needs) returns returns-2 returns-3 returns-4 returns-5
     returns-6 returns-7)

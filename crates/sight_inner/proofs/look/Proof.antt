@@ -1,12 +1,5 @@
 -- `sight_inner::look` meets its contract: the reading reversed stands at the front of the array.
-use mathlib.Core.Path.{sym, ap, _∙_}
-use Prim.Native.Nat.{ℕ}
-use mathlib.Core.List.{List}
-use native.Mathlib.Omega.{arith}
-use lib.ListN.{length, length-append, length-take, length-drop, length-reverse}
-use lib.Seq.{take-at}
-use borrow.Author.Needs.{needs}
-use Rattle.sight_inner.proofs.look.Statement.{statement}
+use Rattle.words.proofs.Needs.{needs, ℕ, arith, sym, ap, _∙_, List, length, length-append, length-take, length-drop, length-reverse, take-at}
 use Rattle.sight_inner.proofs.look.Tie as tie
 
 array-borrow-prefix-back : tie.Need-array-borrow-prefix-back
@@ -34,8 +27,7 @@ decide-requires c κs =
     let y = ap (λ (v : List ℕ). length v) (x .ensures) ∙ length-reverse w in
     (c .before .before .before .before .before .before .pre .0, c .before .before .before .before .before .before .pre .1, take-at _ _ (length w) y ∙ x .ensures)
 
-pub look-spec : {M : Type 1} → statement M
+pub look-spec : {M : Type 1} → Rattle.sight_inner.proofs.look.Statement.statement M
 look-spec =
-    tie.close
-    (tie.spec array-borrow-prefix-back slice-aggregate-write-reversed write-reversed-requires array-share-prefix-back
+    tie.close (tie.spec array-borrow-prefix-back slice-aggregate-write-reversed write-reversed-requires array-share-prefix-back
     slice-aggregate-decide decide-requires (λ c. search needs))

@@ -1,10 +1,7 @@
 -- `sight_near_inner::which_near` meets its contract: the first ring that is near, and whether another is behind it.
-use native.Mathlib.Omega.{arith}
+use Rattle.words.proofs.Needs.{needs, arith, length}
 use native.Mathlib.Nat.{div-le-self}
-use lib.ListN.{length}
-use borrow.Author.Needs.{needs}
 use Rattle.sight_near_inner.proofs.Looking.{near-none, near-two, near-one}
-use Rattle.sight_near_inner.proofs.which_near.Statement.{statement}
 use Rattle.sight_near_inner.proofs.which_near.Tie as tie
 
 first-near-requires : tie.Need-first-near-requires
@@ -35,8 +32,7 @@ returns-3 c =
     let y = c .before .first-near2 in
     near-one (a .most) (a .rings .now) (a .reading .now) (x .result) (y .result) (x .ensures) (y .ensures) (c .before .before .if1 .left) (c .if2 .left)
 
-pub which-near-spec : {M : Type 1} → statement M
+pub which-near-spec : {M : Type 1} → Rattle.sight_near_inner.proofs.which_near.Statement.statement M
 which-near-spec =
-    tie.close
-    (tie.spec (λ c. search needs) first-near-requires returns add-first-near first-near-requires-2 returns-2
+    tie.close (tie.spec (λ c. search needs) first-near-requires returns add-first-near first-near-requires-2 returns-2
     returns-3)

@@ -1,12 +1,8 @@
 -- `sight_turn_inner::nearest_to` meets its contract: the part that is lent is the ring.
-use Prim.Native.Nat.{_+_, _*_}
-use mathlib.Core.Path.{refl, subst}
-use native.Mathlib.Omega.{arith}
-use lib.ListN.{length, length-take, length-drop}
+use Rattle.words.proofs.Plain.{_+_, _*_, arith, refl, subst, length, length-take, length-drop}
 use Rattle.sight_spec.proofs.Rings.{ring-fits}
 use Rattle.sight_turn_inner.specs.Says.{Turns}
 use Rattle.sight_turn_inner.proofs.Parts.{part-ring}
-use Rattle.sight_turn_inner.proofs.nearest_to.Statement.{statement}
 use Rattle.sight_turn_inner.proofs.nearest_to.Tie as tie
 
 mul-at : tie.Need-mul-at
@@ -41,7 +37,6 @@ returns c =
     let n = length (a .reading .now) in
     subst (λ w. Turns (a .reading .now) w (c .nearest .result .shift) (c .nearest .result .misread)) (part-ring (a .rings .now) n (a .j) (n * a .j) (n * a .j + n) refl refl) (c .nearest .ensures)
 
-pub nearest-to-spec : {M : Type 1} → statement M
+pub nearest-to-spec : {M : Type 1} → Rattle.sight_turn_inner.proofs.nearest_to.Statement.statement M
 nearest-to-spec =
-    tie.close
-    (tie.spec mul-at add-end sub-nearest part-nearest-start part-nearest-end nearest-requires returns)
+    tie.close (tie.spec mul-at add-end sub-nearest part-nearest-start part-nearest-end nearest-requires returns)

@@ -1,7 +1,6 @@
 -- `stream_asking_inner::place_text` meets its contract.
 use Rattle.stream_kind_inner.specs.Says.{Said}
-use borrow.Author.Needs.{needs}
-use Rattle.stream_asking_inner.proofs.place_text.Statement.{statement}
+use Rattle.words.proofs.Needs.{needs}
 use Rattle.stream_asking_inner.proofs.place_text.Tie as tie
 
 enum-told : tie.Need-enum-told
@@ -21,8 +20,7 @@ returns-2 : tie.Need-returns-2
 unfolding Said
 returns-2 c = rw (c .before .before .before .before .enum-told2 .given .1, Said) (c .before .before .place-answer2 .ensures)
 
-pub place-text-spec : {M : Type 1} → statement M
+pub place-text-spec : {M : Type 1} → Rattle.stream_asking_inner.proofs.place_text.Statement.statement M
 place-text-spec =
-    tie.close
-    (tie.spec enum-told place-answer-requires (λ c. search needs) place-answer-requires-2 (λ c. search needs) returns
+    tie.close (tie.spec enum-told place-answer-requires (λ c. search needs) place-answer-requires-2 (λ c. search needs) returns
     (λ c. search needs) returns-2)

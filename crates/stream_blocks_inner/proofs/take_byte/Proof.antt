@@ -1,11 +1,7 @@
 -- `stream_blocks_inner::take_byte` meets its contract.
-use mathlib.Core.Path.{_≡_, refl}
-use native.Mathlib.Omega.{arith}
-use lib.ListN.{length, length-take}
+use Rattle.words.proofs.Needs.{needs, arith, _≡_, refl, length, length-take}
 use Rattle.stream_spec.specs.Blocks.{ends}
 use Rattle.stream_blocks_inner.proofs.Holding.{held-ends, held-kept}
-use borrow.Author.Needs.{needs}
-use Rattle.stream_blocks_inner.proofs.take_byte.Statement.{statement}
 use Rattle.stream_blocks_inner.proofs.take_byte.Tie as tie
 
 slice-aggregate-place-text : tie.Need-slice-aggregate-place-text
@@ -29,9 +25,8 @@ returns-2 c =
     let a = g .args in
     held-kept (a .b) (a .len) (a .line .now) _ _ _ _ (a .at) (a .buf .now) _ (c .before .m .given .1) (g .pre .1 .0) (held .hold-byte .ensures)
 
-pub take-byte-spec : {M : Type 1} → statement M
+pub take-byte-spec : {M : Type 1} → Rattle.stream_blocks_inner.proofs.take_byte.Statement.statement M
 take-byte-spec =
-    tie.close
-    (tie.spec (λ c κs. search needs) (λ c. search needs) (λ c. search needs) slice-aggregate-place-text
+    tie.close (tie.spec (λ c κs. search needs) (λ c. search needs) (λ c. search needs) slice-aggregate-place-text
     (λ c κs. search needs) (λ c. search needs) (λ c. search needs) (λ c. search needs) returns (λ c. search needs)
     returns-2)

@@ -1,10 +1,7 @@
 -- `stream_program_inner::run` is safe and ends.
-use native.Mathlib.Omega.{arith}
-use lib.ListN.{length, length-take}
+use Rattle.words.proofs.Needs.{needs, arith, length, length-take}
 use Rattle.program_ending_inner.proofs.Unique.{say-within}
 use Rattle.stream_program_inner.proofs.Stopping.{first-room, first-long}
-use borrow.Author.Needs.{needs}
-use Rattle.stream_program_inner.proofs.run.Statement.{statement}
 use Rattle.stream_program_inner.proofs.run.Tie as tie
 
 slice-aggregate-pump : tie.Need-slice-aggregate-pump
@@ -28,10 +25,9 @@ array-share-prefix-buf c = let s = c .before .say in omega (arith, say-within _ 
 slice-aggregate-write-all : tie.Need-slice-aggregate-write-all
 slice-aggregate-write-all c = let s = c .before .before .say in simp length-take (omega (arith, say-within _ _ _ _ (s .ensures), s .kept))
 
-pub run-spec : {M : Type 1} → statement M
+pub run-spec : {M : Type 1} → Rattle.stream_program_inner.proofs.run.Statement.statement M
 run-spec =
-    tie.close
-    (tie.spec (λ c κs. search needs) (λ c κs. search needs) (λ c κs. search needs) (λ c. search needs)
+    tie.close (tie.spec (λ c κs. search needs) (λ c κs. search needs) (λ c κs. search needs) (λ c. search needs)
     slice-aggregate-pump (λ c. search needs) slice-aggregate-pump-2 (λ c. search needs) pump-requires
     (λ c κs. search needs) (λ c. search needs) (λ c κs. search needs) array-share-prefix-buf slice-aggregate-write-all
     (λ c κs. search needs) (λ c. search needs))

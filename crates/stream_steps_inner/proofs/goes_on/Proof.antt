@@ -1,9 +1,6 @@
 -- `stream_steps_inner::goes_on` meets its contract.
-use native.Mathlib.Omega.{arith}
+use Rattle.words.proofs.Needs.{needs, arith, not-true, not-false}
 use Rattle.stream_steps_inner.proofs.Going.{goes-unwritten, goes-over, goes-failed, goes-bytes}
-use borrow.Author.Needs.{needs}
-use borrow.Author.Tests.{not-true, not-false}
-use Rattle.stream_steps_inner.proofs.goes_on.Statement.{statement}
 use Rattle.stream_steps_inner.proofs.goes_on.Tie as tie
 
 returns : tie.Need-returns
@@ -29,6 +26,6 @@ returns-4 c =
     let a = c .before .before .before .args in
     goes-failed (a .wrote) (a .got) (a .reads) (not-false _ (c .before .before .if1 .left)) (c .enum-told3 .given .1)
 
-pub goes-on-spec : {M : Type 1} → statement M
+pub goes-on-spec : {M : Type 1} → Rattle.stream_steps_inner.proofs.goes_on.Statement.statement M
 goes-on-spec = tie.close (tie.spec returns enum-told (λ c. search needs) (λ c. search needs) returns-2 returns-3
     returns-4)

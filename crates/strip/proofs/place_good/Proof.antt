@@ -1,14 +1,10 @@
 -- `strip::place_good` meets its contract: the power, and then the place.
-use Prim.Native.Nat.{_^_}
-use mathlib.Core.Path.{_≡_, refl, sym, _∙_}
-use native.Mathlib.Omega.{arith}
-use lib.ListN.{length, length-take}
-use borrow.Author.Tests.{ltb-true}
-use borrow.Author.Needs.{needs}
-use mathlib.Core.Logic.{inr}
+use Rattle.words.proofs.Needs.{needs, _^_, arith, _≡_, refl, sym, _∙_, inr, length, length-take, ltb-true}
 use Rattle.strip.proofs.Telling.{passed-listable}
-use Rattle.strip.proofs.place_good.Statement.{statement}
 use Rattle.strip.proofs.place_good.Tie as tie
+
+abbrev start : tie.Else1 → tie.Start
+start c = c .before .before .before
 
 returns : tie.Need-returns
 returns c =
@@ -44,15 +40,14 @@ place-on-requires c κs =
 
 returns-2 : tie.Need-returns-2
 returns-2 c =
-    let g = c .before .before .before .before .before .before .before in (
+    let g = start (c .before .before .before .before) in (
       g .pre,
       passed-listable (g .args .reading .now) (g .args .k) (g .pre)
           (sym (c .before .before .before .before .if1 .left) ∙ c .before .before .before .before .before .power-above .ensures) .few,
       c .before .place-on .ensures,
     )
 
-pub place-good-spec : {M : Type 1} → statement M
+pub place-good-spec : {M : Type 1} → Rattle.strip.proofs.place_good.Statement.statement M
 place-good-spec =
-    tie.close
-    (tie.spec (λ c κs. search needs) returns power-requires array-borrow-prefix-sectors slice-aggregate-place-on
+    tie.close (tie.spec (λ c κs. search needs) returns power-requires array-borrow-prefix-sectors slice-aggregate-place-on
     place-on-requires returns-2)

@@ -1,11 +1,10 @@
 -- `strip::write_listable` meets its contract: the output's length, and then the strip.
-use mathlib.Core.Path.{_≡_, refl, sym, _∙_}
-use native.Mathlib.Omega.{arith}
-use borrow.Author.Needs.{needs}
-use mathlib.Core.Logic.{inr}
+use Rattle.words.proofs.Needs.{needs, arith, _≡_, refl, sym, _∙_, inr}
 use Rattle.limits_spec.proofs.Unique.{listable-passed}
-use Rattle.strip.proofs.write_listable.Statement.{statement}
 use Rattle.strip.proofs.write_listable.Tie as tie
+
+abbrev start : tie.Else1 → tie.Start
+start c = c .before .before .before
 
 power-requires : tie.Need-power-requires
 power-requires c κs = (omega (arith, c .before .pre .shaded .0), omega (arith, c .before .pre .few))
@@ -18,11 +17,11 @@ write-whole-requires c κs = (c .before .before .before .before .pre, c .before 
 
 returns-2 : tie.Need-returns-2
 returns-2 c = (
-  c .before .before .before .before .before .before .before .pre,
+  start (c .before .before .before .before) .pre,
   c .before .before .before .before .if1 .left ∙
       c .before .before .before .before .before .power .ensures,
   c .before .before .write-whole .ensures,
 )
 
-pub write-listable-spec : {M : Type 1} → statement M
+pub write-listable-spec : {M : Type 1} → Rattle.strip.proofs.write_listable.Statement.statement M
 write-listable-spec = tie.close (tie.spec power-requires returns write-whole-requires (λ c. search needs) returns-2)

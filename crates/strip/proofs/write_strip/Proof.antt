@@ -1,8 +1,5 @@
 -- `strip::write_strip` meets its contract: what the plan of the numbers answers, and then what writing answers.
-use mathlib.Core.Path.{_≡_, refl}
-use borrow.Author.Needs.{needs}
-use mathlib.Core.Logic.{inl}
-use Rattle.strip.proofs.write_strip.Statement.{statement}
+use Rattle.words.proofs.Needs.{needs, _≡_, refl, inl}
 use Rattle.strip.proofs.write_strip.Tie as tie
 
 enum-told : tie.Need-enum-told
@@ -17,8 +14,7 @@ returns c = (inl (rw (c .before .r .given .1) at (c .before .before .before .pla
 returns-2 : tie.Need-returns-2
 returns-2 c = c .before .before .write-listable .ensures
 
-pub write-strip-spec : {M : Type 1} → statement M
+pub write-strip-spec : {M : Type 1} → Rattle.strip.proofs.write_strip.Statement.statement M
 write-strip-spec =
-    tie.close
-    (tie.spec (λ c κs. search needs) (λ c. search needs) enum-told write-listable-requires returns (λ c. search needs)
+    tie.close (tie.spec (λ c κs. search needs) (λ c. search needs) enum-told write-listable-requires returns (λ c. search needs)
     returns-2)

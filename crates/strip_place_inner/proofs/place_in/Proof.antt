@@ -1,11 +1,6 @@
 -- `strip_place_inner::place_in` meets its contract. The loop's invariant: the reading stands at no place before p.
-use Prim.Native.Nat.{_-_}
-use mathlib.Core.Path.{sym, _∙_}
-use native.Mathlib.Omega.{arith}
-use lib.ListN.{length}
-use borrow.Author.Needs.{needs}
+use Rattle.words.proofs.Needs.{needs, _-_, arith, sym, _∙_, length}
 use Rattle.strip_place_inner.proofs.Looking.{Passed, passed-more, passed-hit, passed-all}
-use Rattle.strip_place_inner.proofs.place_in.Statement.{statement}
 use Rattle.strip_place_inner.proofs.place_in.Tie as tie
 
 abbrev Inv-loop : tie.InvT-loop
@@ -37,6 +32,6 @@ returns-2 c =
     let l = c .before .loop in
     absurd (passed-all (g .args .s .now) (g .args .reading .now) (l .p) (g .pre .1 .1) (c .loop-test .left) (l .inv))
 
-pub place-in-spec : {M : Type 1} → statement M
+pub place-in-spec : {M : Type 1} → Rattle.strip_place_inner.proofs.place_in.Statement.statement M
 place-in-spec = tie.close (tie.spec Inv-loop μ-loop loop-holds stands-requires returns (λ c. search needs)
     (λ c. search needs) loop-again returns-2)

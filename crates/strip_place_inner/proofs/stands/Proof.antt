@@ -1,12 +1,7 @@
 -- `strip_place_inner::stands` meets its contract. The loop's invariant: the first i sectors of the reading stand at place p.
-use Prim.Native.Nat.{ℕ, _+_, _≤_, _-_}
-use mathlib.Core.Path.{_≡_}
-use native.Mathlib.Omega.{arith}
+use Rattle.words.proofs.Needs.{needs, ℕ, _+_, _≤_, _-_, arith, _≡_, length}
 use native.Mathlib.Nat.{mod-lt}
-use lib.ListN.{length}
-use borrow.Author.Needs.{needs}
 use Rattle.strip_place_inner.proofs.Looking.{Agrees, agrees-more, agrees-all, agrees-not}
-use Rattle.strip_place_inner.proofs.stands.Statement.{statement}
 use Rattle.strip_place_inner.proofs.stands.Tie as tie
 
 abbrev Inv-loop : tie.InvT-loop
@@ -36,8 +31,7 @@ returns-2 c =
     let a = c .before .before .args in
     agrees-all (a .s .now) (a .p) (a .reading .now) (c .before .loop .i) (c .loop-test .left) (c .before .loop .inv .1)
 
-pub stands-spec : {M : Type 1} → statement M
+pub stands-spec : {M : Type 1} → Rattle.strip_place_inner.proofs.stands.Statement.statement M
 stands-spec =
-    tie.close
-    (tie.spec Inv-loop μ-loop loop-holds (λ c. search needs) (λ c. search needs) shared-slice-read-if1
+    tie.close (tie.spec Inv-loop μ-loop loop-holds (λ c. search needs) (λ c. search needs) shared-slice-read-if1
     (λ c. search needs) returns (λ c. search needs) (λ c. search needs) loop-again returns-2)

@@ -1,12 +1,7 @@
 -- `strip_write_inner::lay` meets its contract. The loop's invariant: the first i sectors are laid down.
-use Prim.Native.Nat.{ℕ, _≤_, _-_}
-use mathlib.Core.Path.{_≡_, _∙_, sym, subst}
-use native.Mathlib.Omega.{arith}
-use lib.ListN.{length}
-use borrow.Author.Needs.{needs}
+use Rattle.words.proofs.Needs.{needs, ℕ, _≤_, _-_, arith, _≡_, _∙_, sym, subst, length}
 use Rattle.strip_write_inner.specs.Laying.{LaidDown}
 use Rattle.strip_write_inner.proofs.Piece.{laid-none, laid-more}
-use Rattle.strip_write_inner.proofs.lay.Statement.{statement}
 use Rattle.strip_write_inner.proofs.lay.Tie as tie
 
 abbrev Inv-loop : tie.InvT-loop
@@ -33,8 +28,7 @@ returns c =
     let e : l .i ≡ c .before .before .args .p = omega (arith, c .loop-test .left, l .inv .0) in
     rw e at (l .inv .1)
 
-pub lay-spec : {M : Type 1} → statement M
+pub lay-spec : {M : Type 1} → Rattle.strip_write_inner.proofs.lay.Statement.statement M
 lay-spec =
-    tie.close
-    (tie.spec Inv-loop μ-loop loop-holds (λ c. search needs) (λ c. search needs) slice-write-out (λ c. search needs)
+    tie.close (tie.spec Inv-loop μ-loop loop-holds (λ c. search needs) (λ c. search needs) slice-write-out (λ c. search needs)
     (λ c. search needs) loop-again same-length returns)

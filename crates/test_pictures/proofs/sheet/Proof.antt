@@ -1,8 +1,5 @@
 -- `test_pictures::sheet` is safe: what is drawn lies within the buffer.
-use native.Mathlib.Omega.{arith}
-use lib.ListN.{length-take}
-use borrow.Author.Needs.{needs}
-use Rattle.test_pictures.proofs.sheet.Statement.{statement}
+use Rattle.words.proofs.Needs.{needs, arith, length-take}
 use Rattle.test_pictures.proofs.sheet.Tie as tie
 
 array-share-prefix-buf : tie.Need-array-share-prefix-buf
@@ -15,10 +12,9 @@ slice-aggregate-text c =
     let f = rw (c .before .before .m .given .1) at (c .before .before .before .before .before .target .ensures) in
     simp length-take (omega (arith, f .2))
 
-pub sheet-spec : {M : Type 1} → statement M
+pub sheet-spec : {M : Type 1} → Rattle.test_pictures.proofs.sheet.Statement.statement M
 sheet-spec =
-    tie.close
-    (tie.spec (λ c. search needs) (λ c κs. search needs) (λ c κs. search needs) (λ c κs. search needs)
+    tie.close (tie.spec (λ c. search needs) (λ c κs. search needs) (λ c κs. search needs) (λ c κs. search needs)
     (λ c κs. search needs) (λ c κs. search needs) (λ c κs. search needs) (λ c κs. search needs) (λ c κs. search needs)
     (λ c κs. search needs) (λ c κs. search needs) (λ c κs. search needs) (λ c κs. search needs) (λ c κs. search needs)
     (λ c κs. search needs) (λ c. search needs) (λ c. search needs) (λ c. search needs) (λ c κs. search needs)

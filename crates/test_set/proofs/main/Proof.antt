@@ -1,9 +1,5 @@
 -- `test_set::main` is safe and ends: it counts the cases, and the line and the buffer keep their lengths.
-use Prim.Native.Nat.{_≤_, _-_}
-use mathlib.Core.Path.{_≡_}
-use lib.ListN.{length}
-use borrow.Author.Needs.{needs}
-use Rattle.test_set.proofs.main.Statement.{statement}
+use Rattle.words.proofs.Needs.{needs, _≤_, _-_, _≡_, length}
 use Rattle.test_set.proofs.main.Tie as tie
 
 abbrev Inv-loop : tie.InvT-loop
@@ -12,9 +8,8 @@ Inv-loop line₀ buf₀ counter₀ line buf counter = (length line ≡ 64) × (l
 abbrev μ-loop : tie.MeasureT-loop
 μ-loop line₀ buf₀ counter₀ line buf counter = 1000 - counter
 
-pub main-spec : {M : Type 1} → statement M
+pub main-spec : {M : Type 1} → Rattle.test_set.proofs.main.Statement.statement M
 main-spec =
-    tie.close
-    (tie.spec Inv-loop μ-loop (λ c. search needs) (λ c. search needs) (λ c κs. search needs) (λ c. search needs)
+    tie.close (tie.spec Inv-loop μ-loop (λ c. search needs) (λ c. search needs) (λ c κs. search needs) (λ c. search needs)
     (λ c. search needs) (λ c. search needs) (λ c κs. search needs) (λ c. search needs) (λ c. search needs)
     (λ c. search needs) (λ c κs. search needs) (λ c. search needs))

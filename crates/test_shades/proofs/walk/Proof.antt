@@ -1,9 +1,5 @@
 -- `test_shades::walk` is safe and ends. The loop keeps the lengths; it counts up to 20,000.
-use Prim.Native.Nat.{_≤_, _-_}
-use mathlib.Core.Path.{_≡_}
-use lib.ListN.{length}
-use borrow.Author.Needs.{needs}
-use Rattle.test_shades.proofs.walk.Statement.{statement}
+use Rattle.words.proofs.Needs.{needs, _≤_, _-_, _≡_, length}
 use Rattle.test_shades.proofs.walk.Tie as tie
 
 abbrev Inv-loop : tie.InvT-loop
@@ -12,9 +8,8 @@ Inv-loop k counts ring₀ next₀ listed rings₀ more₀ ring next rings more =
 abbrev μ-loop : tie.MeasureT-loop
 μ-loop k counts ring₀ next₀ listed rings₀ more₀ ring next rings more = 20000 - rings
 
-pub walk-spec : {M : Type 1} → statement M
+pub walk-spec : {M : Type 1} → Rattle.test_shades.proofs.walk.Statement.statement M
 walk-spec =
-    tie.close
-    (tie.spec Inv-loop μ-loop (λ c κs. search needs) (λ c. search needs) (λ c. search needs) (λ c. search needs)
+    tie.close (tie.spec Inv-loop μ-loop (λ c κs. search needs) (λ c. search needs) (λ c. search needs) (λ c. search needs)
     (λ c. search needs) (λ c. search needs) (λ c κs. search needs) (λ c κs. search needs) (λ c. search needs)
     (λ c. search needs) (λ c. search needs) (λ c. search needs) (λ c. search needs))

@@ -1,8 +1,5 @@
 -- `test_strip::print_out` is safe and ends: the place is inside.
-use Prim.Native.Nat.{_≤_, _-_}
-use lib.ListN.{length}
-use borrow.Author.Needs.{needs}
-use Rattle.test_strip.proofs.print_out.Statement.{statement}
+use Rattle.words.proofs.Needs.{needs, _≤_, _-_, length}
 use Rattle.test_strip.proofs.print_out.Tie as tie
 
 abbrev Inv-loop : tie.InvT-loop
@@ -11,10 +8,8 @@ Inv-loop out at₀ at = at ≤ length out
 abbrev μ-loop : tie.MeasureT-loop
 μ-loop out at₀ at = length out - at
 
-pub print-out-spec : {M : Type 1} → statement M
+pub print-out-spec : {M : Type 1} → Rattle.test_strip.proofs.print_out.Statement.statement M
 print-out-spec =
-    tie.close
-    (tie.spec Inv-loop μ-loop (λ c. search needs) (λ c. search needs) (λ c. search needs) (λ c. search needs)
+    tie.close (tie.spec Inv-loop μ-loop (λ c. search needs) (λ c. search needs) (λ c. search needs) (λ c. search needs)
     (λ c. search needs) (λ c. search needs) (λ c κs. search needs) (λ c. search needs) (λ c. search needs)
-    (λ c. search needs) (λ c. search needs) (λ c. search needs) (λ c. search needs) (λ c κs. search needs)
-    (λ c. search needs))
+    (λ c. search needs) (λ c. search needs) (λ c. search needs) (λ c. search needs) (λ c κs. search needs) (λ c. search needs))

@@ -1,13 +1,7 @@
 -- `text_digits_inner::place_sectors` meets its contract. The loop's invariant: the first i sectors are placed.
-use Prim.Native.Nat.{_≤_, _+_, _-_}
-use native.Mathlib.Omega.{arith}
-use lib.ListN.{length, take}
-use borrow.Author.Needs.{needs}
-use Rattle.text_spec.specs.Put.{Placed}
-use mathlib.Core.List.{map}
-use Rattle.text_spec.specs.Text.{hexOf}
+use Rattle.words.proofs.Needs.{needs, _≤_, _+_, _-_, arith, map, length, take}
+use Rattle.text_spec.specs.{Put.Placed, Text.hexOf}
 use Rattle.text_spec.proofs.Put.{placed-none, placed-length, placed-sector, placed-sectors}
-use Rattle.text_digits_inner.proofs.place_sectors.Statement.{statement}
 use Rattle.text_digits_inner.proofs.place_sectors.Tie as tie
 
 abbrev Inv-loop : tie.InvT-loop
@@ -39,8 +33,7 @@ returns c =
     placed-sectors ((c .before .before .before .before .args) .buf .now) ((c .before .before .before .before .args) .at) ((c .before .loop) .i)
     ((c .before .before .before .before .args) .ring .now) ((c .before .loop) .buf) (omega arith) ((c .before .loop) .inv .1)
 
-pub place-sectors-spec : {M : Type 1} → statement M
+pub place-sectors-spec : {M : Type 1} → Rattle.text_digits_inner.proofs.place_sectors.Statement.statement M
 place-sectors-spec =
-    tie.close
-    (tie.spec Inv-loop μ-loop loop-holds (λ c. search needs) (λ c κs. search needs) (λ c. search needs)
+    tie.close (tie.spec Inv-loop μ-loop loop-holds (λ c. search needs) (λ c κs. search needs) (λ c. search needs)
     slice-write-buf (λ c. search needs) (λ c. search needs) loop-again (λ c. search needs) same-length returns)

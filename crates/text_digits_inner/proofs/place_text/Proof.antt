@@ -1,11 +1,7 @@
 -- `text_digits_inner::place_text` meets its contract. The loop's invariant: the first i characters are placed.
-use Prim.Native.Nat.{_≤_, _+_, _-_}
-use native.Mathlib.Omega.{arith}
-use lib.ListN.{length, take}
-use borrow.Author.Needs.{needs}
+use Rattle.words.proofs.Needs.{needs, _≤_, _+_, _-_, arith, length, take}
 use Rattle.text_spec.specs.Put.{Placed}
 use Rattle.text_spec.proofs.Put.{placed-none, placed-length, placed-copy, placed-whole}
-use Rattle.text_digits_inner.proofs.place_text.Statement.{statement}
 use Rattle.text_digits_inner.proofs.place_text.Tie as tie
 
 abbrev Inv-loop : tie.InvT-loop
@@ -44,8 +40,7 @@ returns c =
     placed-whole (c .before .before .args .buf .now) (c .before .before .args .at) (c .before .loop .i) (c .before .before .args .text .now)
     (c .before .loop .buf) (omega arith) (c .before .loop .inv .1)
 
-pub place-text-spec : {M : Type 1} → statement M
+pub place-text-spec : {M : Type 1} → Rattle.text_digits_inner.proofs.place_text.Statement.statement M
 place-text-spec =
-    tie.close
-    (tie.spec Inv-loop μ-loop loop-holds (λ c. search needs) (λ c. search needs) slice-write-buf (λ c. search needs)
+    tie.close (tie.spec Inv-loop μ-loop loop-holds (λ c. search needs) (λ c. search needs) slice-write-buf (λ c. search needs)
     (λ c. search needs) loop-again (λ c. search needs) same-length returns)

@@ -1,9 +1,7 @@
 -- `text_lines_inner::place_two` meets its contract: each piece stands behind the one before it, and there is room for all.
-use native.Mathlib.Omega.{arith}
-use borrow.Author.Needs.{needs}
+use Rattle.words.proofs.Needs.{needs, arith}
 use Rattle.text_spec.specs.Text.{twoNumbers}
 use Rattle.text_spec.proofs.Put.{length-two, placed-length, placed-append}
-use Rattle.text_lines_inner.proofs.place_two.Statement.{statement}
 use Rattle.text_lines_inner.proofs.place_two.Tie as tie
 
 place-text-requires : tie.Need-place-text-requires
@@ -72,8 +70,7 @@ returns c =
     let t4 = placed-append _ _ _ _ _ _ _ _ (placed-append _ _ _ _ _ _ _ _ t2 (s3 .place-text2 .ensures)) (s4 .place-decimal2 .ensures) in
     placed-append _ _ _ _ _ _ _ _ t4 (s5 .place-text3 .ensures)
 
-pub place-two-spec : {M : Type 1} → statement M
+pub place-two-spec : {M : Type 1} → Rattle.text_lines_inner.proofs.place_two.Statement.statement M
 place-two-spec =
-    tie.close
-    (tie.spec place-text-requires place-decimal-requires place-text-requires-2 place-decimal-requires-2
+    tie.close (tie.spec place-text-requires place-decimal-requires place-text-requires-2 place-decimal-requires-2
     (λ c. search needs) place-text-requires-3 same-length returns)

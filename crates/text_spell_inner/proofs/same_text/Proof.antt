@@ -1,12 +1,6 @@
 -- `text_spell_inner::same_text` meets its contract.
-use Prim.Native.Nat.{ℕ, _-_, _≤_}
-use mathlib.Core.Path.{_≡_, refl, sym, ap, _∙_}
-use mathlib.Core.List.{List}
-use native.Mathlib.Omega.{arith}
-use lib.ListN.{length, getD}
+use Rattle.words.proofs.Needs.{needs, ℕ, _-_, _≤_, arith, _≡_, refl, sym, ap, _∙_, List, length, getD}
 use Rattle.text_spell_inner.proofs.Spelling.{Agree, agree-on, agree-all, differ-long, differ-at}
-use borrow.Author.Needs.{needs}
-use Rattle.text_spell_inner.proofs.same_text.Statement.{statement}
 use Rattle.text_spell_inner.proofs.same_text.Tie as tie
 
 abbrev Inv-loop : tie.InvT-loop
@@ -41,6 +35,6 @@ returns-3 : tie.Need-returns-3 Inv-loop μ-loop
 returns-3 c =
     sym (agree-all (c .before .before .before .args .a .now) (c .before .before .before .args .b .now) (c .before .loop .i) (c .before .loop .inv .2) (c .loop-test .left) (c .before .loop .inv .3))
 
-pub same-text-spec : {M : Type 1} → statement M
+pub same-text-spec : {M : Type 1} → Rattle.text_spell_inner.proofs.same_text.Statement.statement M
 same-text-spec = tie.close (tie.spec Inv-loop μ-loop returns loop-holds (λ c. search needs) shared-slice-read-if2-2
     returns-2 (λ c. search needs) (λ c. search needs) loop-again returns-3)

@@ -1,8 +1,6 @@
 -- `text_spell_inner::value_of` meets its contract.
-use native.Mathlib.Omega.{arith}
+use Rattle.words.proofs.Needs.{needs, arith}
 use Rattle.text_spell_inner.proofs.Spelling.{digit-low, digit-high, digit-below, digit-between, digit-above}
-use borrow.Author.Needs.{needs}
-use Rattle.text_spell_inner.proofs.value_of.Statement.{statement}
 use Rattle.text_spell_inner.proofs.value_of.Tie as tie
 
 returns : tie.Need-returns
@@ -20,5 +18,5 @@ returns-4 c = digit-high (c .before .before .before .before .args .c) (c .before
 returns-5 : tie.Need-returns-5
 returns-5 c = digit-above (c .before .before .before .before .args .c) (c .if4 .left)
 
-pub value-of-spec : {M : Type 1} → statement M
+pub value-of-spec : {M : Type 1} → Rattle.text_spell_inner.proofs.value_of.Statement.statement M
 value-of-spec = tie.close (tie.spec returns returns-2 returns-3 (λ c. search needs) returns-4 returns-5)

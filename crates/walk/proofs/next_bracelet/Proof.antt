@@ -1,7 +1,5 @@
 -- `walk::next_bracelet` meets its contract.
-use mathlib.Core.Path.{refl}
-use borrow.Author.Needs.{needs}
-use Rattle.walk.proofs.next_bracelet.Statement.{statement}
+use Rattle.words.proofs.Needs.{needs, refl}
 use Rattle.walk.proofs.next_bracelet.Tie as tie
 
 step-good-requires : tie.Need-step-good-requires
@@ -10,8 +8,7 @@ step-good-requires c κs = rw (c .enum-told .given .1) at (c .before .before .ch
 returns : tie.Need-returns
 returns c = (rw (c .before .v .given .1) at (c .before .before .before .check-walk .ensures), refl)
 
-pub next-bracelet-spec : {M : Type 1} → statement M
+pub next-bracelet-spec : {M : Type 1} → Rattle.walk.proofs.next_bracelet.Statement.statement M
 next-bracelet-spec =
-    tie.close
-    (tie.spec (λ c κs. search needs) (λ c. search needs) (λ c. search needs) step-good-requires returns
+    tie.close (tie.spec (λ c κs. search needs) (λ c. search needs) (λ c. search needs) step-good-requires returns
     (λ c. search needs))

@@ -1,8 +1,7 @@
 -- `walk::start` meets its contract.
-use borrow.Author.Needs.{needs}
+use Rattle.words.proofs.Needs.{needs}
 use Rattle.rings.specs.Prenecklace.{prenecklace}
 use Rattle.refusal.proofs.More.{more-start}
-use Rattle.walk.proofs.start.Statement.{statement}
 use Rattle.walk.proofs.start.Tie as tie
 
 start-good-requires : tie.Need-start-good-requires
@@ -16,8 +15,7 @@ returns c = (
   c .empty .ensures,
 )
 
-pub start-spec : {M : Type 1} → statement M
+pub start-spec : {M : Type 1} → Rattle.walk.proofs.start.Statement.statement M
 start-spec =
-    tie.close
-    (tie.spec (λ c κs. search needs) (λ c. search needs) (λ c κs. search needs) (λ c. search needs)
+    tie.close (tie.spec (λ c κs. search needs) (λ c. search needs) (λ c κs. search needs) (λ c. search needs)
     start-good-requires returns (λ c. search needs))

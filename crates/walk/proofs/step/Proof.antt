@@ -1,7 +1,5 @@
 -- `walk::step` meets its contract.
-use mathlib.Core.Path.{refl}
-use borrow.Author.Needs.{needs}
-use Rattle.walk.proofs.step.Statement.{statement}
+use Rattle.words.proofs.Needs.{needs, refl}
 use Rattle.walk.proofs.step.Tie as tie
 
 step-good-requires : tie.Need-step-good-requires
@@ -10,8 +8,7 @@ step-good-requires c κs = rw (c .enum-told .given .1) at (c .before .before .ch
 returns : tie.Need-returns
 returns c = (rw (c .before .v .given .1) at (c .before .before .before .check-walk .ensures), refl)
 
-pub step-spec : {M : Type 1} → statement M
+pub step-spec : {M : Type 1} → Rattle.walk.proofs.step.Statement.statement M
 step-spec =
-    tie.close
-    (tie.spec (λ c κs. search needs) (λ c. search needs) (λ c. search needs) step-good-requires returns
+    tie.close (tie.spec (λ c κs. search needs) (λ c. search needs) (λ c. search needs) step-good-requires returns
     (λ c. search needs))

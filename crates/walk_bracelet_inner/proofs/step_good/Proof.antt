@@ -1,16 +1,13 @@
 -- `walk_bracelet_inner::step_good` meets its contract. What `next` came to is the next bracelet, and a start from it hands out its record.
-use mathlib.Core.Path.{_≡_, sym}
-use mathlib.Core.Option.{some}
-use native.Mathlib.Omega.{arith}
-use lib.ListN.{length, length-take, length-append, length-drop}
-use borrow.Author.Needs.{needs}
-use Rattle.rings.specs.Alike.{bracelet}
-use Rattle.rings.specs.Steps.{nextOf}
+use Rattle.words.proofs.Needs.{needs, arith, _≡_, sym, some, length, length-take, length-append, length-drop}
+use Rattle.rings.specs.{Alike.bracelet, Steps.nextOf}
 use Rattle.walk_spec.specs.Record.{ringOf}
 use Rattle.walk_record_laws.proofs.Good.{good-ready, good-long}
 use Rattle.walk_bracelet_inner.proofs.Arriving.{good-reading, arrived-long, arrived-ring, arrived-passed, arrived, ended}
-use Rattle.walk_bracelet_inner.proofs.step_good.Statement.{statement}
 use Rattle.walk_bracelet_inner.proofs.step_good.Tie as tie
+
+abbrev start : tie.Then1 → tie.Start
+start c = c .before .before .before .before .before
 
 array-borrow-prefix-ahead : tie.Need-array-borrow-prefix-ahead
 array-borrow-prefix-ahead c =
@@ -62,7 +59,7 @@ start-good-requires c κs =
 
 returns : tie.Need-returns
 returns c =
-    let g = c .before .before .before .before .before .before .before .before in
+    let g = start (c .before .before .before) in
     let w = g .args .w in
     let l : length (w .ring) ≡ 64 = search needs in
     let x = c .before .before .before .before .before .next in
@@ -75,8 +72,7 @@ returns-2 c =
     let g = c .before .before .before .before .before in
     ended (g .args .w) (g .pre) (rw (c .if1 .left) at (c .before .before .next .ensures))
 
-pub step-good-spec : {M : Type 1} → statement M
+pub step-good-spec : {M : Type 1} → Rattle.walk_bracelet_inner.proofs.step_good.Statement.statement M
 step-good-spec =
-    tie.close
-    (tie.spec array-borrow-prefix-ahead slice-aggregate-next next-requires array-share-prefix-ahead
+    tie.close (tie.spec array-borrow-prefix-ahead slice-aggregate-next next-requires array-share-prefix-ahead
     slice-aggregate-start-good start-good-requires returns returns-2)

@@ -1,17 +1,13 @@
 -- `walk_checks_inner::check_ring` meets its contract: what the numbers' check answers; then the first scan settles the sectors up to n,
 -- and the second those past n.
-use Prim.Native.Nat.{_≤_}
-use mathlib.Core.Path.{_≡_, refl}
-use mathlib.Core.Logic.{inl, inr}
-use native.Mathlib.Omega.{arith}
-use lib.ListN.{length, length-take}
-use borrow.Author.Needs.{needs}
-use mathlib.Core.Bool.{true}
+use Rattle.words.proofs.Needs.{needs, _≤_, arith, _≡_, refl, inl, inr, true, length, length-take}
 use Rattle.walk_checks_inner.proofs.Sectors.{head-bad, head-good, tail-bad, tail-good}
 use Rattle.refusal.specs.Order.{Passed}
 use Rattle.refusal.proofs.More.{upTo2, numbers-refused, numbers-passed}
-use Rattle.walk_checks_inner.proofs.check_ring.Statement.{statement}
 use Rattle.walk_checks_inner.proofs.check_ring.Tie as tie
+
+abbrev else1 : tie.After-first-bad2 → tie.Else1
+else1 c = c .before .before .before
 
 enum-told : tie.Need-enum-told
 enum-told c = search needs
@@ -50,8 +46,8 @@ sub-if2 c = let s = sized (c .before .before .before .before .before .before) in
 
 returns-2 : tie.Need-returns-2
 returns-2 c =
-    let a = c .before .before .before .before .before .before .before .before .before .before .args in
-    let s = sized (c .before .before .before .before .before .before .before) in
+    let a = else1 (c .before) .before .before .before .before .before .before .args in
+    let s = sized (else1 (c .before) .before .before .before) in
     let low = head-good (a .n) (a .k) (a .t3) true (s .1) _ (c .before .before .before .before .before .first-bad .ensures) (c .before .before .before .before .if1 .left) in
     inl (inl (inl (inr (s .0, (_, refl, tail-bad (a .n) (a .k) (a .t3) true (s .1) low (s .2) _ (c .before .first-bad2 .ensures) (c .if2 .taken))))))
 
@@ -63,14 +59,13 @@ returns-3 c =
 
 returns-4 : tie.Need-returns-4
 returns-4 c =
-    let a = c .before .before .before .before .before .before .before .before .before .before .args in
-    let s = sized (c .before .before .before .before .before .before .before) in
+    let a = else1 (c .before) .before .before .before .before .before .before .args in
+    let s = sized (else1 (c .before) .before .before .before) in
     let low = head-good (a .n) (a .k) (a .t3) true (s .1) _ (c .before .before .before .before .before .first-bad .ensures) (c .before .before .before .before .if1 .left) in
     ((((s .0, tail-good (a .n) (a .k) (a .t3) true (s .1) low (s .2) _ (c .before .first-bad2 .ensures) (c .if2 .left)), tt), tt), refl)
 
-pub check-ring-spec : {M : Type 1} → statement M
+pub check-ring-spec : {M : Type 1} → Rattle.walk_checks_inner.proofs.check_ring.Statement.statement M
 check-ring-spec =
-    tie.close
-    (tie.spec (λ c κs. search needs) (λ c. search needs) enum-told array-share-prefix-ring slice-aggregate-first-bad
+    tie.close (tie.spec (λ c κs. search needs) (λ c. search needs) enum-told array-share-prefix-ring slice-aggregate-first-bad
     (λ c κs. search needs) returns sub-first-bad part-first-bad-start part-first-bad-end (λ c κs. search needs)
     sub-if2 (λ c. search needs) returns-2 returns-3 returns-4)

@@ -1,12 +1,6 @@
 -- `walk_counts_inner::byte_counts` meets its contract. The loop's invariant: the counts are those of the first `at` sectors.
-use Prim.Native.Nat.{_≤_, _<_, _-_}
-use mathlib.Core.Path.{_≡_}
-use native.Mathlib.Omega.{arith}
-use lib.ListN.{length, getD, take}
-use lib.Seq.{length-take-le}
+use Rattle.words.proofs.Needs.{needs, _≤_, _<_, _-_, arith, _≡_, length, getD, take, length-take-le}
 use Rattle.walk_counts_inner.proofs.Counting.{Counting, count-start, count-more, count-end, occurs-le}
-use borrow.Author.Needs.{needs}
-use Rattle.walk_counts_inner.proofs.byte_counts.Statement.{statement}
 use Rattle.walk_counts_inner.proofs.byte_counts.Tie as tie
 
 abbrev Inv-loop : tie.InvT-loop
@@ -48,7 +42,7 @@ returns c =
     let e : l .at ≡ c .before .before .args .n = omega (arith, c .loop-test .left) in
     rw e at (count-end 256 (c .before .before .args .t1) (l .counts) (l .at) (l .inv .1))
 
-pub byte-counts-spec : {M : Type 1} → statement M
+pub byte-counts-spec : {M : Type 1} → Rattle.walk_counts_inner.proofs.byte_counts.Statement.statement M
 byte-counts-spec =
     tie.close (tie.spec Inv-loop μ-loop loop-holds (λ c. search needs) (λ c κs. search needs) (λ c. search needs)
     add-counts (λ c. search needs) (λ c. search needs) (λ c. search needs) loop-again returns)

@@ -1,10 +1,6 @@
 -- `walk_counts_inner::counts_of` meets its contract. The loop's invariant: the first b counts are those of the bytes.
-use Prim.Native.Nat.{_≤_, _-_}
-use native.Mathlib.Omega.{arith}
-use lib.ListN.{take}
+use Rattle.words.proofs.Needs.{needs, _≤_, _-_, arith, take}
 use Rattle.walk_counts_inner.proofs.Counting.{Copying, copy-start, copy-more, copy-end}
-use borrow.Author.Needs.{needs}
-use Rattle.walk_counts_inner.proofs.counts_of.Statement.{statement}
 use Rattle.walk_counts_inner.proofs.counts_of.Tie as tie
 
 abbrev Inv-loop : tie.InvT-loop
@@ -26,6 +22,6 @@ returns c =
     copy-end (take (a .n) (a .ring)) (c .before .before .byte-counts .result) (l .counts) (l .b) (c .before .before .byte-counts .ensures) (l .inv .1)
     (c .loop-test .left)
 
-pub counts-of-spec : {M : Type 1} → statement M
+pub counts-of-spec : {M : Type 1} → Rattle.walk_counts_inner.proofs.counts_of.Statement.statement M
 counts-of-spec = tie.close (tie.spec Inv-loop μ-loop (λ c κs. search needs) loop-holds (λ c. search needs)
     (λ c. search needs) (λ c. search needs) (λ c. search needs) loop-again returns)

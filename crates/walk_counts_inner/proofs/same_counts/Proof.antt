@@ -1,12 +1,7 @@
 -- `walk_counts_inner::same_counts` meets its contract. The loop's invariant: whether the first i counts are the same.
-use Prim.Native.Nat.{ℕ, _≤_, _-_}
-use mathlib.Core.Path.{_≡_, refl, sym, ap, _∙_}
-use native.Mathlib.Omega.{arith}
-use lib.ListN.{length}
+use Rattle.words.proofs.Needs.{needs, ℕ, _≤_, _-_, arith, _≡_, refl, sym, ap, _∙_, length}
 use Rattle.words.specs.Search.{allBelow}
 use Rattle.walk_counts_inner.proofs.Counting.{alikeAt, alike-more, same-all}
-use borrow.Author.Needs.{needs}
-use Rattle.walk_counts_inner.proofs.same_counts.Statement.{statement}
 use Rattle.walk_counts_inner.proofs.same_counts.Tie as tie
 
 abbrev Inv-loop : tie.InvT-loop
@@ -34,6 +29,6 @@ returns c =
     let e : l .i ≡ length (a .t1) = omega (arith, c .loop-test .left) in
     l .inv .1 ∙ ap (λ (j : ℕ). allBelow j (alikeAt (a .t1) (a .t2))) e ∙ same-all (a .t1) (a .t2) (x ∙ sym y)
 
-pub same-counts-spec : {M : Type 1} → statement M
+pub same-counts-spec : {M : Type 1} → Rattle.walk_counts_inner.proofs.same_counts.Statement.statement M
 same-counts-spec = tie.close (tie.spec Inv-loop μ-loop loop-holds (λ c. search needs) (λ c. search needs)
     (λ c κs. search needs) (λ c. search needs) (λ c. search needs) loop-again returns)

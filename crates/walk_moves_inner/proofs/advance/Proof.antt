@@ -1,13 +1,7 @@
 -- `walk_moves_inner::advance` meets its contract. The loop's invariant, `Stands`: the step has gone from prenecklace to prenecklace, has met none of the kind, and its lyn rises.
-use Prim.Native.Nat.{ℕ, _<_, _-_}
-use mathlib.Core.Path.{_≡_, _∙_, sym}
-use mathlib.Core.List.{List}
-use native.Mathlib.Omega.{arith}
-use lib.ListN.{length}
-use borrow.Author.Needs.{needs}
+use Rattle.words.proofs.Needs.{needs, ℕ, _<_, _-_, arith, _≡_, _∙_, sym, List, length}
 use Rattle.rings.specs.Next.{raised, repeated}
 use Rattle.walk_moves_inner.proofs.Standing.{Stands, Risen, stands-start, stands-low, stands-none, risen}
-use Rattle.walk_moves_inner.proofs.advance.Statement.{statement}
 use Rattle.walk_moves_inner.proofs.advance.Tie as tie
 
 abbrev Inv-loop : tie.InvT-loop
@@ -15,6 +9,9 @@ Inv-loop ring₀ k kind lyn₀ moves₀ ring lyn moves = Stands kind k ring₀ r
 
 abbrev μ-loop : tie.MeasureT-loop
 μ-loop ring₀ k kind lyn₀ moves₀ ring lyn moves = length ring₀ - lyn
+
+abbrev at-loop : tie.Else1 Inv-loop μ-loop → tie.At-loop Inv-loop μ-loop
+at-loop c = c .before .before .before
 
 loop-holds : tie.Need-loop-holds Inv-loop μ-loop
 loop-holds c = stands-start (c .before .pre)
@@ -33,7 +30,7 @@ raise-requires c κs =
 
 -- behind a place that was raised
 raised-there : (c : tie.After-raise Inv-loop μ-loop) →
-    let a = c .before .before .before .before .before .before .before .args in
+    let a = at-loop (c .before .before) .before .before .args in
     let l = c .before .before .before .before .before .loop in
     let i = c .before .before .before .last-low .result in
     (next : List ℕ) → next ≡ repeated (length (l .ring)) (raised i (l .ring)) → Risen (a .kind) (a .k) (a .ring .now) (l .lyn) (l .moves) i next
@@ -43,7 +40,7 @@ raised-there c next moved =
 
 add-moves : tie.Need-add-moves Inv-loop μ-loop
 add-moves c =
-    let l = c .before .before .before .before .before .before .before in
+    let l = at-loop (c .before .before .before .before) in
     omega (arith, l .loop .inv .few, l .loop .inv .short, l .before .before .pre .fits)
 
 of-kind-requires : tie.Need-of-kind-requires Inv-loop μ-loop
@@ -61,8 +58,7 @@ loop-less c = let d = c .before .before .before .before in omega (arith, raised-
 loop-again : tie.Need-loop-again Inv-loop μ-loop
 loop-again c = let d = c .before .before .before .before in raised-there d _ (d .raise .ensures) .on (sym (c .before .of-kind .ensures) ∙ c .if2 .left)
 
-pub advance-spec : {M : Type 1} → statement M
+pub advance-spec : {M : Type 1} → Rattle.walk_moves_inner.proofs.advance.Statement.statement M
 advance-spec =
-    tie.close
-    (tie.spec Inv-loop μ-loop loop-holds (λ c κs. search needs) same-length returns raise-requires add-moves
+    tie.close (tie.spec Inv-loop μ-loop loop-holds (λ c κs. search needs) same-length returns raise-requires add-moves
     of-kind-requires same-length-2 returns-2 loop-less loop-again)

@@ -1,10 +1,6 @@
 -- `walk_moves_inner::of_kind` meets its contract.
-use mathlib.Core.Path.{sym}
-use native.Mathlib.Omega.{arith}
-use borrow.Author.Needs.{needs}
-use borrow.Author.Tests.{ne-eqb}
+use Rattle.words.proofs.Needs.{needs, arith, sym, ne-eqb}
 use Rattle.walk_kind_laws.proofs.ByLyn.{kind-full}
-use Rattle.walk_moves_inner.proofs.of_kind.Statement.{statement}
 use Rattle.walk_moves_inner.proofs.of_kind.Tie as tie
 
 returns : tie.Need-returns
@@ -19,7 +15,7 @@ returns-3 c = rw (c .before .enum-told2 .given .1) (c .divides .ensures)
 returns-4 : tie.Need-returns-4
 returns-4 c = rw (c .enum-told3 .given .1) (sym (ne-eqb _ _ (c .before .before .if1 .left)))
 
-pub of-kind-spec : {M : Type 1} → statement M
+pub of-kind-spec : {M : Type 1} → Rattle.walk_moves_inner.proofs.of_kind.Statement.statement M
 of-kind-spec =
     tie.close (tie.spec returns (λ c. search needs) (λ c. search needs) divides-requires (λ c. search needs)
     (λ c. search needs) returns-3 returns-4)

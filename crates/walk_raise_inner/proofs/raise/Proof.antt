@@ -1,13 +1,8 @@
 -- `walk_raise_inner::raise` meets its contract. The loop's invariant: the first m sectors repeat the first i, the last of which is raised, and the next is copied from
 -- place m % i.
-use Prim.Native.Nat.{_-_, _%_}
-use mathlib.Core.Path.{_≡_, sym}
-use native.Mathlib.Omega.{arith}
+use Rattle.words.proofs.Needs.{needs, _-_, _%_, arith, _≡_, sym, length, length-set}
 use native.Mathlib.Nat.{mod-self}
-use lib.ListN.{length, length-set}
-use borrow.Author.Needs.{needs}
 use Rattle.walk_raise_inner.proofs.Raising.{Copied, copied-start, copied-more, copied-end, round-in, round-on, round-back}
-use Rattle.walk_raise_inner.proofs.raise.Statement.{statement}
 use Rattle.walk_raise_inner.proofs.raise.Tie as tie
 
 abbrev Inv-loop : tie.InvT-loop
@@ -66,9 +61,8 @@ same-length c = simp length-set at (c .before .loop .inv .0 .long)
 returns : tie.Need-returns Inv-loop μ-loop
 returns c = copied-end (c .before .before .before .args .s .now) _ _ _ (c .before .before .before .pre .0) (c .before .before .before .pre .1) (c .before .loop .inv .0) (c .loop-test .left)
 
-pub raise-spec : {M : Type 1} → statement M
+pub raise-spec : {M : Type 1} → Rattle.walk_raise_inner.proofs.raise.Statement.statement M
 raise-spec =
-    tie.close
-    (tie.spec Inv-loop μ-loop (λ c. search needs) (λ c. search needs) (λ c. search needs) (λ c. search needs)
+    tie.close (tie.spec Inv-loop μ-loop (λ c. search needs) (λ c. search needs) (λ c. search needs) (λ c. search needs)
     loop-holds slice-read-copy (λ c. search needs) add-m add-from loop-less loop-again loop-less-2 loop-again-2
     same-length returns)

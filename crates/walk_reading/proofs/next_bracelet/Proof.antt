@@ -1,13 +1,8 @@
 -- `walk_reading::next_bracelet` meets its contract.
-use Prim.Native.Nat.{_≤_}
-use mathlib.Core.Path.{refl}
-use native.Mathlib.Omega.{arith}
-use lib.ListN.{length, length-take}
+use Rattle.words.proofs.Needs.{needs, _≤_, arith, refl, length, length-take}
 use Rattle.refusal.specs.Order.{Passed}
 use Rattle.walk_reading_spec.specs.Says.{readingOrder}
 use Rattle.walk_reading_inner.proofs.Passing.{passed-ready}
-use borrow.Author.Needs.{needs}
-use Rattle.walk_reading.proofs.next_bracelet.Statement.{statement}
 use Rattle.walk_reading.proofs.next_bracelet.Tie as tie
 
 enum-told : tie.Need-enum-told
@@ -30,7 +25,7 @@ bracelet-in-requires c κs = let p = passed (c .before .before) in (p .0, simp l
 returns : tie.Need-returns
 returns c = (rw (c .before .r .given .1) at (c .before .before .before .check-step .ensures), refl)
 
-pub next-bracelet-spec : {M : Type 1} → statement M
+pub next-bracelet-spec : {M : Type 1} → Rattle.walk_reading.proofs.next_bracelet.Statement.statement M
 next-bracelet-spec =
     tie.close (tie.spec (λ c κs. search needs) (λ c. search needs) enum-told array-borrow-prefix-ring
     slice-aggregate-bracelet-in bracelet-in-requires returns (λ c. search needs) (λ c. search needs))

@@ -1,13 +1,8 @@
 -- `walk_reading::step` meets its contract.
-use Prim.Native.Nat.{_≤_}
-use mathlib.Core.Path.{refl}
-use native.Mathlib.Omega.{arith}
-use lib.ListN.{length, length-take}
+use Rattle.words.proofs.Needs.{needs, _≤_, arith, refl, length, length-take}
 use Rattle.refusal.specs.Order.{Passed}
 use Rattle.walk_reading_spec.specs.Says.{readingOrder}
 use Rattle.walk_reading_inner.proofs.Passing.{passed-ready}
-use borrow.Author.Needs.{needs}
-use Rattle.walk_reading.proofs.step.Statement.{statement}
 use Rattle.walk_reading.proofs.step.Tie as tie
 
 enum-told : tie.Need-enum-told
@@ -30,7 +25,7 @@ step-in-requires c κs = let p = passed (c .before .before) in (p .0, simp lengt
 returns : tie.Need-returns
 returns c = (rw (c .before .r .given .1) at (c .before .before .before .check-step .ensures), refl)
 
-pub step-spec : {M : Type 1} → statement M
+pub step-spec : {M : Type 1} → Rattle.walk_reading.proofs.step.Statement.statement M
 step-spec =
     tie.close (tie.spec (λ c κs. search needs) (λ c. search needs) enum-told array-borrow-prefix-ring
     slice-aggregate-step-in step-in-requires returns (λ c. search needs) (λ c. search needs))

@@ -1,8 +1,6 @@
 -- `walk_start_inner::start_good` meets its contract.
-use mathlib.Core.Path.{_∙_, sym}
-use borrow.Author.Needs.{needs}
+use Rattle.words.proofs.Needs.{needs, _∙_, sym}
 use Rattle.walk_record_laws.proofs.Good.{start-off, start-on, start-is}
-use Rattle.walk_start_inner.proofs.start_good.Statement.{statement}
 use Rattle.walk_start_inner.proofs.start_good.Tie as tie
 
 returns : tie.Need-returns
@@ -30,8 +28,7 @@ returns-2 c =
           (c .counts-of .ensures),
     )
 
-pub start-good-spec : {M : Type 1} → statement M
+pub start-good-spec : {M : Type 1} → Rattle.walk_start_inner.proofs.start_good.Statement.statement M
 start-good-spec =
-    tie.close
-    (tie.spec (λ c κs. search needs) (λ c κs. search needs) (λ c κs. search needs) (λ c κs. search needs) returns
+    tie.close (tie.spec (λ c κs. search needs) (λ c κs. search needs) (λ c κs. search needs) (λ c κs. search needs) returns
     lay-out-requires counts-of-requires returns-2)

@@ -1,12 +1,10 @@
 -- `walk_step_inner::step_good` meets its contract. What `advance` came to is the record of the next ring.
-use Prim.Native.Nat.{_<_}
-use mathlib.Core.Path.{_≡_, refl}
-use native.Mathlib.Omega.{arith}
-use lib.ListN.{length, length-take}
-use borrow.Author.Needs.{needs}
+use Rattle.words.proofs.Needs.{needs, _<_, arith, _≡_, refl, length, length-take}
 use Rattle.walk_record_laws.proofs.Good.{good-ready, moved-is}
-use Rattle.walk_step_inner.proofs.step_good.Statement.{statement}
 use Rattle.walk_step_inner.proofs.step_good.Tie as tie
+
+abbrev start : tie.After-counts-of → tie.Start
+start c = c .before .before .before .before .before
 
 array-borrow-prefix-next : tie.Need-array-borrow-prefix-next
 array-borrow-prefix-next c = let l : length (c .before .args .w .ring) ≡ 64 = search needs in omega (arith, c .before .pre .0 .0 .0 .0 .0 .0)
@@ -23,11 +21,11 @@ counts-of-requires c κs = c .before .before .before .before .pre .0 .0 .0 .0 .0
 returns : tie.Need-returns
 returns c =
     let d = c .before .before .before .before .advance .ensures .done (c .if1 .taken) in
-    record { good = c .before .before .before .before .before .before .before .pre; next = d .0; handed = refl; counted = d .1 }
+    record { good = start (c .before .before) .pre; next = d .0; handed = refl; counted = d .1 }
 
 returns-2 : tie.Need-returns-2
 returns-2 c =
-    let g = c .before .before .before .before .before .before .before .before in
+    let g = start (c .before .before .before) in
     let w = g .args .w in
     let a = c .before .before .before .before .before .advance in
     let l : length (w .ring) ≡ 64 = search needs in
@@ -41,6 +39,6 @@ returns-2 c =
       counted = a .ensures .moved z;
     }
 
-pub step-good-spec : {M : Type 1} → statement M
+pub step-good-spec : {M : Type 1} → Rattle.walk_step_inner.proofs.step_good.Statement.statement M
 step-good-spec = tie.close (tie.spec array-borrow-prefix-next slice-aggregate-advance advance-requires
     counts-of-requires returns (λ c κs. search needs) returns-2)
