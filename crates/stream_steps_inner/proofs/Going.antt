@@ -1,20 +1,11 @@
 -- Whether another read follows.
---     goes-unwritten, goes-over, goes-failed, goes-bytes    by what a read gave, and whether its texts were written
---     goes-less                                             where it goes on, another read can be counted
-use Rattle.words.proofs.Plain.{ℕ, _<_, arith, _≡_, refl, sym, Bool, true, false, false≢true, ltb, ltb-true, ltb-false}
+--     goes-bytes    behind bytes whose texts were written
+--     goes-less     where it goes on, another read can be counted
+use Rattle.words.proofs.Plain.{ℕ, _<_, arith, _≡_, sym, Bool, true, false, false≢true, ltb, ltb-true, ltb-false}
 use Rattle.words.proofs.Split.{passes, fails, test}
 use Rattle.program_reading_inner.specs.declared.Got.{Got}
 use Rattle.program_reading_inner.specs.declared.Got.the-variants.{Bytes, Over, Failed}
 use Rattle.stream_steps_inner.specs.Says.{GoesOn}
-
-pub goes-unwritten : (wrote : Bool) (got : Got) (reads : ℕ) → wrote ≡ false → GoesOn wrote got reads false
-goes-unwritten wrote got reads e = rw e refl
-
-pub goes-over : (wrote : Bool) (got : Got) (reads : ℕ) → wrote ≡ true → got ≡ Over → GoesOn wrote got reads false
-goes-over wrote got reads e f = rw (e, f) refl
-
-pub goes-failed : (wrote : Bool) (got : Got) (reads : ℕ) → wrote ≡ true → got ≡ Failed → GoesOn wrote got reads false
-goes-failed wrote got reads e f = rw (e, f) refl
 
 pub goes-bytes : (wrote : Bool) (got : Got) (reads n : ℕ) → reads < 18446744073709551616 → wrote ≡ true → got ≡ Bytes n → GoesOn wrote got reads (ltb reads 18446744073709551615)
 goes-bytes wrote got reads n h e f =

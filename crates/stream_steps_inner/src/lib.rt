@@ -1,5 +1,4 @@
-// The steps of a program that answers lines that place no text: one byte more of the line under way, a read that failed, and whether another read follows. No public
-// calls.
+// The steps of a program that answers lines which place no text: a byte more of the line under way, a read that failed, whether another follows. No public calls.
 
 use program_reading_inner::Got;
 ghost use Prim.Native.Nat.{_≤_};

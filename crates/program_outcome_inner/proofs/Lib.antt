@@ -1,2 +1,0 @@
--- How a run ended, by what was read (Outcomes).
-pub mod Outcomes
