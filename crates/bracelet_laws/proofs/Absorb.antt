@@ -5,7 +5,7 @@
 --     absorb-begin, absorb     the lemma, of a beginning, and of the first m sectors
 --     begun-filled, filled-begins, begins-iff                    the beginnings of bracelets are those that are one when filled up
 use Rattle.words.proofs.Plain.{ℕ, ◌+◌, ◌-◌, ◌<◌, ◌≤◌, arith, ◌≡◌, sym, ◌∙◌, ◌↔◌, true, List, ◌++◌, length, get_or, take, replicate, length-append}
-use Rattle.words.proofs.Plain.{length-replicate, get_or-replicate, List·getD-append, length-take-le, get_or-take, get_or-append-add}
+use Rattle.words.proofs.Plain.{length-replicate, get_or-replicate, List·get_d-append, length-take-le, get_or-take, get_or-append-add}
 use Rattle.words.specs.Readings.{Reading}
 use Rattle.words.proofs.Split.{lt, eq, gt, tri}
 use Rattle.words.proofs.Sequence.{sec, place}
@@ -23,7 +23,7 @@ module _ (n k : ℕ) (u : List ℕ) (fits : length u ≤ n) where
 
   pub filled-low : (m : ℕ) → m < length u → get_or (filled n k u) m 0 ≡ get_or u m 0
   unfolding filled
-  filled-low m h = List·getD-append u (replicate (n - length u) (k - 1)) 0 m h
+  filled-low m h = List·get_d-append u (replicate (n - length u) (k - 1)) 0 m h
 
   pub filled-high : (m : ℕ) → length u ≤ m → m < n → get_or (filled n k u) m 0 ≡ k - 1
   unfolding filled
@@ -76,7 +76,7 @@ module _ (n k : ℕ) (u : List ℕ) (z : 0 < n) where
   -- what begins a bracelet is one when it is filled up
   pub begun-filled : BeginsBracelet n k u → bracelet (filled n k u) ≡ true
   begun-filled b =
-      absorb-begin n k u (u ++ b.rest) z b.reading b.whole (omega (arith, length-append u b.rest, b.reading.long)) (λ j a. sym (List·getD-append u b.rest 0 j a))
+      absorb-begin n k u (u ++ b.rest) z b.reading b.whole (omega (arith, length-append u b.rest, b.reading.long)) (λ j a. sym (List·get_d-append u b.rest 0 j a))
 
   -- what is a bracelet when it is filled up begins one: that
   pub filled-begins : 0 < k → length u ≤ n → Reading (length u) k u → bracelet (filled n k u) ≡ true → BeginsBracelet n k u

@@ -4,9 +4,9 @@
 use Rattle.words.proofs.Plain.{ℕ, ◌^◌, ◌≡◌, refl, Bool, true, false, List, [], ◌∷◌, map, replicate}
 use Rattle.words.specs.{Readings.readings, Readings.count, Table.Hold}
 use Rattle.rings.specs.{Alike.bracelet, Open.open-all}
-use Rattle.rings.specs.Steps.{howMany, zeros, FullWalk, done, step}
+use Rattle.rings.specs.Steps.{how_many, zeros, FullWalk, done, step}
 use Rattle.rings.proofs.Cases.{ring, digits}
-use Rattle.bracelet_laws.specs.{Pairs.ofPair, Beginnings.filled, Beginnings.tried}
+use Rattle.bracelet_laws.specs.{Pairs.of_pair, Beginnings.filled, Beginnings.tried}
 
 -- the shapes of a row
 pub data Case : Type 0 where
@@ -21,12 +21,12 @@ pub data Case : Type 0 where
 
 -- what a row claims
 unfoldable pub Holds : Case → Type 0
-Holds (many n k m) = howMany bracelet n k ≡ m
+Holds (many n k m) = how_many bracelet n k ≡ m
 Holds (begun n k l u b) = bracelet (filled n k (ring l u)) ≡ b
 Holds (tries n k w l b v) = tried k (ring n w) l b ≡ ring n v
 Holds (walked n k vs) =
     ((m : ℕ) × FullWalk bracelet k (zeros n) (map (ring n) vs) m)
-    × (map (λ w. count (ofPair w) (zeros n ∷ map (ring n) vs)) (readings n k) ≡ replicate (k ^ n) 1)
+    × (map (λ w. count (of_pair w) (zeros n ∷ map (ring n) vs)) (readings n k) ≡ replicate (k ^ n) 1)
 
 unfoldable pub table : List Case
 table =
@@ -44,7 +44,7 @@ table =
 
 -- the one claim
 pub cases : Hold Holds table
-unfolding digits ring ofPair filled tried Holds Hold table open-all
+unfolding digits ring of_pair filled tried Holds Hold table open-all
 cases = (
   refl,
   (

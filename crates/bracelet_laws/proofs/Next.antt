@@ -9,11 +9,11 @@
 --     Leads k w c m        the first m sectors of c lead to the next bracelet after w (specs/Beginnings, passed on)
 --     lead-start, lead-letter, lead-set, lead-on, lead-end      the search for the sectors behind it, place by place, up to the next bracelet
 use Rattle.words.proofs.Plain.{ℕ, suc, ◌+◌, ◌-◌, ◌<◌, ◌≤◌, arith, ◌≡◌, refl, sym, ◌∙◌, true, false, none, some, List, [], ◌∷◌, ◌++◌, length, get_or, take, set}
-use Rattle.words.proofs.Plain.{length-append, length-set, List·getD-append, length-take-le, get_or-take, get_or_at, get_or-set_same, get_or-set_other, ext_get_or}
+use Rattle.words.proofs.Plain.{length-append, length-set, List·get_d-append, length-take-le, get_or-take, get_or_at, get_or-set_same, get_or-set_other, ext_get_or}
 use Rattle.words.specs.{Order.before, Readings.Reading}
 use Rattle.words.proofs.Split.{Tri, lt, eq, gt, tri, both, both_left, both_right, clash, refuted}
 use Rattle.words.proofs.Sequence.{sec, Less, place, less-asym}
-use Rattle.words.proofs.Lex.{before-less, less-before, not-less-upTo}
+use Rattle.words.proofs.Lex.{before-less, less-before, not-less-up_to}
 use Rattle.words.proofs.Readings.{first-is, first-nothing}
 use Rattle.rings.specs.{Alike.bracelet, Steps.above_of, Steps.next_of}
 use Rattle.bracelet_laws.specs.Beginnings.{tried}
@@ -36,7 +36,7 @@ module _ (k : ℕ) (w : List ℕ) (l b : ℕ) (h : l < length w) where
   pub tried-low : (j : ℕ) → j < l → get_or (tried k w l b) j 0 ≡ get_or w j 0
   unfolding tried
   tried-low j e =
-      filled-low (length w) k (take l w ++ (b ∷ [])) (omega (arith, start-length)) j (omega (arith, start-length)) ∙ List·getD-append (take l w)
+      filled-low (length w) k (take l w ++ (b ∷ [])) (omega (arith, start-length)) j (omega (arith, start-length)) ∙ List·get_d-append (take l w)
       (b ∷ []) 0 j (omega (arith, first-length)) ∙ get_or-take l w j 0 e
 
   pub tried-at : get_or (tried k w l b) l 0 ≡ b
@@ -244,7 +244,7 @@ pub lead-end : (k : ℕ) (w c : List ℕ) → Leads k w c (length w) → next_of
 unfolding next_of above_of
 lead-end k w c lead =
     first-is (length w) k (above_of bracelet w) c lead.reading (both (before w c) (bracelet c) (less-before w c (sym long) (rw long lead.above)) lead.whole)
-    (λ v r h. not-less-upTo c v (long ∙ sym r.long) (λ l. lead.least v r (both_right (before w v) (bracelet v) h) (both_left (before w v) (bracelet v) h) (rw long at l)))
+    (λ v r h. not-less-up_to c v (long ∙ sym r.long) (λ l. lead.least v r (both_right (before w v) (bracelet v) h) (both_left (before w v) (bracelet v) h) (rw long at l)))
   where
     long : length c ≡ length w
     long = lead.reading.long

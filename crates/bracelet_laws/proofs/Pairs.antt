@@ -11,17 +11,17 @@ use Rattle.words.proofs.Plain.{ℕ, ◌<◌, arith, ◌≡◌, sym, ap, subst, �
 use Rattle.words.specs.Order.{before, up_to, same}
 use Rattle.words.specs.Readings.{Reading, total, count}
 use Rattle.words.proofs.Split.{passes, fails, test, agree, either, left, right, either_left, either-right, forced}
-use Rattle.words.proofs.Lex.{ahead, equal, behind, lex, same_refl, same_true, true_same, upTo-refl, upTo-antisym, upTo-total, not-upTo, before-less}
+use Rattle.words.proofs.Lex.{ahead, equal, behind, lex, same_refl, same_true, true_same, up_to-refl, up_to-antisym, up_to-total, not-up_to, before-less}
 use Rattle.words.proofs.Readings.{All, also, all-weaken, Increasing}
 use Rattle.words.proofs.Count.{count-cong, count-zero}
 use Rattle.rings.specs.{Necklace.necklace, Home.home, Home.shift, Steps.FullWalk}
-use Rattle.rings.specs.Alike.{evenHanded, mirrored, bracelet}
+use Rattle.rings.specs.Alike.{even_handed, mirrored, bracelet}
 use Rattle.ring_laws.proofs.Moves.{before-not-same, after-not-same}
 use Rattle.ring_laws.proofs.FullWalk.{zeros, length-zeros, zeros-at, zeros-reading, zeros-necklace, walk-kind, walk-increasing, walk-each}
 use Rattle.ring_home_laws.proofs.Home.{shift-lt, home-turn-of, length-home, home-reading, home-necklace, necklace-home}
 use Rattle.ring_home_laws.proofs.Alike.{length-mirrored, mirrored-reading, mirrored-necklace, mirrored-of-turn, mirrored-mirrored, even-mirrored, mirrored-even, even-home}
-use Rattle.bracelet_laws.specs.Pairs.{ofPair, OneOfEachPair, EvenForItself}
-use Rattle.bracelet_laws.proofs.Words.{bracelet-upTo, bracelet-both}
+use Rattle.bracelet_laws.specs.Pairs.{of_pair, OneOfEachPair, EvenForItself}
+use Rattle.bracelet_laws.proofs.Words.{bracelet-up_to, bracelet-both}
 
 -- ---- a necklace and its mirror image
 
@@ -32,19 +32,19 @@ module _ (v : List ℕ) (z : 0 < length v) (h : necklace v ≡ true) where
 
   -- where both are bracelets they are one
   pub mirror-one : bracelet v ≡ true → bracelet (mirrored v) ≡ true → v ≡ mirrored v
-  mirror-one p q = upTo-antisym v (mirrored v) (bracelet-upTo v p) (rw mirror-back at (bracelet-upTo (mirrored v) q))
+  mirror-one p q = up_to-antisym v (mirrored v) (bracelet-up_to v p) (rw mirror-back at (bracelet-up_to (mirrored v) q))
 
   -- where the necklace is none, its mirror image is one
   pub mirror-other : up_to v (mirrored v) ≡ false → bracelet (mirrored v) ≡ true
-  mirror-other e = bracelet-both (mirrored v) (mirrored-necklace v z) (rw mirror-back (upTo-total v (mirrored v) e))
+  mirror-other e = bracelet-both (mirrored v) (mirrored-necklace v z) (rw mirror-back (up_to-total v (mirrored v) e))
 
   -- it is even-handed exactly where its mirror image is itself
-  pub even-itself : (evenHanded v ≡ true) ↔ (mirrored v ≡ v)
+  pub even-itself : (even_handed v ≡ true) ↔ (mirrored v ≡ v)
   even-itself = (λ e. even-mirrored v z e ∙ necklace-home v z h, λ e. mirrored-even v z (e ∙ sym (necklace-home v z h)))
 
   -- then it is a bracelet
-  pub even-bracelet : evenHanded v ≡ true → bracelet v ≡ true
-  even-bracelet e = bracelet-both v h (rw (even-itself.0 e) (upTo-refl v))
+  pub even-bracelet : even_handed v ≡ true → bracelet v ≡ true
+  even-bracelet e = bracelet-both v h (rw (even-itself.0 e) (up_to-refl v))
 
 -- ---- the all-zero ring
 
@@ -56,7 +56,7 @@ zeros-first n u e h = let l = before-less u (zeros n) (e ∙ sym (length-zeros n
 pub zeros-bracelet : (n : ℕ) → 0 < n → bracelet (zeros n) ≡ true
 zeros-bracelet n z =
     bracelet-both (zeros n) (zeros-necklace n) (forced (up_to (zeros n) (mirrored (zeros n))) (λ e.
-    zeros-first n (mirrored (zeros n)) (length-mirrored (zeros n) (omega (arith, length-zeros n)) ∙ length-zeros n) (not-upTo (zeros n) (mirrored (zeros n)) e)))
+    zeros-first n (mirrored (zeros n)) (length-mirrored (zeros n) (omega (arith, length-zeros n)) ∙ length-zeros n) (not-up_to (zeros n) (mirrored (zeros n)) e)))
 
 -- ---- the walk
 
@@ -117,7 +117,7 @@ module _ (n k : ℕ) (z : 0 < n) (y : 0 < k) (rings : List (List ℕ)) (m : ℕ)
 
   -- of each ring and its mirror image exactly one appears, exactly once
   pub walk-pairs : OneOfEachPair n k (zeros n) rings
-  unfolding ofPair
+  unfolding of_pair
   walk-pairs v r =
       let p : 0 < length v = omega (arith, r.long) in
       let e : mirrored (home v) ≡ mirrored v = ap mirrored (home-turn-of v) ∙ mirrored-of-turn v p (shift v) (omega (arith, shift-lt v p)) in

@@ -1,6 +1,8 @@
 // The next bracelet above any reading (02, request c). A beginning can be completed to a bracelet exactly where it, filled up with the highest shade, is one
 // (004, Lemma 1): so each question about a beginning is one test of a whole reading, and no ring between is looked at. No public calls.
 
+#![tactic(auto)]
+
 ghost use Rattle.std.specs.Prelude.{◌<◌, ◌≤◌, length};
 ghost use Rattle.bracelet_next_inner.specs.Going.{ByteReading, BraceletLifted, Led, Completed, NextBraceletSays};
 

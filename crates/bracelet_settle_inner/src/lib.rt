@@ -1,5 +1,7 @@
 // The least shade at a place that makes a reading a bracelet, where each shade above one that does makes it one too. No public calls.
 
+#![tactic(auto)]
+
 ghost use Rattle.std.specs.Prelude.{◌≡◌, ◌-◌, ◌<◌};
 ghost use Rattle.bracelet_settle_inner.specs.Shades.{Between, Settles, ShadeSettled};
 

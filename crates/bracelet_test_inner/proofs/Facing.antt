@@ -8,9 +8,9 @@
 use Rattle.words.proofs.Plain.{ℕ, suc, ◌+◌, ◌-◌, ◌%◌, ◌<◌, ◌≤◌, arith, ◌≡◌, sym, ap, refl, ◌∙◌, true, false, List, reverse, length, length-reverse, ext_get_or}
 use Rattle.words.specs.{Order.up_to, Order.same, Turn.turn}
 use Rattle.words.proofs.Split.{Tri, lt, eq, gt, tri, refuted}
-use Rattle.words.proofs.{Search.all-at, Search.some_of, Lex.true_same, Lex.not-less-upTo, Turn.length-turn}
+use Rattle.words.proofs.{Search.all-at, Search.some_of, Lex.true_same, Lex.not-less-up_to, Turn.length-turn}
 use Rattle.words.proofs.Sequence.{sec, from, Less, place, widen, recast}
-use Rattle.rings.specs.{Necklace.necklace, Necklace.notAboveTurn, Alike.evenHanded, Alike.bracelet}
+use Rattle.rings.specs.{Necklace.necklace, Necklace.not_above_turn, Alike.even_handed, Alike.bracelet}
 use Rattle.ring_laws.proofs.Run.{Run, Pre, smaller}
 use Rattle.ring_laws.proofs.{Words.pre-of, Words.necklace-prenecklace, Lyndon.run-necklace, Lyndon.necklace-run}
 use Rattle.classify_inner.specs.{declared.Begun.Begun, Beginning.LongestPrenecklace}
@@ -121,7 +121,7 @@ module _ (w : List ℕ) (z : 0 < length w) (h : necklace w ≡ true) where
 
     -- a turn that matches to the end: w is even-handed
     pub facing-whole : i < length w → length w ≤ j → bracelet w ≡ true
-    unfolding evenHanded
+    unfolding even_handed
     facing-whole l o =
         even-bracelet w z h (some_of (length w) (λ t. same (turn t (reverse w)) w) i l
         (true_same (turn i (reverse w)) w (ext_get_or 0 (turn i (reverse w)) w long (λ m g. mirror-at i w m l (omega (arith, long)) ∙ f.match m (omega (arith, long))))))
@@ -131,10 +131,10 @@ module _ (w : List ℕ) (z : 0 < length w) (h : necklace w ≡ true) where
 
     -- all turns passed
     pub facing-end : length w ≤ i → bracelet w ≡ true
-    unfolding necklace notAboveTurn
-    facing-end l = turns-bracelet w z (λ t q. all-at (length w) (notAboveTurn w) h t q) mirrors
+    unfolding necklace not_above_turn
+    facing-end l = turns-bracelet w z (λ t q. all-at (length w) (not_above_turn w) h t q) mirrors
       where
         mirrors : (t : ℕ) → t < length w → up_to w (turn t (reverse w)) ≡ true
         mirrors t q =
-            not-less-upTo w (turn t (reverse w)) (sym (length-turn t (reverse w) (rw length-reverse (omega arith)) ∙ length-reverse w))
+            not-less-up_to w (turn t (reverse w)) (sym (length-turn t (reverse w) (rw length-reverse (omega arith)) ∙ length-reverse w))
             (λ x. f.passed t (omega arith) q (recast (sec (turn t (reverse w))) (sec w) (λ m. sec w (mir (length w) t m)) (sec w) (length w) (λ m c. mirror-at t w m q c) (λ m c. refl) x))

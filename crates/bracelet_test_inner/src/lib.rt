@@ -1,5 +1,7 @@
 // Whether a reading is the one ring of its mirror pair (02, request c), in one scan of the reading and one of its reverse. No public calls.
 
+#![tactic(auto)]
+
 ghost use Rattle.std.specs.Prelude.{◌≡◌, true, ◌<◌, length};
 ghost use Rattle.rings.specs.Necklace.{necklace};
 ghost use Rattle.rings.specs.Alike.{bracelet};

@@ -1,5 +1,7 @@
 // Reading the records of a catalogue (01, 'Catalogue records'). A record and what is promised of reading it stand in `record_spec`.
 
+#![tactic(auto)]
+
 ghost use Rattle.record_spec.specs.Says.{ReadSays};
 
 pub use record_spec::{Entry, Kind};

@@ -1,7 +1,9 @@
 // The checks of shade counts: how many there are and their exact sum, behind those of the numbers or of a reading with an output.
 
+#![tactic(auto)]
+
 ghost use Rattle.refusal.specs.Order.{CheckSays};
-ghost use Rattle.refusal.specs.Calls.{CountsFit, countedFirst, countedNext};
+ghost use Rattle.refusal.specs.Calls.{CountsFit, counted_first, counted_next};
 ghost use Rattle.check_counts_inner.specs.Told.{Told};
 
 use refusal::{Checked, Refusal};
@@ -31,7 +33,7 @@ fn counts_fit(counts: &[usize], k: usize, n: usize) -> bool
 
 // Counts and an output of n places: 1, 2, 6.
 pub fn check_first(n: usize, k: usize, counts: &[usize]) -> Checked
-    ensures { CheckSays (countedFirst n k counts.now) result }
+    ensures { CheckSays (counted_first n k counts.now) result }
 {
     match check_numbers_inner::check_numbers(n, n, k) {
         Checked::Refused(r) => Checked::Refused(r),
@@ -46,7 +48,7 @@ pub fn check_first(n: usize, k: usize, counts: &[usize]) -> Checked
 
 // One reading, an output of `room` places, and counts: 1, 2, 3, 4, 6.
 pub fn check_next(s: &[u8], k: usize, room: usize, counts: &[usize]) -> Checked
-    ensures { CheckSays (countedNext s.now k room counts.now) result }
+    ensures { CheckSays (counted_next s.now k room counts.now) result }
 {
     match check_readings_inner::check_room(s, k, room) {
         Checked::Refused(r) => Checked::Refused(r),

@@ -1,6 +1,8 @@
 // What every check rests on: the numbers n and k, and a scan of sectors. No public calls.
 // Numbers are wide (usize) until they are checked, so that 258 shades are refused and not taken for 2.
 
+#![tactic(auto)]
+
 ghost use Rattle.refusal.specs.Order.{CheckSays};
 ghost use Rattle.refusal.specs.Calls.{numbers};
 ghost use Rattle.check_numbers_inner.specs.Scan.{NoneAbove, Scanned};

@@ -1,5 +1,7 @@
 // Classifying a reading (01, 'Rules the work stands on').
 
+#![tactic(auto)]
+
 ghost use Rattle.classify_spec.specs.Says.{ClassifySays};
 
 pub use classify_spec::Classified;

@@ -1,8 +1,10 @@
 // How far bytes are a prenecklace, and their class, by one scan (000, Theorem 2.1); and what a class is and carries. No public calls: `classify::classify` is, and
 // refuses what is no reading.
 
+#![tactic(auto)]
+
 ghost use Rattle.std.specs.Prelude.{◌≡◌, ◌<◌, length};
-ghost use Rattle.rings.specs.Class.{class_of, tag_of, value_of, isLoose, isNecklace, loosePlace};
+ghost use Rattle.rings.specs.Class.{class_of, tag_of, value_of, is_loose, is_necklace, loose_place};
 ghost use Rattle.classify_inner.specs.Beginning.{LongestPrenecklace};
 
 use rings::Class;
@@ -87,7 +89,7 @@ pub fn value(c: Class) -> usize
 
 // Whether a reading of this class is no prenecklace.
 pub fn is_loose(c: Class) -> bool
-    ensures { result ≡ isLoose c }
+    ensures { result ≡ is_loose c }
 {
     match c {
         Class::Loose(_) => true,
@@ -99,7 +101,7 @@ pub fn is_loose(c: Class) -> bool
 
 // Whether a reading of this class is a necklace.
 pub fn is_necklace(c: Class) -> bool
-    ensures { result ≡ isNecklace c }
+    ensures { result ≡ is_necklace c }
 {
     match c {
         Class::Loose(_) => false,
@@ -111,7 +113,7 @@ pub fn is_necklace(c: Class) -> bool
 
 // The place that Loose carries; the other classes give 0.
 pub fn loose_place(c: Class) -> usize
-    ensures { result ≡ loosePlace c }
+    ensures { result ≡ loose_place c }
 {
     match c {
         Class::Loose(p) => p,

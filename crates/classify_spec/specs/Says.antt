@@ -4,10 +4,10 @@
 use Rattle.std.specs.Prelude.{ℕ, ◌≡◌, List}
 use Rattle.rings.specs.Class.{class_of}
 use Rattle.refusal.specs.Order.{Given, Passed}
-use Rattle.refusal.specs.Calls.{oneReading}
+use Rattle.refusal.specs.Calls.{one_reading}
 use Rattle.classify_spec.specs.declared.Classified.{Classified}
 use Rattle.classify_spec.specs.declared.Classified.TheVariants.{Is, Refused}
 
 abbrev pub ClassifySays : List ℕ → ℕ → Classified → Type 0
-ClassifySays w k (Is c) = Passed (oneReading w k) × (c ≡ class_of w)
-ClassifySays w k (Refused r) = Given (oneReading w k) r
+ClassifySays w k (Is c) = Passed (one_reading w k) × (c ≡ class_of w)
+ClassifySays w k (Refused r) = Given (one_reading w k) r

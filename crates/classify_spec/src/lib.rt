@@ -1,5 +1,7 @@
 // What classifying answers and promises, and that it has one answer. No functions.
 
+#![tactic(auto)]
+
 use refusal::Refusal;
 use rings::Class;
 

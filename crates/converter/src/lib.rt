@@ -1,5 +1,7 @@
 // Old catalogues turned into new ones (02, j). What converting promises stands in `converter_spec`.
 
+#![tactic(auto)]
+
 ghost use Rattle.converter_spec.specs.Converts.{ConvertSays};
 
 pub use converter_spec::Conversion;

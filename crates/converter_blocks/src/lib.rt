@@ -1,5 +1,7 @@
 // Old catalogues checked and converted block after block (02, j), for a catalogue of any size. What that promises stands in `converter_blocks_spec`.
 
+#![tactic(auto)]
+
 ghost use Rattle.converter_blocks_spec.specs.Blocks.{StretchSays, TurnSays};
 ghost use Rattle.converter_blocks.specs.Says.{LeftSays};
 

@@ -4,12 +4,12 @@
 --     turned-joined                    the new catalogues stand behind one another too
 --     damage-lasts                     a refusal other than Cut stays, whatever follows
 use Rattle.words.proofs.Plain.{ℕ, ◌+◌, ◌<◌, ◌≤◌, arith, ◌≡◌, refl, sym, ap, ◌∙◌, subst, inl, inr, List, [], ◌++◌, append_assoc, length, get_or, take, drop}
-use Rattle.words.proofs.Plain.{length-append, length-drop, List·getD-append, take-append-le, drop-append-le}
+use Rattle.words.proofs.Plain.{length-append, length-drop, List·get_d-append, take-append-le, drop-append-le}
 use Rattle.refusal.specs.{declared.Refusal.Refusal, declared.Refusal.TheVariants.Cut, Order.Given}
-use Rattle.record_spec.specs.{declared.Kind.TheVariants.Front, Order.After9, Order.behindOrder}
-use Rattle.record_spec.specs.Layout.{n_of, k_of, sectorsOf, body_of}
-use Rattle.converter_spec.specs.Sides.{Side, SideMarked, frontRing}
-use Rattle.converter_spec.specs.{Reads.oldOrder, Converts.Sound.ended, Converts.Sound.more}
+use Rattle.record_spec.specs.{declared.Kind.TheVariants.Front, Order.After9, Order.behind_order}
+use Rattle.record_spec.specs.Layout.{n_of, k_of, sectors_of, body_of}
+use Rattle.converter_spec.specs.Sides.{Side, SideMarked, front_ring}
+use Rattle.converter_spec.specs.{Reads.old_order, Converts.Sound.ended, Converts.Sound.more}
 use Rattle.converter_spec.specs.Converts.{Sound, Turned, Damaged, FrontOf}
 use Rattle.converter_spec.specs.{Converts.Turned.done, Converts.Turned.replaced, Converts.Damaged.here, Converts.Damaged.later}
 use Rattle.converter_spec.proofs.Fronts.{front_long, front_bytes, bytes-front}
@@ -17,7 +17,7 @@ use Rattle.converter_blocks_spec.specs.Blocks.{Lasting}
 
 module _ (a b : List ℕ) (l : 4 ≤ length a) where
   byte : (i : ℕ) → i < 4 → get_or (a ++ b) i 0 ≡ get_or a i 0
-  byte i h = List·getD-append a b 0 i (omega arith)
+  byte i h = List·get_d-append a b 0 i (omega arith)
 
   pub same-n : n_of (a ++ b) ≡ n_of a
   same-n = byte 2 (omega arith)
@@ -32,7 +32,7 @@ module _ (a b : List ℕ) (l : 4 ≤ length a) where
   marked-here x m = rw (byte 0 (omega arith), byte 1 (omega arith)) at m
 
   -- the body, where it is all there
-  same_body : 4 + n_of a ≤ length a → sectorsOf (a ++ b) ≡ sectorsOf a
+  same_body : 4 + n_of a ≤ length a → sectors_of (a ++ b) ≡ sectors_of a
   same_body h = rw (same-n, drop-append-le 4 a b l) (take-append-le (n_of a) (drop 4 a) b (simp length-drop (omega arith)))
 
   -- what stands behind it
@@ -47,7 +47,7 @@ module _ (a b : List ℕ) (l : 4 ≤ length a) where
       let q = same_body g.0.1 in
       (((rw same-n g.0.0.0, rw same-k g.0.0.1), omega (arith, same-n, longer, g.0.1)), ((rw (q, same-k) g.1.0.0, refl), rw q g.1.1))
 
-  behind-joined : (s : ℕ) (r : Refusal) → Lasting r → Given (behindOrder Front a s) r → Given (behindOrder Front (a ++ b) s) r
+  behind-joined : (s : ℕ) (r : Refusal) → Lasting r → Given (behind_order Front a s) r → Given (behind_order Front (a ++ b) s) r
   behind-joined s r k (inl (inl (inl (e, f)))) = inl (inl (inl (e, rw same-n f)))
   behind-joined s r k (inl (inl (inr (g, (e, f))))) = inl (inl (inr (rw same-n g, (e, rw same-k f))))
   behind-joined s r k (inl (inr (g, (e, f)))) = absurd (k s e)
@@ -56,7 +56,7 @@ module _ (a b : List ℕ) (l : 4 ≤ length a) where
       inr (((rw same-n g.0.0, rw same-k g.0.1), omega (arith, same-n, longer, g.1)), rw (q, same-n, same-k) f)
 
 -- a record that is refused otherwise than with Cut is refused so
-pub broken-joined : (a b : List ℕ) (s : ℕ) (r : Refusal) → Lasting r → Given (oldOrder a s) r → Given (oldOrder (a ++ b) s) r
+pub broken-joined : (a b : List ℕ) (s : ℕ) (r : Refusal) → Lasting r → Given (old_order a s) r → Given (old_order (a ++ b) s) r
 broken-joined a b s r k (inl (inl (e, l))) = absurd (k s e)
 broken-joined a b s r k (inl (inr (l, (e, f)))) = inl (inr (omega (arith, longer a b l), (e, λ m. f (m.0, marked-here a b l m.0 m.1))))
 broken-joined a b s r k (inr ((l, (x, m)), f)) = inr ((omega (arith, longer a b l), (x, marked-joined a b l x m)), behind-joined a b l s r k f)
@@ -97,7 +97,7 @@ front-joined a b u v x g f =
       marked = rw (byte u v z 0 (omega arith), byte u v z 1 (omega arith)) f.marked;
       sectors = same-n a b w ∙ f.sectors ∙ sym (same-n u v z);
       shades = same-k a b w ∙ f.shades ∙ sym (same-k u v z);
-      ring = ap (frontRing x) (same_body a b w g.0.1) ∙ f.ring ∙ sym (same_body u v z (omega (arith, front_long a g x u f, f.sectors)));
+      ring = ap (front_ring x) (same_body a b w g.0.1) ∙ f.ring ∙ sym (same_body u v z (omega (arith, front_long a g x u f, f.sectors)));
     }
   where
     w : 4 ≤ length a

@@ -11,11 +11,11 @@ use Rattle.words.proofs.Split.{lt, eq, gt, tri}
 use Rattle.refusal.specs.{declared.Refusal.Refusal, Numbers.number_of, Numbers.place_of, Order.Given}
 use Rattle.refusal.specs.declared.Refusal.TheVariants as R
 use Rattle.record_spec.specs.declared.Kind.TheVariants.{Front}
-use Rattle.record_spec.specs.Layout.{n_of, k_of, body_of, sectorsOf}
-use Rattle.record_spec.specs.Order.{After7, After9, bodyOrder, behindOrder}
+use Rattle.record_spec.specs.Layout.{n_of, k_of, body_of, sectors_of}
+use Rattle.record_spec.specs.Order.{After7, After9, body_order, behind_order}
 use Rattle.ring_laws.proofs.Classes.{look-within}
 use Rattle.record_spec.proofs.{Only.drop-take, Laws.length-sectors}
-use Rattle.converter_spec.specs.{Sides.Side, Sides.SideMarked, Reads.oldOrder, Converts.Sound, Converts.Damaged}
+use Rattle.converter_spec.specs.{Sides.Side, Sides.SideMarked, Reads.old_order, Converts.Sound, Converts.Damaged}
 use Rattle.converter_spec.specs.{Converts.Sound.ended, Converts.Sound.more, Converts.Damaged.here, Converts.Damaged.later}
 use Rattle.converter_blocks_spec.specs.Passes.{moved}
 
@@ -47,18 +47,18 @@ at p s i = omega arith
 further : (p s i j : ℕ) → p + (s + i + j) ≡ p + s + i + j
 further p s i j = omega arith
 
-body-moved : (n k : ℕ) (b : List ℕ) (s p : ℕ) (r : Refusal) → Given (bodyOrder Front n k b s) r → Given (bodyOrder Front n k b (p + s)) (moved p r)
+body-moved : (n k : ℕ) (b : List ℕ) (s p : ℕ) (r : Refusal) → Given (body_order Front n k b s) r → Given (body_order Front n k b (p + s)) (moved p r)
 body-moved n k b s p r (inl (inl (i, e, f))) = inl (inl (i, ap (moved p) e ∙ ap R.Sector (further p s 4 i), f))
 body-moved n k b s p r (inl (inr (f, (e, g)))) = inl (inr (f, (ap (moved p) e ∙ ap R.Padding (further p s 4 (n - 1)), g)))
 body-moved n k b s p r (inr (f, (e, h))) = inr (f, (ap (moved p) e ∙ ap R.NotHome (further p s 4 _), h))
 
-behind_moved : (t : List ℕ) (s p : ℕ) (r : Refusal) → Given (behindOrder Front t s) r → Given (behindOrder Front t (p + s)) (moved p r)
+behind_moved : (t : List ℕ) (s p : ℕ) (r : Refusal) → Given (behind_order Front t s) r → Given (behind_order Front t (p + s)) (moved p r)
 behind_moved t s p r (inl (inl (inl (e, f)))) = inl (inl (inl (ap (moved p) e ∙ ap R.Length (at p s 2), f)))
 behind_moved t s p r (inl (inl (inr (l, (e, f))))) = inl (inl (inr (l, (ap (moved p) e ∙ ap R.Shades (at p s 3), f))))
 behind_moved t s p r (inl (inr (l, (e, f)))) = inl (inr (l, (ap (moved p) e, f)))
 behind_moved t s p r (inr (l, f)) = inr (l, body-moved _ _ _ s p r f)
 
-pub broken-moved : (t : List ℕ) (s p : ℕ) (r : Refusal) → Given (oldOrder t s) r → Given (oldOrder t (p + s)) (moved p r)
+pub broken-moved : (t : List ℕ) (s p : ℕ) (r : Refusal) → Given (old_order t s) r → Given (old_order t (p + s)) (moved p r)
 broken-moved t s p r (inl (inl (e, l))) = inl (inl (ap (moved p) e, l))
 broken-moved t s p r (inl (inr (l, (e, f)))) = inl (inr (l, (ap (moved p) e, f)))
 broken-moved t s p r (inr (l, f)) = inr (l, behind_moved t s p r f)
@@ -75,20 +75,20 @@ damage-moved t s p r (later x m a d) =
 abbrev pub Placed : List ℕ → ℕ → Refusal → Type 0
 Placed t s r = (place_of r < s + length t) × ((p : ℕ) → place_of (moved p r) ≡ p + place_of r)
 
-body-placed : (t : List ℕ) (s : ℕ) (r : Refusal) → After7 Front t → Given (bodyOrder Front (n_of t) (k_of t) (body_of Front t) s) r → Placed t s r
+body-placed : (t : List ℕ) (s : ℕ) (r : Refusal) → After7 Front t → Given (body_order Front (n_of t) (k_of t) (body_of Front t) s) r → Placed t s r
 body-placed t s r l (inl (inl (i, e, f))) = rw e (omega (arith, f.within, length-sectors t l.1, l.1), λ p. refl)
 body-placed t s r l (inl (inr (f, (e, g)))) = absurd (g refl)
 body-placed t s r l (inr (f, (e, h))) =
     let q = length-sectors t l.1 in
-    rw e (omega (arith, look-within (sectorsOf t) (omega (arith, q, l.0.0.0)), q, l.1), λ p. refl)
+    rw e (omega (arith, look-within (sectors_of t) (omega (arith, q, l.0.0.0)), q, l.1), λ p. refl)
 
-behind-placed : (t : List ℕ) (s : ℕ) (r : Refusal) → 4 ≤ length t → Given (behindOrder Front t s) r → Placed t s r
+behind-placed : (t : List ℕ) (s : ℕ) (r : Refusal) → 4 ≤ length t → Given (behind_order Front t s) r → Placed t s r
 behind-placed t s r l (inl (inl (inl (e, f)))) = rw e (omega arith, λ p. refl)
 behind-placed t s r l (inl (inl (inr (g, (e, f))))) = rw e (omega arith, λ p. refl)
 behind-placed t s r l (inl (inr (g, (e, f)))) = rw e (omega arith, λ p. refl)
 behind-placed t s r l (inr (g, f)) = body-placed t s r g f
 
-broken-placed : (t : List ℕ) (s : ℕ) (r : Refusal) → 0 < length t → Given (oldOrder t s) r → Placed t s r
+broken-placed : (t : List ℕ) (s : ℕ) (r : Refusal) → 0 < length t → Given (old_order t s) r → Placed t s r
 broken-placed t s r z (inl (inl (e, l))) = rw e (omega arith, λ p. refl)
 broken-placed t s r z (inl (inr (l, (e, f)))) = rw e (omega arith, λ p. refl)
 broken-placed t s r z (inr ((l, m), f)) = behind-placed t s r l f
@@ -110,7 +110,7 @@ below_of : (a b : ℕ) → (b ≤ a → ⊥) → a < b
 below_of a b f = elim (tri a b) [ lt h ↦ h | eq h ↦ absurd (f (omega arith)) | gt h ↦ absurd (f (omega arith)) ]
 
 -- a record that is cut
-cut-behind : (t : List ℕ) (s q : ℕ) (r : Refusal) → r ≡ R.Cut q → Given (behindOrder Front t s) r → (q ≡ s) × Given (behindOrder Front t 0) (R.Cut 0) × (length t < 68)
+cut-behind : (t : List ℕ) (s q : ℕ) (r : Refusal) → r ≡ R.Cut q → Given (behind_order Front t s) r → (q ≡ s) × Given (behind_order Front t 0) (R.Cut 0) × (length t < 68)
 cut-behind t s q r e (inl (inl (inl (f, g)))) = absurd (other r q 1 e (ap number_of f) (λ z. omega arith))
 cut-behind t s q r e (inl (inl (inr (l, (f, g))))) = absurd (other r q 2 e (ap number_of f) (λ z. omega arith))
 cut-behind t s q r e (inl (inr (l, (f, g)))) = (ap place_of (sym e ∙ f), inl (inr (l, (refl, g))), omega (arith, below_of (length t) (4 + n_of t) g, l.0.1))
@@ -118,12 +118,12 @@ cut-behind t s q r e (inr (l, inl (inl (i, f, g)))) = absurd (other r q 3 e (ap 
 cut-behind t s q r e (inr (l, inl (inr (g, (f, h))))) = absurd (other r q 17 e (ap number_of f) (λ z. omega arith))
 cut-behind t s q r e (inr (l, inr (g, (f, h)))) = absurd (other r q 9 e (ap number_of f) (λ z. omega arith))
 
-pub cut-broken : (t : List ℕ) (s q : ℕ) (r : Refusal) → r ≡ R.Cut q → Given (oldOrder t s) r → (q ≡ s) × Given (oldOrder t 0) (R.Cut 0) × (length t < 68)
+pub cut-broken : (t : List ℕ) (s q : ℕ) (r : Refusal) → r ≡ R.Cut q → Given (old_order t s) r → (q ≡ s) × Given (old_order t 0) (R.Cut 0) × (length t < 68)
 cut-broken t s q r e (inl (inl (f, l))) = (ap place_of (sym e ∙ f), inl (inl (refl, l)), omega (arith, below_of (length t) 4 l))
 cut-broken t s q r e (inl (inr (l, (f, g)))) = absurd (other r q 8 e (ap number_of f) (λ z. omega arith))
 cut-broken t s q r e (inr (l, f)) = let w = cut-behind t s q r e f in (w.0, inr (l, w.1), w.2)
 
-pub begun-short : (t : List ℕ) → Given (oldOrder t 0) (R.Cut 0) → length t < 68
+pub begun-short : (t : List ℕ) → Given (old_order t 0) (R.Cut 0) → length t < 68
 begun-short t h = (cut-broken t 0 0 (R.Cut 0) refl h).2
 
 -- the bytes of a that a good record takes, and any that follow
@@ -140,7 +140,7 @@ module _ (a : List ℕ) (g : After9 a) (f : ℕ) where
   same-k : k_of t ≡ k_of a
   same-k = byte 3 (omega arith)
 
-  same_body : sectorsOf t ≡ sectorsOf a
+  same_body : sectors_of t ≡ sectors_of a
   same_body =
       let e : 4 + n_of a + f ≡ 4 + (n_of a + f) = omega arith in
       rw (same-n, e, drop-take 4 (n_of a + f) a) (take-take (n_of a) (n_of a + f) (drop 4 a) (omega arith))
@@ -163,7 +163,7 @@ pub record Torn (a : List ℕ) (s q : ℕ) : Type 0 where
   pub place : q ≡ s + from
   pub inside : from < length a
   pub sound : Sound (take from a)
-  pub rest : Given (oldOrder (drop from a) 0) (R.Cut 0)
+  pub rest : Given (old_order (drop from a) 0) (R.Cut 0)
 
 pub damage-torn : (a : List ℕ) (s q : ℕ) (r : Refusal) → r ≡ R.Cut q → Damaged a s r → Torn a s q
 damage-torn a s q r e (here l b) =

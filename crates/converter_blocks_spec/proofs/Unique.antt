@@ -5,7 +5,7 @@
 use Rattle.words.proofs.Plain.{ℕ, ◌+◌, ◌<◌, ◌≤◌, arith, dec_lt, ◌≡◌, refl, sym, ap, ◌∙◌, Bool, true, false, true≢false, List, [], ◌++◌, append-nil, length, take}
 use Rattle.words.proofs.Plain.{drop, length-drop, length-take, take-append-drop, drop_of_length-le}
 use Rattle.refusal.specs.{declared.Refusal.Refusal, declared.Refusal.TheVariants.Cut, Numbers.place_of, Order.Given}
-use Rattle.converter_spec.specs.{Reads.oldOrder, Converts.Sound.ended, Converts.Sound.more}
+use Rattle.converter_spec.specs.{Reads.old_order, Converts.Sound.ended, Converts.Sound.more}
 use Rattle.converter_spec.specs.Converts.{Sound, Turned, Damaged}
 use Rattle.converter_spec.specs.Converts.Damaged.{here, later}
 use Rattle.converter_spec.proofs.Unique.{one-turned, one-damage, sound-damaged}
@@ -16,11 +16,11 @@ use Rattle.converter_blocks_spec.specs.Blocks.Unturned.{room, damaged}
 use Rattle.converter_blocks_spec.proofs.{Joined.damage-joined, Places.broken-moved}
 
 -- good records, and the beginning of one more
-pub torn-damage : (b : List ℕ) (m : ℕ) → m ≤ length b → Sound (take m b) → 0 < length (drop m b) → Given (oldOrder (drop m b) 0) (Cut 0) → Damaged b 0 (Cut m)
+pub torn-damage : (b : List ℕ) (m : ℕ) → m ≤ length b → Sound (take m b) → 0 < length (drop m b) → Given (old_order (drop m b) 0) (Cut 0) → Damaged b 0 (Cut m)
 torn-damage b m l s z h =
     let e : m + 0 ≡ m = omega arith in
     let f : 0 + length (take m b) ≡ m = omega (arith, length-take m b) in
-    let k : Given (oldOrder (drop m b) m) (Cut m) = rw e at (broken-moved (drop m b) 0 m (Cut 0) h) in
+    let k : Given (old_order (drop m b) m) (Cut m) = rw e at (broken-moved (drop m b) 0 m (Cut 0) h) in
     rw (take-append-drop m b) at (damage-joined (take m b) (drop m b) 0 (Cut m) s (rw f (here z k)))
 
 -- all of it

@@ -11,7 +11,7 @@ use Rattle.std.specs.Prelude.{ℕ, ◌≤◌, ◌≡◌, Bool, true, false, List
 use Rattle.refusal.specs.declared.Refusal.{Refusal}
 use Rattle.refusal.specs.declared.Refusal.TheVariants.{Room, Cut}
 use Rattle.refusal.specs.Order.{Given}
-use Rattle.converter_spec.specs.Reads.{oldOrder}
+use Rattle.converter_spec.specs.Reads.{old_order}
 use Rattle.converter_spec.specs.Converts.{Sound, Turned, Damaged}
 use Rattle.converter_blocks_spec.specs.declared.Stretch.{Stretch}
 use Rattle.converter_blocks_spec.specs.declared.Stretch.TheVariants.{Records, Refused}
@@ -21,7 +21,7 @@ Lasting r = (p : ℕ) → r ≡ Cut p → ⊥
 
 pub data Unfinished (t : List ℕ) : Type 0 where
   nothing : t ≡ [] → Unfinished t
-  begun : Given (oldOrder t 0) (Cut 0) → Unfinished t
+  begun : Given (old_order t 0) (Cut 0) → Unfinished t
 
 -- what is left behind m bytes of whole records
 abbrev pub LeftOver : Bool → List ℕ → Type 0

@@ -1,5 +1,7 @@
 // A block of an old catalogue, which is cut anywhere, and what checking it answers (02, j). The call is `converter_blocks`'s.
 
+#![tactic(auto)]
+
 use refusal::Refusal;
 
 // What a block holds from its front on.

@@ -4,7 +4,7 @@
 use Rattle.words.proofs.Plain.{ℕ, ◌≤◌, ◌≡◌, inr, List, length, get_or}
 use Rattle.refusal.specs.{declared.Checked.Checked, declared.Checked.TheVariants.Good, declared.Checked.TheVariants.Refused}
 use Rattle.record_body_inner.specs.Steps.{RestSays}
-use Rattle.converter_spec.specs.Sides.{Side, sideByte, SideMarked}
+use Rattle.converter_spec.specs.Sides.{Side, side_byte, SideMarked}
 use Rattle.converter_spec.specs.Sides.Side.{front, back}
 use Rattle.converter_check_inner.specs.Old.{OldSays}
 

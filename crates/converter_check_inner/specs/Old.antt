@@ -6,8 +6,8 @@ use Rattle.refusal.specs.declared.Checked.TheVariants.{Good, Refused}
 use Rattle.refusal.specs.Order.{Given}
 use Rattle.record_spec.specs.Order.{After9}
 use Rattle.converter_spec.specs.Sides.{Side, SideMarked}
-use Rattle.converter_spec.specs.Reads.{oldOrder}
+use Rattle.converter_spec.specs.Reads.{old_order}
 
 abbrev pub OldSays : List ℕ → ℕ → Checked → Type 0
 OldSays t s Good = (x : Side) × SideMarked t x × After9 t
-OldSays t s (Refused r) = Given (oldOrder t s) r
+OldSays t s (Refused r) = Given (old_order t s) r

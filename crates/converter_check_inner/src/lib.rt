@@ -1,5 +1,7 @@
 // The checks of one record of an old catalogue: 7, 8, and then what stands behind the mark, as in a record of today. No public calls.
 
+#![tactic(auto)]
+
 ghost use Rattle.std.specs.Prelude.{◌+◌, length};
 ghost use Rattle.record_body_inner.specs.Steps.{Held};
 ghost use Rattle.converter_check_inner.specs.Old.{OldSays};

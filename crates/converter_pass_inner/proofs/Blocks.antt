@@ -11,7 +11,7 @@ use Rattle.converter_blocks_spec.specs.declared.Stretch.TheVariants as S
 use Rattle.converter_blocks_spec.specs.Blocks as O
 use Rattle.converter_blocks_spec.proofs.{Unique.all, Places.damage-placed}
 use Rattle.program_ending_inner.specs.declared.Ending.TheVariants as E
-use Rattle.program_passes_inner.specs.Passes.{ReadTo, Course, goneBy}
+use Rattle.program_passes_inner.specs.Passes.{ReadTo, Course, gone_by}
 use Rattle.program_passes_inner.specs.Passes.Course.{On, Done, Stopped}
 use Rattle.converter_pass_inner.specs.{Says.BlockBecomes, Says.AtSays, Says.AtSays.read}
 
@@ -24,7 +24,7 @@ last-length b m l e = let z : length (drop m b) ≡ 0 = rw e in omega (arith, z,
 
 -- ---- the first time
 
-pub check-gone : (p : ℕ) (b d : List ℕ) (m : ℕ) (last : Bool) → O.StretchSays b last (S.Records m) → BlockBecomes false p b last d (goneBy last m)
+pub check-gone : (p : ℕ) (b d : List ℕ) (m : ℕ) (last : Bool) → O.StretchSays b last (S.Records m) → BlockBecomes false p b last d (gone_by last m)
 check-gone p b d m true h = let f = all b m h.2 in (refl, last-length b m h.0 h.2, rw f at h.1, tt)
 check-gone p b d m false h = (refl, h, tt)
 
@@ -38,7 +38,7 @@ module _ (p : ℕ) (b o d : List ℕ) (m : ℕ) where
   pub write-within : (last : Bool) → O.TurnSays b last o (S.Records m) d → m ≤ length o
   write-within last h = omega (arith, h.0, h.1.0)
 
-  pub write-gone : (last : Bool) → O.TurnSays b last o (S.Records m) d → BlockBecomes true p b last d (goneBy last m)
+  pub write-gone : (last : Bool) → O.TurnSays b last o (S.Records m) d → BlockBecomes true p b last d (gone_by last m)
   write-gone true h = let f = all b m h.1.2 in (refl, last-length b m h.1.0 h.1.2, rw f at h.1.1, rw f at h.2)
   write-gone false h = (refl, h.1, h.2)
 

@@ -1,5 +1,5 @@
 -- What becomes of a block. w tells which time through the catalogue it is: false the first, which checks, true the second, which writes.
---     mostBlock                    no block has more than 65,536 bytes
+--     most_block                    no block has more than 65,536 bytes
 --     BuffersFit b d               a block b has room for the longest record, and the output d has its length
 --     Kept w b d                   what stands in the output d for whole records b: the first time anything, the second their conversion
 --     Why w p b last t             why a block is as far as it goes
@@ -13,15 +13,15 @@ use Rattle.converter_blocks_spec.specs.declared.Stretch.TheVariants as S
 use Rattle.converter_blocks_spec.specs.Blocks.{StretchSays}
 use Rattle.program_ending_inner.specs.declared.Ending.{Ending}
 use Rattle.program_ending_inner.specs.declared.Ending.TheVariants as E
-use Rattle.program_passes_inner.specs.Passes.{failedOf, ReadTo, Course}
+use Rattle.program_passes_inner.specs.Passes.{failed_of, ReadTo, Course}
 use Rattle.program_passes_inner.specs.Passes.Course.{On, Done, Stopped}
 
-abbrev pub mostBlock : ℕ
-mostBlock = 65536
+abbrev pub most_block : ℕ
+most_block = 65536
 
 pub record BuffersFit (b d : List ℕ) : Type 0 where
   pub some : 68 ≤ length b
-  pub short : length b ≤ mostBlock
+  pub short : length b ≤ most_block
   pub same : length d ≡ length b
 
 abbrev pub Kept : Bool → List ℕ → List ℕ → Type 0
@@ -39,5 +39,5 @@ BlockBecomes w p b last d (Stopped t) = Why w p b last t
 
 -- what stands in the lent block afterwards was read: all of it, or its first m bytes, and then the catalogue ended
 pub data AtSays (w : Bool) (p : ℕ) (b d : List ℕ) (v : Course) : Type 0 where
-  unread : v ≡ Stopped (failedOf w) → AtSays w p b d v
+  unread : v ≡ Stopped (failed_of w) → AtSays w p b d v
   read : (last : Bool) (m : ℕ) → ReadTo b last m → BlockBecomes w p (take m b) last (take m d) v → AtSays w p b d v

@@ -12,13 +12,13 @@ use Rattle.converter_spec.specs.Converts.Sound.{ended as none}
 use Rattle.converter_blocks_spec.specs.Passes.{moved}
 use Rattle.converter_blocks_spec.proofs.Joined.{sound-joined, damage-joined, turned-joined}
 use Rattle.converter_blocks_spec.proofs.Places.{number-moved, damage-moved, damage-placed}
-use Rattle.converter_blocks_spec.proofs.Through.{goes_on}
+use Rattle.converter_blocks_spec.proofs.Through.{goes_on_lem}
 use Rattle.program_ending_inner.specs.declared.Ending.{Ending}
 use Rattle.program_ending_inner.specs.declared.Ending.TheVariants as E
-use Rattle.program_passes_inner.specs.Passes.{limit, failedOf, sameEnd, Course, goesFurther, EndWithin, finishAt}
+use Rattle.program_passes_inner.specs.Passes.{limit, failed_of, same_end, Course, goes_further, EndWithin, finish_at}
 use Rattle.program_passes_inner.specs.Passes.Course.{On, Done, Stopped}
 use Rattle.program_passes_inner.proofs.Courses.{too_far}
-use Rattle.converter_pass_inner.specs.Says.{mostBlock, BuffersFit, Why, BlockBecomes, AtSays}
+use Rattle.converter_pass_inner.specs.Says.{most_block, BuffersFit, Why, BlockBecomes, AtSays}
 use Rattle.converter_pass_inner.specs.Says.AtSays.{unread, read}
 use Rattle.converter_program_inner.specs.Says.{Reached, StopSays, PassSays, WrittenSays, ThroughSays}
 use Rattle.converter_program_inner.specs.Says.ThroughSays.{stopped, whole}
@@ -61,7 +61,7 @@ why-stops false p b last t (r, h, e) (c, l, s) =
     let d : Damaged b (0 + length c) (moved p r) = rw k at (damage-moved b 0 p r h.0) in
     rw e (refl, (c ++ b, moved p r, damage-joined c b 0 (moved p r) s d, sym (number-moved p r), sym ((damage-placed b 0 r h.0).1 p)))
 
-failed-stops : (w : Bool) → StopSays w (failedOf w)
+failed-stops : (w : Bool) → StopSays w (failed_of w)
 failed-stops false = refl
 failed-stops true = refl
 
@@ -73,7 +73,7 @@ module _ (w : Bool) (p : ℕ) (b d : List ℕ) (v : Course) (q : Reached w p) wh
   at_on m e l (read false n i k) =
       let h : BlockBecomes w p (take n b) false (take n d) (On m) = rw e at k in
       let j : length (take n b) ≡ length b = omega (arith, i, length-take n b) in
-      (goes_on (take n b) m h.1 (omega (arith, j, l)), omega (arith, j, h.1.0), on-reached w p (take n b) (take n d) m h q)
+      (goes_on_lem (take n b) m h.1 (omega (arith, j, l)), omega (arith, j, h.1.0), on-reached w p (take n b) (take n d) m h q)
 
   at_done : (m : ℕ) → v ≡ Done m → AtSays w p b d v → (m ≤ length b) × Reached w (p + m)
   at_done m e (unread f) = absurd (let z : ◌≡◌ {A = ℕ} 1 2 = ap which (sym e ∙ f) in omega arith)
@@ -82,17 +82,17 @@ module _ (w : Bool) (p : ℕ) (b d : List ℕ) (v : Course) (q : Reached w p) wh
       (omega (arith, h.1, length-take n b), done-reached w p (take n b) last (take n d) m h q)
 
   at-stopped : (t : Ending) → v ≡ Stopped t → AtSays w p b d v → StopSays w t
-  at-stopped t e (unread f) = let g : t ≡ failedOf w = ap why (sym e ∙ f) in rw g (failed-stops w)
+  at-stopped t e (unread f) = let g : t ≡ failed_of w = ap why (sym e ∙ f) in rw g (failed-stops w)
   at-stopped t e (read last n i k) = let h : BlockBecomes w p (take n b) last (take n d) (Stopped t) = rw e at k in why-stops w p (take n b) last t h q
 
 module _ (w : Bool) (p : ℕ) (b d : List ℕ) (q : Reached w p) where
   -- how a time ends with a block
-  pub at-ends : (v : Course) → 68 ≤ length b → goesFurther p v ≡ false → AtSays w p b d v → PassSays w (finishAt p v)
+  pub at-ends : (v : Course) → 68 ≤ length b → goes_further p v ≡ false → AtSays w p b d v → PassSays w (finish_at p v)
   at-ends (On m) l e h = (p + m, too_far p m e, (at_on w p b d (On m) q m refl l h).2)
   at-ends (Done m) l e h = (at_done w p b d (Done m) q m refl h).1
   at-ends (Stopped t) l e h = at-stopped w p b d (Stopped t) q t refl h
 
-  pub at-within : (v : Course) → p < limit → length b ≤ mostBlock → AtSays w p b d v → EndWithin p v
+  pub at-within : (v : Course) → p < limit → length b ≤ most_block → AtSays w p b d v → EndWithin p v
   at-within (On m) i l h = tt
   at-within (Done m) i l h = omega (arith, (at_done w p b d (Done m) q m refl h).0)
   at-within (Stopped t) i l h = tt
@@ -100,12 +100,12 @@ module _ (w : Bool) (p : ℕ) (b d : List ℕ) (q : Reached w p) where
 -- ---- how a time ended
 
 -- both went through
-pub written-through : (e a : ℕ) (t : Ending) → Reached true a → t ≡ sameEnd e a → WrittenSays e t
-unfolding sameEnd
+pub written-through : (e a : ℕ) (t : Ending) → Reached true a → t ≡ same_end e a → WrittenSays e t
+unfolding same_end
 written-through e a t h f =
     elim (test (eqb e a)) [
-      | passes g ↦ let q : Reached true e = rw (eqb-true e a g) h in inl (q, rw (g, sameEnd) at f)
-      | fails g ↦ let q : t ≡ E.Changed = rw (g, sameEnd) at f in inr (rw q refl)
+      | passes g ↦ let q : Reached true e = rw (eqb-true e a g) h in inl (q, rw (g, same_end) at f)
+      | fails g ↦ let q : t ≡ E.Changed = rw (g, same_end) at f in inr (rw q refl)
     ]
 
 pub through-whole : (e : ℕ) (t : Ending) → Reached false e → WrittenSays e t → ThroughSays t

@@ -2,7 +2,9 @@
 // It goes through the file on standard input twice, block after block. The first time it checks the whole; only where that is good it goes through it again, and
 // writes.
 
-ghost use Rattle.program_passes_inner.specs.Passes.{finishOf};
+#![tactic(auto)]
+
+ghost use Rattle.program_passes_inner.specs.Passes.{finish_of};
 ghost use Rattle.converter_pass_inner.specs.Says.{BuffersFit};
 ghost use Rattle.converter_program_inner.specs.Says.{PassSays, WrittenSays, ThroughSays};
 
@@ -13,7 +15,7 @@ use program_passes_inner::Pass;
 // Once through the catalogue.
 fn go_once(writing: bool, block: &mut [u8], new: &mut [u8]) -> Pass
     requires { BuffersFit block.old new.old }
-    ensures { PassSays writing (finishOf result) }
+    ensures { PassSays writing (finish_of result) }
 {
     let mut at = 0;
     loop {

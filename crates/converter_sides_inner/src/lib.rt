@@ -1,5 +1,7 @@
 // A ring seen from the other side, made where it is to stand: no second copy of it. No public calls: the callers check what these ask for.
 
+#![tactic(auto)]
+
 ghost use Rattle.std.specs.Prelude.{◌≡◌, ◌<◌, ◌≤◌, length};
 ghost use Rattle.words.specs.Turn.{turn};
 ghost use Rattle.rings.specs.Home.{home};

@@ -1,5 +1,7 @@
 // The checks of a whole old catalogue, record by record from its front. No public calls.
 
+#![tactic(auto)]
+
 ghost use Rattle.converter_spec.specs.Converts.{SoundSays};
 
 use record_spec::HEAD;

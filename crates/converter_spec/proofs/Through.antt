@@ -12,11 +12,11 @@ use Rattle.words.proofs.Plain.{ℕ, ◌+◌, ◌<◌, ◌≤◌, arith, ◌≡�
 use Rattle.refusal.specs.declared.Refusal.{Refusal}
 use Rattle.record_spec.specs.{declared.Kind.TheVariants.Front, declared.Entry.Entry}
 use Rattle.record_spec.specs.{declared.Entry.TheVariants.Record, declared.Entry.TheVariants.End, Order.After9, Says.ReadSays}
-use Rattle.record_spec.specs.Layout.{Marked, n_of, k_of, sectorsOf}
+use Rattle.record_spec.specs.Layout.{Marked, n_of, k_of, sectors_of}
 use Rattle.record_spec.proofs.Unique.{one-read}
 use Rattle.converter_spec.specs.declared.Conversion.{Conversion}
 use Rattle.converter_spec.specs.declared.Conversion.TheVariants.{Converted, Refused}
-use Rattle.converter_spec.specs.Sides.{Side, SideMarked, frontRing}
+use Rattle.converter_spec.specs.Sides.{Side, SideMarked, front_ring}
 use Rattle.converter_spec.specs.{Sides.Side.front, Sides.Side.back, Reads.OldReadSays}
 use Rattle.converter_spec.specs.Reads.OldEntry.{entry, end, refused}
 use Rattle.converter_spec.specs.Converts.{Turned, Damaged, ConvertSays, FrontRecords}
@@ -103,10 +103,10 @@ module _ (c d : List ℕ) (s : ℕ) (h : Turned c d) (i : Start c s) where
         },
       )
         where
-          ring : o ≡ sectorsOf (drop s d) ++ drop n b
+          ring : o ≡ sectors_of (drop s d) ++ drop n b
           ring =
               g.2.ring
-              ∙ ap (λ (z : Side). frontRing z (sectorsOf (drop s c)) ++ drop n b) (one_side (drop s c) x y g.2.marked m)
+              ∙ ap (λ (z : Side). front_ring z (sectors_of (drop s c)) ++ drop n b) (one_side (drop s c) x y g.2.marked m)
               ∙ ap (λ (v : List ℕ). v ++ drop n b) f.ring
 
   -- and the end
@@ -126,7 +126,7 @@ module _ (c d : List ℕ) (s : ℕ) (h : Turned c d) (i : Start c s) where
       at-end e = let z : length (drop s c) ≡ 0 = rw e in (l, omega (arith, z, length-drop s c, start-inside c s i), refl)
 
       ring : Side → List ℕ
-      ring x = frontRing x (sectorsOf (drop s c)) ++ drop (n_of (drop s c)) b
+      ring x = front_ring x (sectors_of (drop s c)) ++ drop (n_of (drop s c)) b
 
       given : (x : Side) → SideMarked (drop s c) x → After9 (drop s c) → OldReadSays c s b (entry (n_of (drop s c)) (k_of (drop s c)) x (s + 4 + n_of (drop s c))) (ring x)
       given x m a = (l, omega (arith, a.0.1, length-drop s c), record { good = a; marked = m; sectors = refl; shades = refl; follows = refl; ring = refl })

@@ -8,12 +8,12 @@ use Rattle.words.proofs.Plain.{ℕ, ◌+◌, arith, ◌≡◌, refl, sym, ap, �
 use Rattle.refusal.specs.{declared.Refusal.Refusal, Order.Given}
 use Rattle.refusal.proofs.Unique.{one-refusal, never_both}
 use Rattle.record_spec.specs.{declared.Kind.TheVariants.Front, Order.After9}
-use Rattle.record_spec.specs.Layout.{n_of, k_of, sectorsOf}
+use Rattle.record_spec.specs.Layout.{n_of, k_of, sectors_of}
 use Rattle.record_spec.proofs.Laid.{bytes}
 use Rattle.converter_spec.specs.declared.Conversion.{Conversion}
 use Rattle.converter_spec.specs.declared.Conversion.TheVariants.{Converted, Refused}
-use Rattle.converter_spec.specs.Sides.{Side, SideMarked, frontRing}
-use Rattle.converter_spec.specs.{Reads.oldOrder, Converts.Sound.ended, Converts.Sound.more}
+use Rattle.converter_spec.specs.Sides.{Side, SideMarked, front_ring}
+use Rattle.converter_spec.specs.{Reads.old_order, Converts.Sound.ended, Converts.Sound.more}
 use Rattle.converter_spec.specs.Converts.{Sound, Turned, Damaged, Unconverted, ConvertSays}
 use Rattle.converter_spec.specs.Converts.Turned.{done, replaced}
 use Rattle.converter_spec.specs.Converts.Damaged.{here, later}
@@ -24,8 +24,8 @@ use Rattle.converter_spec.proofs.Fronts.{one_side, front_bytes}
 
 module _ (t : List ℕ) (s : ℕ) where
   -- it is not refused where it is good
-  pub good-broken : (x : Side) (r : Refusal) → SideMarked t x → After9 t → Given (oldOrder t s) r → ⊥
-  good-broken x r k a g = never_both (oldOrder t s) r g ((omega (arith, a.0.1), (x, k)), a)
+  pub good-broken : (x : Side) (r : Refusal) → SideMarked t x → After9 t → Given (old_order t s) r → ⊥
+  good-broken x r k a g = never_both (old_order t s) r g ((omega (arith, a.0.1), (x, k)), a)
 
 -- a good record is not the end
 pub some_left : (t : List ℕ) → After9 t → t ≡ [] → ⊥
@@ -45,13 +45,13 @@ one-turned t u v (done e f) (replaced x m a g r) = absurd (some_left t a e)
 one-turned t u v (replaced x m a f r) (done g h) = absurd (some_left t a g)
 one-turned t u v (replaced x m a f r) (replaced y o b g q) =
     front_bytes t a x u f
-    ∙ ap (λ (i : Side). bytes Front (n_of t) (k_of t) (frontRing i (sectorsOf t)) ++ drop (4 + n_of t) u) (one_side t x y m o)
-    ∙ ap (λ (l : List ℕ). bytes Front (n_of t) (k_of t) (frontRing y (sectorsOf t)) ++ l) (one-turned (drop (4 + n_of t) t) (drop (4 + n_of t) u) (drop (4 + n_of t) v) r q)
+    ∙ ap (λ (i : Side). bytes Front (n_of t) (k_of t) (front_ring i (sectors_of t)) ++ drop (4 + n_of t) u) (one_side t x y m o)
+    ∙ ap (λ (l : List ℕ). bytes Front (n_of t) (k_of t) (front_ring y (sectors_of t)) ++ l) (one-turned (drop (4 + n_of t) t) (drop (4 + n_of t) u) (drop (4 + n_of t) v) r q)
     ∙ sym (front_bytes t b y v g)
 
 -- there is one refusal
 pub one-damage : (t : List ℕ) (s : ℕ) (r q : Refusal) → Damaged t s r → Damaged t s q → r ≡ q
-one-damage t s r q (here l b) (here m c) = one-refusal (oldOrder t s) r q b c
+one-damage t s r q (here l b) (here m c) = one-refusal (old_order t s) r q b c
 one-damage t s r q (here l b) (later x m a d) = absurd (good-broken t s x r m a b)
 one-damage t s r q (later x m a d) (here l b) = absurd (good-broken t s x q m a b)
 one-damage t s r q (later x m a d) (later y o b e) = one-damage (drop (4 + n_of t) t) (s + 4 + n_of t) r q d e

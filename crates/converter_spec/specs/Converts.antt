@@ -17,12 +17,12 @@ use Rattle.refusal.specs.declared.Refusal.{Refusal}
 use Rattle.refusal.specs.declared.Refusal.TheVariants.{Room}
 use Rattle.refusal.specs.Order.{Given}
 use Rattle.record_spec.specs.declared.Kind.TheVariants.{Front}
-use Rattle.record_spec.specs.Layout.{Marked, n_of, k_of, sectorsOf}
+use Rattle.record_spec.specs.Layout.{Marked, n_of, k_of, sectors_of}
 use Rattle.record_spec.specs.Order.{After9}
 use Rattle.converter_spec.specs.declared.Conversion.{Conversion}
 use Rattle.converter_spec.specs.declared.Conversion.TheVariants.{Converted, Refused}
-use Rattle.converter_spec.specs.Sides.{Side, SideMarked, frontRing}
-use Rattle.converter_spec.specs.Reads.{oldOrder}
+use Rattle.converter_spec.specs.Sides.{Side, SideMarked, front_ring}
+use Rattle.converter_spec.specs.Reads.{old_order}
 
 -- ---- a catalogue that is not damaged
 
@@ -35,7 +35,7 @@ pub record FrontOf (x : Side) (t u : List ℕ) : Type 0 where
   pub marked : Marked u Front
   pub sectors : n_of t ≡ n_of u
   pub shades : k_of t ≡ k_of u
-  pub ring : frontRing x (sectorsOf t) ≡ sectorsOf u
+  pub ring : front_ring x (sectors_of t) ≡ sectors_of u
 
 pub data Turned : List ℕ → List ℕ → Type 0 where
   done : {t u : List ℕ} → t ≡ [] → u ≡ [] → Turned t u
@@ -44,7 +44,7 @@ pub data Turned : List ℕ → List ℕ → Type 0 where
 -- ---- one that is
 
 pub data Damaged : List ℕ → ℕ → Refusal → Type 0 where
-  here : {t : List ℕ} {s : ℕ} {r : Refusal} → 0 < length t → Given (oldOrder t s) r → Damaged t s r
+  here : {t : List ℕ} {s : ℕ} {r : Refusal} → 0 < length t → Given (old_order t s) r → Damaged t s r
   later : {t : List ℕ} {s : ℕ} {r : Refusal} (x : Side) → SideMarked t x → After9 t → Damaged (drop (4 + n_of t) t) (s + 4 + n_of t) r → Damaged t s r
 
 -- ---- either

@@ -6,9 +6,9 @@
 use Rattle.words.proofs.Plain.{ℕ, ◌+◌, ◌-◌, ◌<◌, ◌≤◌, arith, ◌≡◌, refl, sym, ap, ◌∙◌, List, [], ◌++◌, append-nil, append_assoc, length, get_or, take, drop}
 use Rattle.words.proofs.Plain.{length-append, length-drop, drop_of_length-le, length-take-le, take_at, drop_at, take_all, get_or-take, get_or-drop, drop-drop}
 use Rattle.record_spec.specs.{declared.Kind.TheVariants.Front, Order.After9}
-use Rattle.record_spec.specs.Layout.{n_of, k_of, sectorsOf}
+use Rattle.record_spec.specs.Layout.{n_of, k_of, sectors_of}
 use Rattle.record_spec.proofs.{Laid.bytes, Only.drop-take}
-use Rattle.converter_spec.specs.Sides.{Side, SideMarked, frontRing}
+use Rattle.converter_spec.specs.Sides.{Side, SideMarked, front_ring}
 use Rattle.converter_spec.specs.{Converts.Sound, Converts.Turned, Converts.Sound.ended, Converts.Sound.more}
 use Rattle.converter_spec.specs.Converts.Turned.{done, replaced}
 use Rattle.converter_turn_inner.specs.Fronts.{Fronted}
@@ -36,7 +36,7 @@ here_of t (ended e) l = absurd (let z : length t ≡ 0 = rw e in omega (arith, z
 here_of t (more x m a r) l = record { side = x; marked = m; good = a; rest = r }
 
 -- the record that was written
-written : (t : List ℕ) (x : Side) (u : List ℕ) → SideMarked t x → Fronted (take (4 + n_of t) t) u → u ≡ bytes Front (n_of t) (k_of t) (frontRing x (sectorsOf t))
+written : (t : List ℕ) (x : Side) (u : List ℕ) → SideMarked t x → Fronted (take (4 + n_of t) t) u → u ≡ bytes Front (n_of t) (k_of t) (front_ring x (sectors_of t))
 written t x u m f = rw (at 2 (omega arith), at 3 (omega arith), drop-take 4 (n_of t) t) at (f x (rw (at 0 (omega arith), at 1 (omega arith)) m))
   where
     at : (i : ℕ) → i < 4 → get_or (take (4 + n_of t) t) i 0 ≡ get_or t i 0
@@ -83,7 +83,7 @@ module _ (c o : List ℕ) (p : ℕ) (g : Going c o p) (l : p < length c) where
       ahead : drop (4 + n_of t) t ≡ drop e c
       ahead = let j : p + (4 + n_of t) ≡ e = omega (arith, size) in drop-drop (4 + n_of t) p c ∙ ap (λ (i : ℕ). drop i c) j
 
-      front : u ≡ bytes Front (n_of t) (k_of t) (frontRing h.side (sectorsOf t))
+      front : u ≡ bytes Front (n_of t) (k_of t) (front_ring h.side (sectors_of t))
       front = written t h.side u h.marked (rw ends at f)
 
       wide : length u ≡ 4 + n_of t

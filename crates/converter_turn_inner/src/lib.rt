@@ -1,5 +1,7 @@
 // A good old catalogue written as front records, record by record. No public calls: `converter` checks what these ask for.
 
+#![tactic(auto)]
+
 ghost use Rattle.std.specs.Prelude.{◌≡◌, ◌<◌, length};
 ghost use Rattle.converter_spec.specs.Converts.{Sound, Turned};
 ghost use Rattle.converter_turn_inner.specs.Fronts.{Fronted};

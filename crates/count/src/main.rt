@@ -1,5 +1,7 @@
 // The report program (02, request f).
 
+#![tactic(auto)]
+
 use stream_kind_inner::Kind;
 
 fn main() {

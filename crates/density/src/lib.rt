@@ -1,5 +1,7 @@
 // From reflectances to shades, by a reference card (02, i).
 
+#![tactic(auto)]
+
 ghost use Rattle.density_spec.specs.Says.{SectorSays, RingSays};
 
 use density_spec::{Card, RingRead, SectorRead};

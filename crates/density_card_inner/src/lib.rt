@@ -1,14 +1,16 @@
 // A card: whether it is good, and the level of each of its cuts. No public calls.
 
+#![tactic(auto)]
+
 ghost use Rattle.std.specs.Prelude.{◌≡◌, ◌≤◌};
 ghost use Rattle.words.specs.Readings.{Shaded};
-ghost use Rattle.density_spec.specs.Cuts.{goodCard, cut};
+ghost use Rattle.density_spec.specs.Cuts.{good_card, cut};
 
 use density_spec::Card;
 
 // Whether 0 <= dark < light <= 1.
 pub fn is_good(card: Card) -> bool
-    ensures { result ≡ goodCard card }
+    ensures { result ≡ good_card card }
 {
     if card.dark >= 0.0 {
         if card.dark < card.light {

@@ -1,8 +1,10 @@
 // What one reflectance tells, by the cuts of a card. No public calls: the shades and the card are checked before, once.
 
+#![tactic(auto)]
+
 ghost use Rattle.std.specs.Prelude.{◌≡◌};
 ghost use Rattle.words.specs.Readings.{Shaded};
-ghost use Rattle.density_spec.specs.Cuts.{shadeOf};
+ghost use Rattle.density_spec.specs.Cuts.{shade_of};
 ghost use Rattle.density_spec.specs.Says.{ShadeSays};
 
 use density_spec::{Card, Sector};
@@ -10,7 +12,7 @@ use density_spec::{Card, Sector};
 // The number of cuts not above x.
 fn cuts_not_above(card: Card, k: u8, x: f32) -> u8
     requires { Shaded k }
-    ensures { result ≡ shadeOf card k x }
+    ensures { result ≡ shade_of card k x }
 {
     let last = k - 1;
     let mut shade: u8 = 0;

@@ -5,7 +5,7 @@
 -- That the contracts admit one answer each: `density_spec`, proofs/Unique.
 use Rattle.words.proofs.Plain.{ℕ, ◌<◌, ◌≤◌, arith, ◌≡◌, Bool, true, List, T, length, get_or}
 use lib.Ieee.{Float, nan, le}
-use Rattle.density_spec.specs.{declared.Card.Card, declared.Sector.Sector, declared.Sector.TheVariants.Shade, Cuts.shadeOf}
+use Rattle.density_spec.specs.{declared.Card.Card, declared.Sector.Sector, declared.Sector.TheVariants.Shade, Cuts.shade_of}
 use Rattle.density_spec.specs.declared.SectorRead.TheVariants as S
 use Rattle.density_spec.specs.declared.RingRead.TheVariants as R
 use Rattle.density_spec.specs.Says.{SectorSays, RingSays}
@@ -25,7 +25,7 @@ brighter-sector c k x y s t h p q = omega (arith, p.1.1, q.1.1, brighter c k x y
 
 module _ (c : Card) (k : ℕ) (xs : List Float) (b d : List ℕ) (wrote : RingSays xs k c b R.Written d) where
   -- each sector's shade is that of its value
-  written_at : (i : ℕ) → i < length xs → get_or d i 0 ≡ shadeOf c k (get_or xs i nan)
+  written_at : (i : ℕ) → i < length xs → get_or d i 0 ≡ shade_of c k (get_or xs i nan)
   written_at i h = rw wrote.1 (shade-at c k xs i h)
 
   -- and so the one that `sector_shade` tells

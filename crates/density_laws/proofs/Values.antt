@@ -9,14 +9,14 @@ use Rattle.density_spec.specs.Cuts.{NoNumber, Out, In, zero32, one32}
 use Rattle.density_laws.proofs.Floats.{le-lt, lt-le, le-number}
 
 pub data Kind (x : Float) : Type 0 where
-  noNumber : NoNumber x → Kind x
+  no_number : NoNumber x → Kind x
   out : Out x → Kind x
   within : In x → Kind x
 
 pub kind : (x : Float) → Kind x
 kind x =
     elim (test (ne x x)) [
-      | passes p ↦ noNumber p
+      | passes p ↦ no_number p
       | fails p ↦
           elim (test (lt x zero32)) [
             | passes q ↦ out (p, inl q)

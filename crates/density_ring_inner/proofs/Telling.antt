@@ -6,7 +6,7 @@ use lib.Ieee.{Float, ne}
 use denote.Enum.Declared.{tag_of}
 use types.Run.{OneOf}
 use Rattle.words.proofs.Split.{clash}
-use Rattle.density_spec.specs.{declared.Card.Card, declared.Sector.Sector, Cuts.In, Cuts.shadeOf, Says.ShadeSays}
+use Rattle.density_spec.specs.{declared.Card.Card, declared.Sector.Sector, Cuts.In, Cuts.shade_of, Says.ShadeSays}
 use Rattle.density_spec.specs.declared.Sector.TheVariants.{Shade, Outside, NotANumber}
 use Rattle.density_spec.proofs.{Sector.the_type, Unique.in-out}
 
@@ -16,5 +16,5 @@ has-none c k x (Outside y) t w p = in-out x p w.0
 has-none c k x NotANumber t w p = clash (ne x x) w p.0
 
 -- an answer that is a shade: the value has one, and it is that
-pub has_one : (c : Card) (k : ℕ) (x : Float) (s : Sector) (v : ℕ) → s ≡ Shade v → ShadeSays c k x s → In x × (v ≡ shadeOf c k x)
+pub has_one : (c : Card) (k : ℕ) (x : Float) (s : Sector) (v : ℕ) → s ≡ Shade v → ShadeSays c k x s → In x × (v ≡ shade_of c k x)
 has_one c k x s v e w = rw e at w

@@ -1,8 +1,8 @@
 -- The card, its cuts, and the shade of a value (02, i). A value is a 32-bit float; every operation is that of 32-bit floats, rounded once (`lib.Ieee`).
---     goodCard c       0 <= dark < light <= 1
+--     good_card c       0 <= dark < light <= 1
 --     cut c k j        cut j: dark + ((light - dark) x (2j - 1)) / (2k - 2), the operations in that order
---     cutsUpTo c k x m    how many of the cuts 1 to m are not above x
---     shadeOf c k x    how many of the cuts 1 to k - 1 are not above x
+--     cuts_up_to c k x m    how many of the cuts 1 to m are not above x
+--     shade_of c k x    how many of the cuts 1 to k - 1 are not above x
 --     NoNumber x, Out x, In x    x is not a number; it is one, and below 0 or above 1; it is one, and neither
 -- Of the three a value is exactly one, and `In x` says 0 <= x <= 1; a brighter value has no lower shade, and each shade is below k: density_laws, Values and Shades.
 use Rattle.std.specs.Prelude.{ℕ, zero, suc, ◌+◌, ◌-◌, ◌*◌, ◌≡◌, Bool, true, false, ◌&&◌, ◌⊎◌, pos, Float}
@@ -23,8 +23,8 @@ abbrev pub whole32 : ℕ → Float
 whole32 m = of_int binary32 (pos m)
 
 -- 0 <= dark < light <= 1; false of a card with a field that is not a number
-abbrev pub goodCard : Card → Bool
-goodCard c = le zero32 c.dark && (lt c.dark c.light && le c.light one32)
+abbrev pub good_card : Card → Bool
+good_card c = le zero32 c.dark && (lt c.dark c.light && le c.light one32)
 
 -- cut j: the light less the dark; that times 2j - 1; that by 2k - 2; the dark and that
 abbrev pub cut : Card → ℕ → ℕ → Float
@@ -34,13 +34,13 @@ cut c k j =
     add binary32 c.dark part
 
 -- how many of the cuts 1 to m are not above x
-unfoldable pub cutsUpTo : Card → ℕ → Float → ℕ → ℕ
-cutsUpTo c k x zero = 0
-cutsUpTo c k x (suc m) = cutsUpTo c k x m + bit (le (cut c k (suc m)) x)
+unfoldable pub cuts_up_to : Card → ℕ → Float → ℕ → ℕ
+cuts_up_to c k x zero = 0
+cuts_up_to c k x (suc m) = cuts_up_to c k x m + bit (le (cut c k (suc m)) x)
 
 -- the shade of a value: the number of cuts not above it
-abbrev pub shadeOf : Card → ℕ → Float → ℕ
-shadeOf c k x = cutsUpTo c k x (k - 1)
+abbrev pub shade_of : Card → ℕ → Float → ℕ
+shade_of c k x = cuts_up_to c k x (k - 1)
 
 -- ---- what a value is
 

@@ -12,20 +12,20 @@ use Rattle.density_spec.specs.declared.SectorRead.{SectorRead}
 use Rattle.density_spec.specs.declared.SectorRead.TheVariants as S
 use Rattle.density_spec.specs.declared.RingRead.{RingRead}
 use Rattle.density_spec.specs.declared.RingRead.TheVariants as R
-use Rattle.density_spec.specs.Cuts.{shadeOf, NoNumber, Out, In}
-use Rattle.density_spec.specs.Order.{sectorOrder, ringOrder}
+use Rattle.density_spec.specs.Cuts.{shade_of, NoNumber, Out, In}
+use Rattle.density_spec.specs.Order.{sector_order, ring_order}
 
 -- a shade, the offending value itself, or that it is no number
 abbrev pub ShadeSays : Card → ℕ → Float → Sector → Type 0
-ShadeSays c k x (Shade s) = In x × (s ≡ shadeOf c k x)
+ShadeSays c k x (Shade s) = In x × (s ≡ shade_of c k x)
 ShadeSays c k x (Outside y) = Out x × (y ≡ x)
 ShadeSays c k x NotANumber = NoNumber x
 
 abbrev pub SectorSays : Float → ℕ → Card → SectorRead → Type 0
-SectorSays x k c (S.Is s) = Passed (sectorOrder k c) × ShadeSays c k x s
-SectorSays x k c (S.Refused r) = Given (sectorOrder k c) r
+SectorSays x k c (S.Is s) = Passed (sector_order k c) × ShadeSays c k x s
+SectorSays x k c (S.Refused r) = Given (sector_order k c) r
 
 -- the output holds each sector's shade; a refusal writes nothing
 abbrev pub RingSays : List Float → ℕ → Card → List ℕ → RingRead → List ℕ → Type 0
-RingSays xs k c b R.Written d = Passed (ringOrder xs k c (length b)) × (d ≡ map (shadeOf c k) xs)
-RingSays xs k c b (R.Refused r) d = Given (ringOrder xs k c (length b)) r × (d ≡ b)
+RingSays xs k c b R.Written d = Passed (ring_order xs k c (length b)) × (d ≡ map (shade_of c k) xs)
+RingSays xs k c b (R.Refused r) d = Given (ring_order xs k c (length b)) r × (d ≡ b)

@@ -1,5 +1,7 @@
 // What the calls by reflectances are given and answer (02, i). The calls are `density`'s.
 
+#![tactic(auto)]
+
 use refusal::Refusal;
 
 // The reference card: the reflectances of its dark and of its light field.

@@ -1,5 +1,7 @@
 // The desk: for each line of standard input one line on standard output, as soon as it is there.
 
+#![tactic(auto)]
+
 use stream_kind_inner::Kind;
 
 fn main() {

@@ -1,5 +1,7 @@
 // Questions about one reading: its class, its home, whether it is even-handed, its place on the strip, the next ring. No public calls.
 
+#![tactic(auto)]
+
 ghost use Rattle.std.specs.Prelude.{◌+◌, ◌≤◌, ◌≡◌, length};
 ghost use Rattle.stream_spec.specs.Blocks.{Puts};
 ghost use Rattle.text_words_spec.specs.Words.{Spelt};
@@ -7,15 +9,15 @@ ghost use Rattle.desk_spec.specs.declared.About.TheVariants as asks;
 ghost use Rattle.desk_spec.specs.declared.Verb.TheVariants as verbs;
 ghost use Rattle.desk_spec.specs.Questions.{Replies};
 ghost use Rattle.desk_spec.specs.Answers.{AboutSays, VerbSays, blank};
-ghost use Rattle.desk_texts_inner.specs.Says.{deskRoom};
+ghost use Rattle.desk_texts_inner.specs.Says.{desk_room};
 
 use desk_spec::About;
 use desk_words_inner::Head;
 
 // The answer to each question.
 fn answer_class(k: usize, w: &[u8], buf: &mut [u8], at: usize) -> usize
-    requires { at + deskRoom ≤ length buf.old }
-    ensures { Puts (AboutSays asks.Class k w.now) deskRoom buf.old at result buf.new }
+    requires { at + desk_room ≤ length buf.old }
+    ensures { Puts (AboutSays asks.Class k w.now) desk_room buf.old at result buf.new }
 {
     let a = classify::classify(w, k);
     desk_texts_inner::place_classified(buf, at, a)
@@ -24,24 +26,24 @@ fn answer_class(k: usize, w: &[u8], buf: &mut [u8], at: usize) -> usize
 fn answer_home(k: usize, w: &[u8], out: &mut [u8], buf: &mut [u8], at: usize) -> usize
     requires w_len_bound { length w.now ≤ 4095 }
     requires out_value { out.old ≡ blank (length w.now) }
-    requires desk_room_in_bounds { at + deskRoom ≤ length buf.old }
-    ensures { Puts (AboutSays asks.Home k w.now) deskRoom buf.old at result buf.new }
+    requires desk_room_in_bounds { at + desk_room ≤ length buf.old }
+    ensures { Puts (AboutSays asks.Home k w.now) desk_room buf.old at result buf.new }
 {
     let a = home::bring_home(w, k, out);
     desk_texts_inner::place_homed(buf, at, a, out)
 }
 
 fn answer_even(k: usize, w: &[u8], buf: &mut [u8], at: usize) -> usize
-    requires { at + deskRoom ≤ length buf.old }
-    ensures { Puts (AboutSays asks.Even k w.now) deskRoom buf.old at result buf.new }
+    requires { at + desk_room ≤ length buf.old }
+    ensures { Puts (AboutSays asks.Even k w.now) desk_room buf.old at result buf.new }
 {
     let a = home::even_handed(w, k);
     desk_texts_inner::place_told(buf, at, a)
 }
 
 fn answer_place(k: usize, w: &[u8], buf: &mut [u8], at: usize) -> usize
-    requires { at + deskRoom ≤ length buf.old }
-    ensures { Puts (AboutSays asks.Place k w.now) deskRoom buf.old at result buf.new }
+    requires { at + desk_room ≤ length buf.old }
+    ensures { Puts (AboutSays asks.Place k w.now) desk_room buf.old at result buf.new }
 {
     let a = strip::place_of(w, k);
     desk_texts_inner::place_position(buf, at, a)
@@ -50,8 +52,8 @@ fn answer_place(k: usize, w: &[u8], buf: &mut [u8], at: usize) -> usize
 fn answer_about(v: About, k: usize, w: &[u8], out: &mut [u8], buf: &mut [u8], at: usize) -> usize
     requires w_len_bound { length w.now ≤ 4095 }
     requires out_value { out.old ≡ blank (length w.now) }
-    requires desk_room_in_bounds { at + deskRoom ≤ length buf.old }
-    ensures { Puts (AboutSays v k w.now) deskRoom buf.old at result buf.new }
+    requires desk_room_in_bounds { at + desk_room ≤ length buf.old }
+    ensures { Puts (AboutSays v k w.now) desk_room buf.old at result buf.new }
 {
     match v {
         About::Class => answer_class(k, w, buf, at),
@@ -75,8 +77,8 @@ fn ask_about(
     requires t_len_bound { length t.now ≤ 4095 }
     requires w_len { length w.old ≡ length t.now }
     requires out_value { out.old ≡ blank (length t.now) }
-    requires desk_room_in_bounds { at + deskRoom ≤ length buf.old }
-    ensures { Puts (Replies (Spelt t.now) (AboutSays v k)) deskRoom buf.old at result buf.new }
+    requires desk_room_in_bounds { at + desk_room ≤ length buf.old }
+    ensures { Puts (Replies (Spelt t.now) (AboutSays v k)) desk_room buf.old at result buf.new }
 {
     if !text_spell_inner::spell(t, w) {
         return desk_texts_inner::place_malformed(buf, at);
@@ -87,8 +89,8 @@ fn ask_about(
 // What the text behind the verb prints.
 pub fn place_about(v: About, t: &[u8], buf: &mut [u8], at: usize) -> usize
     requires t_len_bound { length t.now ≤ 4095 }
-    requires desk_room_in_bounds { at + deskRoom ≤ length buf.old }
-    ensures { Puts (VerbSays (verbs.About v) t.now) deskRoom buf.old at result buf.new }
+    requires desk_room_in_bounds { at + desk_room ≤ length buf.old }
+    ensures { Puts (VerbSays (verbs.About v) t.now) desk_room buf.old at result buf.new }
 {
     match desk_words_inner::head_of(t) {
         Head::Malformed => desk_texts_inner::place_malformed(buf, at),

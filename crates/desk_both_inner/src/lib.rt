@@ -1,12 +1,14 @@
 // Questions about two readings: whether they are the same ring, and how far apart they are. No public calls.
 
+#![tactic(auto)]
+
 ghost use Rattle.std.specs.Prelude.{◌+◌, ◌≤◌, ◌≡◌, length};
 ghost use Rattle.stream_spec.specs.Blocks.{Puts};
 ghost use Rattle.desk_spec.specs.declared.Both.TheVariants as asks;
 ghost use Rattle.desk_spec.specs.declared.Verb.TheVariants as verbs;
 ghost use Rattle.desk_spec.specs.Questions.{Replies};
 ghost use Rattle.desk_spec.specs.Answers.{BothSays, VerbSays};
-ghost use Rattle.desk_texts_inner.specs.Says.{deskRoom};
+ghost use Rattle.desk_texts_inner.specs.Says.{desk_room};
 ghost use Rattle.desk_words_inner.specs.Says.{SpeltBoth, ReadsBoth, BothAsked};
 
 use desk_spec::Both;
@@ -14,24 +16,24 @@ use desk_words_inner::Head;
 
 // The answer to each question.
 fn answer_same(k: usize, a: &[u8], b: &[u8], buf: &mut [u8], at: usize) -> usize
-    requires { at + deskRoom ≤ length buf.old }
-    ensures { Puts (BothSays asks.Same k a.now b.now) deskRoom buf.old at result buf.new }
+    requires { at + desk_room ≤ length buf.old }
+    ensures { Puts (BothSays asks.Same k a.now b.now) desk_room buf.old at result buf.new }
 {
     let x = home::same_ring(a, b, k);
     desk_texts_inner::place_told(buf, at, x)
 }
 
 fn answer_apart(k: usize, a: &[u8], b: &[u8], buf: &mut [u8], at: usize) -> usize
-    requires { at + deskRoom ≤ length buf.old }
-    ensures { Puts (BothSays asks.Apart k a.now b.now) deskRoom buf.old at result buf.new }
+    requires { at + desk_room ≤ length buf.old }
+    ensures { Puts (BothSays asks.Apart k a.now b.now) desk_room buf.old at result buf.new }
 {
     let x = home::apart(a, b, k);
     desk_texts_inner::place_distance(buf, at, x)
 }
 
 fn answer_both(v: Both, k: usize, a: &[u8], b: &[u8], buf: &mut [u8], at: usize) -> usize
-    requires { at + deskRoom ≤ length buf.old }
-    ensures { Puts (BothSays v k a.now b.now) deskRoom buf.old at result buf.new }
+    requires { at + desk_room ≤ length buf.old }
+    ensures { Puts (BothSays v k a.now b.now) desk_room buf.old at result buf.new }
 {
     match v {
         Both::Same => answer_same(k, a, b, buf, at),
@@ -52,8 +54,8 @@ fn ask_both(
 ) -> usize
     requires a_len { length a.old ≡ length s.now }
     requires b_len { length b.old ≡ length t.now }
-    requires desk_room_in_bounds { at + deskRoom ≤ length buf.old }
-    ensures { Puts (BothAsked v k s.now t.now) deskRoom buf.old at result buf.new }
+    requires desk_room_in_bounds { at + desk_room ≤ length buf.old }
+    ensures { Puts (BothAsked v k s.now t.now) desk_room buf.old at result buf.new }
 {
     if !text_spell_inner::spell(s, a) {
         return desk_texts_inner::place_malformed(buf, at);
@@ -76,8 +78,8 @@ fn ask_words(
 ) -> usize
     requires t_in_bounds { length t.now ≤ length a.old }
     requires t_in_bounds_2 { length t.now ≤ length b.old }
-    requires desk_room_in_bounds { at + deskRoom ≤ length buf.old }
-    ensures { Puts (Replies (ReadsBoth t.now) (SpeltBoth v k)) deskRoom buf.old at result buf.new }
+    requires desk_room_in_bounds { at + desk_room ≤ length buf.old }
+    ensures { Puts (Replies (ReadsBoth t.now) (SpeltBoth v k)) desk_room buf.old at result buf.new }
 {
     let e = text_spell_inner::piece_end(t, b' ');
     if t.len() <= e {
@@ -99,8 +101,8 @@ fn ask_words(
 // What the text behind the verb prints.
 pub fn place_both(v: Both, t: &[u8], buf: &mut [u8], at: usize) -> usize
     requires t_len_bound { length t.now ≤ 4095 }
-    requires desk_room_in_bounds { at + deskRoom ≤ length buf.old }
-    ensures { Puts (VerbSays (verbs.Both v) t.now) deskRoom buf.old at result buf.new }
+    requires desk_room_in_bounds { at + desk_room ≤ length buf.old }
+    ensures { Puts (VerbSays (verbs.Both v) t.now) desk_room buf.old at result buf.new }
 {
     match desk_words_inner::head_of(t) {
         Head::Malformed => desk_texts_inner::place_malformed(buf, at),

@@ -1,17 +1,19 @@
 // The shade of one value, or the ring of several, by the card that stands in front of them, and what it prints. No public calls.
 
+#![tactic(auto)]
+
 ghost use Rattle.std.specs.Prelude.{◌+◌, ◌<◌, ◌≤◌, ◌≡◌, length, drop};
 ghost use Rattle.stream_spec.specs.Blocks.{Puts};
 ghost use Rattle.desk_spec.specs.Answers.{ShadesSays, blank};
-ghost use Rattle.desk_texts_inner.specs.Says.{deskRoom, longestRing};
+ghost use Rattle.desk_texts_inner.specs.Says.{desk_room, longest_ring};
 
 use density_spec::Card;
 
 // One value behind the card.
 pub fn answer_one(k: usize, xs: &[f32], buf: &mut [u8], at: usize) -> usize
     requires xs_len { length xs.now ≡ 3 }
-    requires desk_room_in_bounds { at + deskRoom ≤ length buf.old }
-    ensures { Puts (ShadesSays k xs.now) deskRoom buf.old at result buf.new }
+    requires desk_room_in_bounds { at + desk_room ≤ length buf.old }
+    ensures { Puts (ShadesSays k xs.now) desk_room buf.old at result buf.new }
 {
     let card = Card {
         dark: xs[0],
@@ -24,10 +26,10 @@ pub fn answer_one(k: usize, xs: &[f32], buf: &mut [u8], at: usize) -> usize
 // Several.
 pub fn answer_ring(k: usize, xs: &[f32], out: &mut [u8], buf: &mut [u8], at: usize) -> usize
     requires in_bounds { 3 < length xs.now }
-    requires out_len_bound { length out.old ≤ longestRing }
+    requires out_len_bound { length out.old ≤ longest_ring }
     requires out_value { out.old ≡ blank (length (drop 2 xs.now)) }
-    requires desk_room_in_bounds { at + deskRoom ≤ length buf.old }
-    ensures { Puts (ShadesSays k xs.now) deskRoom buf.old at result buf.new }
+    requires desk_room_in_bounds { at + desk_room ≤ length buf.old }
+    ensures { Puts (ShadesSays k xs.now) desk_room buf.old at result buf.new }
 {
     let card = Card {
         dark: xs[0],

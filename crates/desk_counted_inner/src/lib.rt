@@ -1,22 +1,24 @@
 // Rings of fixed counts: the first, or the next behind a reading. No public calls.
 
+#![tactic(auto)]
+
 ghost use Rattle.std.specs.Prelude.{◌+◌, ◌<◌, ◌≤◌, ◌≡◌, length};
 ghost use Rattle.stream_spec.specs.Blocks.{Puts};
-ghost use Rattle.desk_spec.specs.Texts.{nextRingText};
+ghost use Rattle.desk_spec.specs.Texts.{next_ring_text};
 ghost use Rattle.desk_spec.specs.Questions.{Replies};
 ghost use Rattle.desk_spec.specs.Answers.{AfterPrints, VerbSays, blank};
-ghost use Rattle.desk_texts_inner.specs.Says.{deskRoom, longestRing, LinePrinted};
+ghost use Rattle.desk_texts_inner.specs.Says.{desk_room, longest_ring, LinePrinted};
 ghost use Rattle.desk_counts_inner.specs.Says.{WordCounts, ReadsRing, AfterAsked};
-ghost use Rattle.desk_counted_inner.specs.Says.{CountedPrints, CountedBehind, countedVerb};
+ghost use Rattle.desk_counted_inner.specs.Says.{CountedPrints, CountedBehind, counted_verb};
 
 use desk_counts_inner::Listed;
 use desk_words_inner::Head;
 use shades_spec::NextAnswer;
 
 fn place_next_ring(buf: &mut [u8], at: usize, a: NextAnswer, ring: &[u8]) -> usize
-    requires ring_len_bound { length ring.now ≤ longestRing }
-    requires desk_room_in_bounds { at + deskRoom ≤ length buf.old }
-    ensures { LinePrinted buf.old at (nextRingText a ring.now) result buf.new }
+    requires ring_len_bound { length ring.now ≤ longest_ring }
+    requires desk_room_in_bounds { at + desk_room ≤ length buf.old }
+    ensures { LinePrinted buf.old at (next_ring_text a ring.now) result buf.new }
 {
     match a {
         NextAnswer::Ring => desk_texts_inner::place_ring(buf, at, ring),
@@ -33,10 +35,10 @@ fn answer_after(
     buf: &mut [u8],
     at: usize,
 ) -> usize
-    requires out_len_bound { length out.old ≤ longestRing }
+    requires out_len_bound { length out.old ≤ longest_ring }
     requires out_value { out.old ≡ blank (length w.now) }
-    requires desk_room_in_bounds { at + deskRoom ≤ length buf.old }
-    ensures { Puts (AfterPrints k w.now counts.now) deskRoom buf.old at result buf.new }
+    requires desk_room_in_bounds { at + desk_room ≤ length buf.old }
+    ensures { Puts (AfterPrints k w.now counts.now) desk_room buf.old at result buf.new }
 {
     let a = shades::next_ring(w, k, counts, out);
     place_next_ring(buf, at, a, out)
@@ -52,8 +54,8 @@ fn answer_counted(
     at: usize,
 ) -> usize
     requires w_len_bound { length w.now ≤ 4095 }
-    requires desk_room_in_bounds { at + deskRoom ≤ length buf.old }
-    ensures { Puts (CountedPrints after k w.now counts.now) deskRoom buf.old at result buf.new }
+    requires desk_room_in_bounds { at + desk_room ≤ length buf.old }
+    ensures { Puts (CountedPrints after k w.now counts.now) desk_room buf.old at result buf.new }
 {
     if after {
         let n = w.len();
@@ -76,8 +78,8 @@ fn ask_counts(
     requires w_len_bound { length w.now ≤ 4095 }
     requires t_len_bound { length t.now ≤ 4095 }
     requires t_in_bounds { length t.now < length counts.old }
-    requires desk_room_in_bounds { at + deskRoom ≤ length buf.old }
-    ensures { Puts (Replies (WordCounts t.now) (CountedPrints after k w.now)) deskRoom buf.old at result buf.new }
+    requires desk_room_in_bounds { at + desk_room ≤ length buf.old }
+    ensures { Puts (Replies (WordCounts t.now) (CountedPrints after k w.now)) desk_room buf.old at result buf.new }
 {
     match desk_counts_inner::word_counts(t, counts) {
         Listed::Malformed => desk_texts_inner::place_malformed(buf, at),
@@ -90,8 +92,8 @@ fn ask_ring(k: usize, s: &[u8], t: &[u8], w: &mut [u8], buf: &mut [u8], at: usiz
     requires s_len_bound { length s.now ≤ 4095 }
     requires t_len_bound { length t.now ≤ 4095 }
     requires w_len { length w.old ≡ length s.now }
-    requires desk_room_in_bounds { at + deskRoom ≤ length buf.old }
-    ensures { Puts (AfterAsked AfterPrints k s.now t.now) deskRoom buf.old at result buf.new }
+    requires desk_room_in_bounds { at + desk_room ≤ length buf.old }
+    ensures { Puts (AfterAsked AfterPrints k s.now t.now) desk_room buf.old at result buf.new }
 {
     if !text_spell_inner::spell(s, w) {
         return desk_texts_inner::place_malformed(buf, at);
@@ -104,8 +106,8 @@ fn ask_ring(k: usize, s: &[u8], t: &[u8], w: &mut [u8], buf: &mut [u8], at: usiz
 fn ask_words(k: usize, t: &[u8], w: &mut [u8], buf: &mut [u8], at: usize) -> usize
     requires t_len_bound { length t.now ≤ 4095 }
     requires t_in_bounds { length t.now ≤ length w.old }
-    requires desk_room_in_bounds { at + deskRoom ≤ length buf.old }
-    ensures { Puts (Replies (ReadsRing t.now) (λ q. AfterPrints k q.0 q.1)) deskRoom buf.old at result buf.new }
+    requires desk_room_in_bounds { at + desk_room ≤ length buf.old }
+    ensures { Puts (Replies (ReadsRing t.now) (λ q. AfterPrints k q.0 q.1)) desk_room buf.old at result buf.new }
 {
     let e = text_spell_inner::piece_end(t, b' ');
     if t.len() <= e {
@@ -118,8 +120,8 @@ fn ask_words(k: usize, t: &[u8], w: &mut [u8], buf: &mut [u8], at: usize) -> usi
 fn ask_behind(after: bool, k: usize, t: &[u8], w: &mut [u8], buf: &mut [u8], at: usize) -> usize
     requires t_len_bound { length t.now ≤ 4095 }
     requires t_in_bounds { length t.now ≤ length w.old }
-    requires desk_room_in_bounds { at + deskRoom ≤ length buf.old }
-    ensures { Puts (CountedBehind after k t.now) deskRoom buf.old at result buf.new }
+    requires desk_room_in_bounds { at + desk_room ≤ length buf.old }
+    ensures { Puts (CountedBehind after k t.now) desk_room buf.old at result buf.new }
 {
     if after {
         return ask_words(k, t, w, buf, at);
@@ -131,8 +133,8 @@ fn ask_behind(after: bool, k: usize, t: &[u8], w: &mut [u8], buf: &mut [u8], at:
 // What the text behind `after` prints, or behind `first`.
 pub fn place_counted(after: bool, t: &[u8], buf: &mut [u8], at: usize) -> usize
     requires t_len_bound { length t.now ≤ 4095 }
-    requires desk_room_in_bounds { at + deskRoom ≤ length buf.old }
-    ensures { Puts (VerbSays (countedVerb after) t.now) deskRoom buf.old at result buf.new }
+    requires desk_room_in_bounds { at + desk_room ≤ length buf.old }
+    ensures { Puts (VerbSays (counted_verb after) t.now) desk_room buf.old at result buf.new }
 {
     match desk_words_inner::head_of(t) {
         Head::Malformed => desk_texts_inner::place_malformed(buf, at),

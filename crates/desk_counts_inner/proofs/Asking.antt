@@ -3,12 +3,12 @@
 --     put-counts                     a number and counts
 --     no_words, no-spelt, put-spelt, put-words, put-after    a number, a reading and counts
 use Rattle.words.proofs.Plain.{ℕ, ◌+◌, ◌-◌, ◌<◌, ◌≤◌, arith, ◌≡◌, refl, sym, ap, ◌∙◌, List, [], ◌∷◌, map, length, take, drop}
-use Rattle.text_spec.specs.{Decimal.decimal, Text.hexOf}
+use Rattle.text_spec.specs.{Decimal.decimal, Text.hex_of}
 use Rattle.stream_spec.specs.Blocks.{Puts}
 use Rattle.text_words_spec.specs.Words.{pieces, PieceAt, Nibbles, Spelt}
 use Rattle.text_words_spec.proofs.Pieces.{pieces_more, pieces-single, more-two, more-first, more-rest}
 use Rattle.desk_spec.specs.Questions.{CountsSpelt, ReadsCounts, ReadsAfter, Replies}
-use Rattle.desk_texts_inner.specs.Says.{deskRoom}
+use Rattle.desk_texts_inner.specs.Says.{desk_room}
 use Rattle.desk_texts_inner.proofs.Putting.{put_as}
 use Rattle.desk_words_inner.specs.{declared.Head.TheVariants.Number, declared.Head.TheVariants.Malformed, Says.HeadSays}
 use Rattle.desk_words_inner.proofs.{Heads.rest-words, Shapes.rest_all}
@@ -25,7 +25,7 @@ module _ (t : List ℕ) where
   no-counts h q x = h q.0 x.word [] x.short x.words
 
   pub no-after : HeadSays t Malformed → (q : ℕ × List ℕ × List ℕ) → ReadsAfter t q → ⊥
-  no-after h q x = h q.0 (map hexOf q.1) (x.word ∷ []) x.short x.words
+  no-after h q x = h q.0 (map hex_of q.1) (x.word ∷ []) x.short x.words
 
   -- one word, or none
   pub no_words : (e : ℕ) → PieceAt 32 t e → length t ≤ e → (q : List ℕ × List ℕ) → ReadsRing t q → ⊥
@@ -38,7 +38,7 @@ module _ (t : List ℕ) where
 -- what is asked of k and counts, and of k, a reading and counts
 module _ (Says : ℕ → List ℕ → List ℕ → Type 0) (t : List ℕ) (k at : ℕ) (h : HeadSays t (Number k at)) where
   pub put-counts : (b : List ℕ) (p r : ℕ) (b' : List ℕ) →
-      Puts (Replies (WordCounts (take (length t - at) (drop at t))) (Says k)) deskRoom b p r b' → Puts (Replies (ReadsCounts t) (λ q. Says q.0 q.1)) deskRoom b p r b'
+      Puts (Replies (WordCounts (take (length t - at) (drop at t))) (Says k)) desk_room b p r b' → Puts (Replies (ReadsCounts t) (λ q. Says q.0 q.1)) desk_room b p r b'
   put-counts b p r b' x = put_as _ _ _ _ on back b p r b' (rw (rest_all t at) at x)
     where
       on : (cs : List ℕ) → WordCounts (drop at t) cs → (q : ℕ × List ℕ) × ReadsCounts t q × ((u : List ℕ) → Says k cs u → Says q.0 q.1 u)
@@ -50,12 +50,12 @@ module _ (Says : ℕ → List ℕ → List ℕ → Type 0) (t : List ℕ) (k at 
 module _ (Says : ℕ → List ℕ → List ℕ → List ℕ → Type 0) (t : List ℕ) where
   -- the reading is spelt
   pub put-spelt : (k : ℕ) (s w : List ℕ) → Spelt s w → (b : List ℕ) (p r : ℕ) (b' : List ℕ) →
-      Puts (Replies (WordCounts t) (Says k w)) deskRoom b p r b' → Puts (AfterAsked Says k s t) deskRoom b p r b'
+      Puts (Replies (WordCounts t) (Says k w)) desk_room b p r b' → Puts (AfterAsked Says k s t) desk_room b p r b'
   put-spelt k s w y b p r b' x = put_as _ _ _ _ (λ cs z. ((w, cs), (y, z), λ u a. a)) (λ q z. (q.1, z.1)) b p r b' x
 
   -- two words
   pub put-words : (k e : ℕ) → PieceAt 32 t e → e < length t → (b : List ℕ) (p r : ℕ) (b' : List ℕ) →
-      Puts (AfterAsked Says k (take e t) (take (length t - (e + 1)) (drop (e + 1) t))) deskRoom b p r b' → Puts (Replies (ReadsRing t) (λ q. Says k q.0 q.1)) deskRoom b p r b'
+      Puts (AfterAsked Says k (take e t) (take (length t - (e + 1)) (drop (e + 1) t))) desk_room b p r b' → Puts (Replies (ReadsRing t) (λ q. Says k q.0 q.1)) desk_room b p r b'
   put-words k e p h b at r b' x = put_as _ _ _ _ on back b at r b' (rw (rest_all t (e + 1)) at x)
     where
       on : (q : List ℕ × List ℕ) → Spelt (take e t) q.0 × WordCounts (drop (e + 1) t) q.1 →
@@ -67,7 +67,7 @@ module _ (Says : ℕ → List ℕ → List ℕ → List ℕ → Type 0) (t : Lis
           word = drop (e + 1) t;
           counts = s.1.counts;
           words =
-              pieces_more 32 t e p h ∙ ap (λ (x : List ℕ). x ∷ pieces 32 (drop (e + 1) t)) s.0.digits ∙ ap (λ (x : List (List ℕ)). map hexOf q.0 ∷ x) s.1.alone;
+              pieces_more 32 t e p h ∙ ap (λ (x : List ℕ). x ∷ pieces 32 (drop (e + 1) t)) s.0.digits ∙ ap (λ (x : List (List ℕ)). map hex_of q.0 ∷ x) s.1.alone;
         },
         λ u y. y,
       )
@@ -83,8 +83,8 @@ module _ (Says : ℕ → List ℕ → List ℕ → List ℕ → Type 0) (t : Lis
 
   -- and a number in front of them
   pub put-after : (j at : ℕ) → HeadSays t (Number j at) → (b : List ℕ) (p r : ℕ) (b' : List ℕ) →
-      Puts (Replies (ReadsRing (take (length t - at) (drop at t))) (λ q. Says j q.0 q.1)) deskRoom b p r b' →
-      Puts (Replies (ReadsAfter t) (λ q. Says q.0 q.1 q.2)) deskRoom b p r b'
+      Puts (Replies (ReadsRing (take (length t - at) (drop at t))) (λ q. Says j q.0 q.1)) desk_room b p r b' →
+      Puts (Replies (ReadsAfter t) (λ q. Says q.0 q.1 q.2)) desk_room b p r b'
   put-after j at h b p r b' x = put_as _ _ _ _ on back b p r b' (rw (rest_all t at) at x)
     where
       on : (q : List ℕ × List ℕ) → ReadsRing (drop at t) q → (y : ℕ × List ℕ × List ℕ) × ReadsAfter t y × ((u : List ℕ) → Says j q.0 q.1 u → Says y.0 y.1 y.2 u)

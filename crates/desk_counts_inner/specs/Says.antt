@@ -8,7 +8,7 @@
 use Rattle.std.specs.Prelude.{ℕ, ◌+◌, ◌<◌, ◌≤◌, ◌≡◌, List, [], ◌∷◌, map, length, take, set}
 use Rattle.text_spec.specs.Ascii.{space}
 use Rattle.text_spec.specs.Decimal.{decimal}
-use Rattle.text_spec.specs.Text.{hexOf}
+use Rattle.text_spec.specs.Text.{hex_of}
 use Rattle.text_words_spec.specs.Words.{pieces, Nibbles, Spelt}
 use Rattle.desk_spec.specs.Questions.{ThreeDigits, CountsSpelt, Replies}
 use Rattle.desk_counts_inner.specs.declared.Listed.{Listed}
@@ -35,7 +35,7 @@ pub record ReadsRing (t : List ℕ) (q : List ℕ × List ℕ) : Type 0 where
   pub sectors : Nibbles q.0
   pub word : List ℕ
   pub counts : CountsSpelt word q.1
-  pub words : pieces space t ≡ map hexOf q.0 ∷ word ∷ []
+  pub words : pieces space t ≡ map hex_of q.0 ∷ word ∷ []
 
 abbrev pub AfterAsked : (ℕ → List ℕ → List ℕ → List ℕ → Type 0) → ℕ → List ℕ → List ℕ → List ℕ → Type 0
 AfterAsked Says k s t text = Replies {Q = List ℕ × List ℕ} (λ q. Spelt s q.0 × WordCounts t q.1) (λ q. Says k q.0 q.1) text

@@ -1,5 +1,7 @@
 // Counts read from a word, a comma between two. No public calls.
 
+#![tactic(auto)]
+
 ghost use Rattle.std.specs.Prelude.{◌<◌, ◌≤◌, length};
 ghost use Rattle.desk_counts_inner.specs.Says.{LastSays, ListedSays, WordSays};
 

@@ -1,5 +1,7 @@
 // Whether the words of a card and of values behind it are as many, and as long, as floats take. No public calls.
 
+#![tactic(auto)]
+
 ghost use Rattle.std.specs.Prelude.{◌≤◌};
 ghost use Rattle.desk_eight_inner.specs.Says.{AllEight};
 

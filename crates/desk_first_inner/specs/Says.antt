@@ -5,7 +5,7 @@ use Rattle.std.specs.Prelude.{ℕ, ◌<◌, ◌≤◌, ◌≡◌, List}
 use Rattle.words.specs.Sum.{sum_of}
 use Rattle.shades_spec.specs.declared.FirstAnswer.{FirstAnswer}
 use Rattle.shades_spec.specs.Answers.{FirstSays}
-use Rattle.desk_spec.specs.Texts.{firstRingText}
+use Rattle.desk_spec.specs.Texts.{first_ring_text}
 use Rattle.desk_spec.specs.Answers.{AnswerShows}
 
 pub record SumWithin (cs : List ℕ) (r : ℕ) : Type 0 where
@@ -14,4 +14,4 @@ pub record SumWithin (cs : List ℕ) (r : ℕ) : Type 0 where
   pub most : r ≤ 65
 
 abbrev pub FirstIn : ℕ → List ℕ → List ℕ → List ℕ → Type 0
-FirstIn k cs o text = AnswerShows {A = FirstAnswer × List ℕ} (λ x. FirstSays k cs o x.0 x.1) (λ x. firstRingText x.0 x.1) text
+FirstIn k cs o text = AnswerShows {A = FirstAnswer × List ℕ} (λ x. FirstSays k cs o x.0 x.1) (λ x. first_ring_text x.0 x.1) text

@@ -1,18 +1,20 @@
 // The first ring of fixed counts: as long as their sum. No public calls.
 
+#![tactic(auto)]
+
 ghost use Rattle.std.specs.Prelude.{◌+◌, ◌≤◌, length};
 ghost use Rattle.stream_spec.specs.Blocks.{Puts};
-ghost use Rattle.desk_spec.specs.Texts.{firstRingText};
+ghost use Rattle.desk_spec.specs.Texts.{first_ring_text};
 ghost use Rattle.desk_spec.specs.Answers.{FirstPrints};
-ghost use Rattle.desk_texts_inner.specs.Says.{deskRoom, longestRing, LinePrinted};
+ghost use Rattle.desk_texts_inner.specs.Says.{desk_room, longest_ring, LinePrinted};
 ghost use Rattle.desk_first_inner.specs.Says.{SumWithin, FirstIn};
 
 use shades_spec::FirstAnswer;
 
 fn place_first_ring(buf: &mut [u8], at: usize, a: FirstAnswer, ring: &[u8]) -> usize
-    requires ring_len_bound { length ring.now ≤ longestRing }
-    requires desk_room_in_bounds { at + deskRoom ≤ length buf.old }
-    ensures { LinePrinted buf.old at (firstRingText a ring.now) result buf.new }
+    requires ring_len_bound { length ring.now ≤ longest_ring }
+    requires desk_room_in_bounds { at + desk_room ≤ length buf.old }
+    ensures { LinePrinted buf.old at (first_ring_text a ring.now) result buf.new }
 {
     match a {
         FirstAnswer::Ring => desk_texts_inner::place_ring(buf, at, ring),
@@ -39,9 +41,9 @@ fn sum_within(counts: &[usize]) -> usize
 
 // The ring in an output of any length.
 fn answer_in(k: usize, counts: &[usize], out: &mut [u8], buf: &mut [u8], at: usize) -> usize
-    requires out_len_bound { length out.old ≤ longestRing }
-    requires desk_room_in_bounds { at + deskRoom ≤ length buf.old }
-    ensures { Puts (FirstIn k counts.now out.old) deskRoom buf.old at result buf.new }
+    requires out_len_bound { length out.old ≤ longest_ring }
+    requires desk_room_in_bounds { at + desk_room ≤ length buf.old }
+    ensures { Puts (FirstIn k counts.now out.old) desk_room buf.old at result buf.new }
 {
     let a = shades::first_ring(k, counts, out);
     place_first_ring(buf, at, a, out)
@@ -49,8 +51,8 @@ fn answer_in(k: usize, counts: &[usize], out: &mut [u8], buf: &mut [u8], at: usi
 
 // A ring of more than 64 sectors is refused whatever its length: an output of 65 stands for them all.
 pub fn answer_first(k: usize, counts: &[usize], buf: &mut [u8], at: usize) -> usize
-    requires { at + deskRoom ≤ length buf.old }
-    ensures { Puts (FirstPrints k counts.now) deskRoom buf.old at result buf.new }
+    requires { at + desk_room ≤ length buf.old }
+    ensures { Puts (FirstPrints k counts.now) desk_room buf.old at result buf.new }
 {
     let n = sum_within(counts);
     let mut out = [0u8; 65];

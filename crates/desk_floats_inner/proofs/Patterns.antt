@@ -9,7 +9,7 @@ use Rattle.words.proofs.Plain.{ℕ, suc, ◌+◌, ◌*◌, ◌%◌, ◌/◌, ◌
 use Rattle.words.proofs.Plain.{take, drop, get_or-take, get_or-drop, get_or-set_same, get_or-set_other, ne_eqb, eq-eqb}
 use lib.Ieee.{Float, nan, inf, fin, binary32, is_nan, nan_bits, ne, of_bits, of_fields, odd, div}
 use Rattle.words.proofs.Split.{clash, lt, eq, gt, tri}
-use Rattle.desk_spec.specs.Floats.{patternOf, float_of}
+use Rattle.desk_spec.specs.Floats.{pattern_of, float_of}
 use Rattle.desk_floats_inner.specs.Says.{FloatsSay}
 
 never : (b : Bool) → T (not (b && false))
@@ -45,8 +45,8 @@ digit_at : (s : List ℕ) (at i : ℕ) → i < 8 → get_or (take 8 (drop at s))
 digit_at s at i h = get_or-take 8 (drop at s) i 0 h ∙ get_or-drop at s i 0
 
 pub pattern-bytes : (s : List ℕ) (at a b c d : ℕ) → a ≡ get_or s at 0 * 16 + get_or s (at + 1) 0 → b ≡ get_or s (at + 2) 0 * 16 + get_or s (at + 2 + 1) 0 →
-    c ≡ get_or s (at + 4) 0 * 16 + get_or s (at + 4 + 1) 0 → d ≡ get_or s (at + 6) 0 * 16 + get_or s (at + 6 + 1) 0 → ((a * 256 + b) * 256 + c) * 256 + d ≡ patternOf (take 8 (drop at s))
-unfolding patternOf
+    c ≡ get_or s (at + 4) 0 * 16 + get_or s (at + 4 + 1) 0 → d ≡ get_or s (at + 6) 0 * 16 + get_or s (at + 6 + 1) 0 → ((a * 256 + b) * 256 + c) * 256 + d ≡ pattern_of (take 8 (drop at s))
+unfolding pattern_of
 pattern-bytes s at a b c d p q r t =
     let g : (i j : ℕ) → i ≡ j → get_or s i 0 ≡ get_or s j 0 = λ i j e. ap (λ (x : ℕ). get_or s x 0) e in
     let d0 = digit_at s at 0 (omega arith) ∙ g (at + 0) at (omega arith) in

@@ -1,10 +1,12 @@
 // Floats by their bits: eight hexadecimal digits each, the highest first, that lie end to end. No public calls.
 
+#![tactic(auto)]
+
 ghost use Rattle.std.specs.Prelude.{◌+◌, ◌*◌, ◌<◌, ◌≤◌, ◌≡◌, length, get_or, take, drop};
 ghost use Rattle.std.specs.Float.{binary32};
 ghost use Rattle.std.specs.Float.Ieee.{of_bits};
 ghost use Rattle.text_words_spec.specs.Words.{Nibbles};
-ghost use Rattle.desk_spec.specs.Floats.{patternOf};
+ghost use Rattle.desk_spec.specs.Floats.{pattern_of};
 ghost use Rattle.desk_floats_inner.specs.Says.{FloatsSay};
 
 // The number of two digits.
@@ -20,7 +22,7 @@ fn byte_at(s: &[u8], at: usize) -> u32
 fn pattern_at(s: &[u8], at: usize) -> u32
     requires nibbles { Nibbles s.now }
     requires at_in_bounds { at + 8 ≤ length s.now }
-    ensures { result ≡ patternOf (take 8 (drop at s.now)) }
+    ensures { result ≡ pattern_of (take 8 (drop at s.now)) }
 {
     let a = byte_at(s, at);
     let b = byte_at(s, at + 2);

@@ -1,12 +1,14 @@
 // What a line of the desk prints, placed into a lent buffer: its first word is a verb. No public calls.
 
+#![tactic(auto)]
+
 ghost use Rattle.std.specs.Prelude.{◌+◌, ◌<◌, ◌≤◌, ◌≡◌, length};
 ghost use Rattle.stream_spec.specs.Blocks.{Puts};
 ghost use Rattle.text_spec.specs.Ascii.{space};
 ghost use Rattle.text_words_spec.specs.Words.{PieceAt};
-ghost use Rattle.desk_spec.specs.Verbs.{or_else, bothOf, count_of, stripOf, cameraOf, shadesOf, verbOf};
+ghost use Rattle.desk_spec.specs.Verbs.{or_else, both_of, count_of, strip_of, camera_of, shades_of, verb_of};
 ghost use Rattle.desk_spec.specs.Answers.{VerbSays, DeskAnswers};
-ghost use Rattle.desk_texts_inner.specs.Says.{deskRoom};
+ghost use Rattle.desk_texts_inner.specs.Says.{desk_room};
 
 use desk_spec::{Both, Found, Verb};
 
@@ -21,7 +23,7 @@ fn or_else(f: Found, next: Found) -> Found
 }
 
 fn both_of(t: &[u8]) -> Found
-    ensures { result ≡ bothOf t.now }
+    ensures { result ≡ both_of t.now }
 {
     desk_names_inner::or_either(
         t,
@@ -47,13 +49,13 @@ fn count_of(t: &[u8]) -> Found
 }
 
 fn strip_of(t: &[u8]) -> Found
-    ensures { result ≡ stripOf t.now }
+    ensures { result ≡ strip_of t.now }
 {
     desk_names_inner::or_named(t, b"strip", Verb::Strip, Found::Unknown)
 }
 
 fn camera_of(t: &[u8]) -> Found
-    ensures { result ≡ cameraOf t.now }
+    ensures { result ≡ camera_of t.now }
 {
     desk_names_inner::or_either(
         t,
@@ -66,7 +68,7 @@ fn camera_of(t: &[u8]) -> Found
 }
 
 fn shades_of(t: &[u8]) -> Found
-    ensures { result ≡ shadesOf t.now }
+    ensures { result ≡ shades_of t.now }
 {
     desk_names_inner::or_either(
         t,
@@ -80,7 +82,7 @@ fn shades_of(t: &[u8]) -> Found
 
 // The verb of a word, group after group.
 fn verb_of(t: &[u8]) -> Found
-    ensures { result ≡ verbOf t.now }
+    ensures { result ≡ verb_of t.now }
 {
     let a = desk_names_inner::about_of(t);
     let b = both_of(t);
@@ -98,8 +100,8 @@ fn verb_of(t: &[u8]) -> Found
 // What the text behind a verb prints.
 fn place_verb(v: Verb, t: &[u8], buf: &mut [u8], at: usize) -> usize
     requires t_len_bound { length t.now ≤ 4095 }
-    requires desk_room_in_bounds { at + deskRoom ≤ length buf.old }
-    ensures { Puts (VerbSays v t.now) deskRoom buf.old at result buf.new }
+    requires desk_room_in_bounds { at + desk_room ≤ length buf.old }
+    ensures { Puts (VerbSays v t.now) desk_room buf.old at result buf.new }
 {
     match v {
         Verb::About(x) => desk_about_inner::place_about(x, t, buf, at),
@@ -119,8 +121,8 @@ fn place_word(line: &[u8], e: usize, buf: &mut [u8], at: usize) -> usize
     requires line_len_bound { length line.now ≤ 4095 }
     requires piece_at { PieceAt space line.now e }
     requires e_in_bounds { e < length line.now }
-    requires desk_room_in_bounds { at + deskRoom ≤ length buf.old }
-    ensures { Puts (DeskAnswers line.now) deskRoom buf.old at result buf.new }
+    requires desk_room_in_bounds { at + desk_room ≤ length buf.old }
+    ensures { Puts (DeskAnswers line.now) desk_room buf.old at result buf.new }
 {
     match verb_of(&line[..e]) {
         Found::Unknown => desk_texts_inner::place_malformed(buf, at),
@@ -130,8 +132,8 @@ fn place_word(line: &[u8], e: usize, buf: &mut [u8], at: usize) -> usize
 
 // What a line prints, its newline left out.
 pub fn place_answer(line: &[u8], buf: &mut [u8], at: usize) -> usize
-    requires { at + deskRoom ≤ length buf.old }
-    ensures { Puts (DeskAnswers line.now) deskRoom buf.old at result buf.new }
+    requires { at + desk_room ≤ length buf.old }
+    ensures { Puts (DeskAnswers line.now) desk_room buf.old at result buf.new }
 {
     if 4095 < line.len() {
         return desk_texts_inner::place_malformed(buf, at);

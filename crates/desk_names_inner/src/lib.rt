@@ -1,7 +1,9 @@
 // A verb by its name, or by one of two; and the names of the questions about one reading. No public calls.
 
+#![tactic(auto)]
+
 ghost use Rattle.std.specs.Prelude.{◌≡◌};
-ghost use Rattle.desk_spec.specs.Verbs.{named, aboutOf, step_of};
+ghost use Rattle.desk_spec.specs.Verbs.{named, about_of, step_of};
 
 use desk_spec::{About, Found, Step, Verb};
 
@@ -24,7 +26,7 @@ pub fn or_either(t: &[u8], a: &[u8], u: Verb, b: &[u8], v: Verb, next: Found) ->
 
 // The class of a reading, its home, whether it is even-handed, its place on the strip.
 pub fn about_of(t: &[u8]) -> Found
-    ensures { result ≡ aboutOf t.now }
+    ensures { result ≡ about_of t.now }
 {
     let c = or_either(
         t,

@@ -4,7 +4,7 @@
 use Rattle.words.proofs.Plain.{ℕ, zero, suc, ◌+◌, ◌-◌, ◌<◌, ◌≤◌, add-one, arith, ◌≡◌, refl, sym, ap, ◌∙◌, inl, inr, List, [], ◌∷◌, ◌++◌, map, append_assoc}
 use Rattle.words.proofs.Plain.{append-nil, append_cancel_left, length, get_or, set, take, drop, length-append, take_all, take-suc, take-suc-set, take-take}
 use Rattle.words.proofs.Plain.{take-add, take_at, length-take-le}
-use Rattle.text_spec.specs.Text.{hexOf}
+use Rattle.text_spec.specs.Text.{hex_of}
 use Rattle.text_words_spec.specs.Words.{Nibbles}
 use Rattle.strip_spec.specs.Strip.{joined}
 use Rattle.desk_spec.specs.Questions.{EachNibbles}
@@ -16,7 +16,7 @@ pub record Upto (u out : List ℕ) (i m c : ℕ) : Type 0 where
   pub under : List ℕ
   pub rings : EachNibbles ts
   pub sectors : Nibbles under
-  pub text : take i u ≡ spaced ts ++ map hexOf under
+  pub text : take i u ≡ spaced ts ++ map hex_of under
   pub written : take m out ≡ joined ts ++ under
   pub size : length under ≡ c
   pub inside : i ≤ length u
@@ -37,22 +37,22 @@ each_more [] w p n (suc j) h = absurd (omega arith)
 each_more (t ∷ ts) w p n zero h = p 0 (omega arith)
 each_more (t ∷ ts) w p n (suc j) h = each_more ts w (λ i g. p (suc i) (omega arith)) n j (omega arith)
 
-spaced-more : (ts : List (List ℕ)) (w : List ℕ) → spaced (ts ++ (w ∷ [])) ≡ (spaced ts ++ map hexOf w) ++ (32 ∷ [])
+spaced-more : (ts : List (List ℕ)) (w : List ℕ) → spaced (ts ++ (w ∷ [])) ≡ (spaced ts ++ map hex_of w) ++ (32 ∷ [])
 unfolding spaced
 spaced-more [] w = refl
 spaced-more (t ∷ ts) w =
-    ap (λ (x : List ℕ). map hexOf t ++ (32 ∷ x)) (spaced-more ts w)
-    ∙ sym (append_assoc (map hexOf t) (32 ∷ (spaced ts ++ map hexOf w)) (32 ∷ []))
-    ∙ ap (λ (x : List ℕ). x ++ (32 ∷ [])) (sym (append_assoc (map hexOf t) (32 ∷ spaced ts) (map hexOf w)))
+    ap (λ (x : List ℕ). map hex_of t ++ (32 ∷ x)) (spaced-more ts w)
+    ∙ sym (append_assoc (map hex_of t) (32 ∷ (spaced ts ++ map hex_of w)) (32 ∷ []))
+    ∙ ap (λ (x : List ℕ). x ++ (32 ∷ [])) (sym (append_assoc (map hex_of t) (32 ∷ spaced ts) (map hex_of w)))
 
 joined-more : (ts : List (List ℕ)) (w : List ℕ) → joined (ts ++ (w ∷ [])) ≡ joined ts ++ w
 unfolding joined
 joined-more [] w = append-nil w
 joined-more (t ∷ ts) w = ap (λ (x : List ℕ). t ++ x) (joined-more ts w) ∙ sym (append_assoc t (joined ts) w)
 
-digits_more : (w : List ℕ) (v : ℕ) → map hexOf (w ++ (v ∷ [])) ≡ map hexOf w ++ (hexOf v ∷ [])
+digits_more : (w : List ℕ) (v : ℕ) → map hex_of (w ++ (v ∷ [])) ≡ map hex_of w ++ (hex_of v ∷ [])
 digits_more [] v = refl
-digits_more (a ∷ w) v = ap (λ (x : List ℕ). hexOf a ∷ x) (digits_more w v)
+digits_more (a ∷ w) v = ap (λ (x : List ℕ). hex_of a ∷ x) (digits_more w v)
 
 -- ---- place after place
 
@@ -96,7 +96,7 @@ module _ (u out : List ℕ) (i m c : ℕ) (p : Upto u out i m c) (h : i < length
       }
 
   -- a digit
-  pub upto-digit : (v : ℕ) → v < 16 → hexOf v ≡ get_or u i 0 → m < length out → Upto u (set out m v) (i + 1) (m + 1) (c + 1)
+  pub upto-digit : (v : ℕ) → v < 16 → hex_of v ≡ get_or u i 0 → m < length out → Upto u (set out m v) (i + 1) (m + 1) (c + 1)
   upto-digit v l e o =
       record {
         ts = p.ts;
@@ -107,8 +107,8 @@ module _ (u out : List ℕ) (i m c : ℕ) (p : Upto u out i m c) (h : i < length
             ap (λ (x : ℕ). take x u) (add-one i)
             ∙ take-suc u i 0 h
             ∙ ap (λ (x : ℕ). take i u ++ (x ∷ [])) (sym e)
-            ∙ ap (λ (x : List ℕ). x ++ (hexOf v ∷ [])) p.text
-            ∙ append_assoc (spaced p.ts) (map hexOf p.under) (hexOf v ∷ [])
+            ∙ ap (λ (x : List ℕ). x ++ (hex_of v ∷ [])) p.text
+            ∙ append_assoc (spaced p.ts) (map hex_of p.under) (hex_of v ∷ [])
             ∙ ap (λ (x : List ℕ). spaced p.ts ++ x) (sym (digits_more p.under v));
         written =
             ap (λ (x : ℕ). take x (set out m v)) (add-one m)
@@ -122,7 +122,7 @@ module _ (u out : List ℕ) (i m c : ℕ) (p : Upto u out i m c) (h : i < length
       }
 
 -- a character that is neither: no words spell that
-pub upto-bad : (u : List ℕ) (i : ℕ) → i < length u → (get_or u i 0 ≡ 32 → ⊥) → ((a : ℕ) → a < 16 → hexOf a ≡ get_or u i 0 → ⊥) → (q : List (List ℕ) × List ℕ) → ReadsRings u q → ⊥
+pub upto-bad : (u : List ℕ) (i : ℕ) → i < length u → (get_or u i 0 ≡ 32 → ⊥) → ((a : ℕ) → a < 16 → hex_of a ≡ get_or u i 0 → ⊥) → (q : List (List ℕ) × List ℕ) → ReadsRings u q → ⊥
 upto-bad u i h s d q x =
     let e = pieces-spaced u q.0 q.1 x.words in
     let b = ap (λ (y : List ℕ). get_or y i 0) e in
@@ -131,7 +131,7 @@ upto-bad u i h s d q x =
 -- the whole text
 pub upto-end : (u out : List ℕ) (i m c : ℕ) → Upto u out i m c → length u ≤ i → m ≤ length out → EndToEnd u out (m - c) m
 upto-end u out i m c p h o =
-    let e : u ≡ spaced p.ts ++ map hexOf p.under = sym (take_all i u h) ∙ p.text in
+    let e : u ≡ spaced p.ts ++ map hex_of p.under = sym (take_all i u h) ∙ p.text in
     let l : length (joined p.ts) ≡ m - c =
     omega (arith, p.size, p.part, length-append (joined p.ts) p.under, ap (λ (x : List ℕ). length x) p.written, length-take-le m out o) in
     let r : take (m - c) out ≡ joined p.ts =

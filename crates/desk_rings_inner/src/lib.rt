@@ -1,5 +1,7 @@
 // Rings and a reading behind them, written in words of their own: spelt end to end, and whether the rings are as long as the reading. No public calls.
 
+#![tactic(auto)]
+
 ghost use Rattle.std.specs.Prelude.{◌≤◌, length};
 ghost use Rattle.desk_rings_inner.specs.Says.{SpeltSays, EachSays};
 

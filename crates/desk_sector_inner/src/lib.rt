@@ -1,10 +1,12 @@
 // What the answers of the calls by reflectances print, a value outside of 0 to 1 by its bits. No public calls.
 
+#![tactic(auto)]
+
 ghost use Rattle.std.specs.Prelude.{◌+◌, ◌/◌, ◌%◌, ◌<◌, ◌≤◌, ◌≡◌, false, length};
 ghost use Rattle.std.specs.Float.Ieee.{ne};
 ghost use Rattle.density_spec.specs.declared.Sector.TheVariants as tells;
-ghost use Rattle.desk_spec.specs.Texts.{toldSectorText, sectorText, shadesText};
-ghost use Rattle.desk_texts_inner.specs.Says.{deskRoom, longestRing, LinePrinted};
+ghost use Rattle.desk_spec.specs.Texts.{told_sector_text, sector_text, shades_text};
+ghost use Rattle.desk_texts_inner.specs.Says.{desk_room, longest_ring, LinePrinted};
 ghost use Rattle.desk_sector_inner.specs.Says.{OwnBits, OwnBitsRead};
 
 use density_spec::{RingRead, Sector, SectorRead};
@@ -19,8 +21,8 @@ fn digit(bits: u32, weight: u32) -> u8
 // The line of a value outside of 0 to 1.
 fn place_outside(buf: &mut [u8], at: usize, x: f32) -> usize
     requires x_value { ne x x ≡ false }
-    requires desk_room_in_bounds { at + deskRoom ≤ length buf.old }
-    ensures { LinePrinted buf.old at (toldSectorText (tells.Outside x)) result buf.new }
+    requires desk_room_in_bounds { at + desk_room ≤ length buf.old }
+    ensures { LinePrinted buf.old at (told_sector_text (tells.Outside x)) result buf.new }
 {
     let b = f32::to_bits(x);
     let digits = [
@@ -38,8 +40,8 @@ fn place_outside(buf: &mut [u8], at: usize, x: f32) -> usize
 
 fn place_sector(buf: &mut [u8], at: usize, a: Sector) -> usize
     requires own_bits { OwnBits a }
-    requires desk_room_in_bounds { at + deskRoom ≤ length buf.old }
-    ensures { LinePrinted buf.old at (toldSectorText a) result buf.new }
+    requires desk_room_in_bounds { at + desk_room ≤ length buf.old }
+    ensures { LinePrinted buf.old at (told_sector_text a) result buf.new }
 {
     match a {
         Sector::Shade(s) => desk_texts_inner::place_number(buf, at, b"shade %\n", s as usize),
@@ -50,8 +52,8 @@ fn place_sector(buf: &mut [u8], at: usize, a: Sector) -> usize
 
 pub fn place_sector_read(buf: &mut [u8], at: usize, a: SectorRead) -> usize
     requires own_bits_read { OwnBitsRead a }
-    requires desk_room_in_bounds { at + deskRoom ≤ length buf.old }
-    ensures { LinePrinted buf.old at (sectorText a) result buf.new }
+    requires desk_room_in_bounds { at + desk_room ≤ length buf.old }
+    ensures { LinePrinted buf.old at (sector_text a) result buf.new }
 {
     match a {
         SectorRead::Is(s) => place_sector(buf, at, s),
@@ -60,9 +62,9 @@ pub fn place_sector_read(buf: &mut [u8], at: usize, a: SectorRead) -> usize
 }
 
 pub fn place_ring_read(buf: &mut [u8], at: usize, a: RingRead, ring: &[u8]) -> usize
-    requires ring_len_bound { length ring.now ≤ longestRing }
-    requires desk_room_in_bounds { at + deskRoom ≤ length buf.old }
-    ensures { LinePrinted buf.old at (shadesText a ring.now) result buf.new }
+    requires ring_len_bound { length ring.now ≤ longest_ring }
+    requires desk_room_in_bounds { at + desk_room ≤ length buf.old }
+    ensures { LinePrinted buf.old at (shades_text a ring.now) result buf.new }
 {
     match a {
         RingRead::Written => desk_texts_inner::place_ring(buf, at, ring),

@@ -4,16 +4,16 @@
 --     no-shade, put-shade            k stands in front of them
 use Rattle.words.proofs.Plain.{ℕ, ◌+◌, ◌-◌, ◌*◌, ◌<◌, ◌≤◌, arith, ◌≡◌, refl, sym, ap, subst, ◌∙◌, true, false, List, [], ◌∷◌, ◌++◌, map, append-nil, length}
 use Rattle.words.proofs.Plain.{take, drop, length-drop, length-append, length-take-le, take-add}
-use Rattle.text_spec.specs.{Decimal.decimal, Text.hexOf}
+use Rattle.text_spec.specs.{Decimal.decimal, Text.hex_of}
 use Rattle.text_words_spec.specs.Words.{Nibbles}
 use Rattle.stream_spec.specs.Blocks.{Puts}
 use Rattle.strip_spec.specs.Strip.{joined}
 use Rattle.strip_spec.proofs.Joined.{joined-append}
-use Rattle.sight_spec.specs.Rings.{ringsIn}
+use Rattle.sight_spec.specs.Rings.{rings_in}
 use Rattle.desk_spec.specs.{Floats.float_of, Sights.AsLong, Answers.ShadesSays}
 use Rattle.desk_spec.specs.Questions.{EachNibbles, ReadsShade, Replies}
 use Rattle.desk_spec.proofs.{Sights.length-alike, Sights.rings-joined, Questions.words-one}
-use Rattle.desk_texts_inner.specs.Says.{deskRoom}
+use Rattle.desk_texts_inner.specs.Says.{desk_room}
 use Rattle.desk_texts_inner.proofs.Putting.{puts-on, put-good, put_as}
 use Rattle.desk_words_inner.specs.{declared.Head.TheVariants.Number, declared.Head.TheVariants.Malformed, Says.HeadSays}
 use Rattle.desk_words_inner.proofs.{Heads.rest-words, Shapes.rest_all}
@@ -76,9 +76,9 @@ module _ (u s : List ℕ) (l m : ℕ) (p : EndToEnd u s l m) where
     all-eight : AsLong 8 all
     all-eight = each_more (λ w. length w ≡ 8) p.ts p.last (y.2 (p.ts, p.last) p.reads) (size ∙ y.0)
 
-    end_to_end : take m s ≡ joined all
+    end_to_end_lem : take m s ≡ joined all
     unfolding joined
-    end_to_end =
+    end_to_end_lem =
         let e : m ≡ l + (m - l) = omega (arith, p.order) in
         ap (λ (x : ℕ). take x s) e ∙ take-add l (m - l) s ∙ ap (λ (x : List ℕ). x ++ take (m - l) (drop l s)) p.rings ∙ ap (λ (x : List ℕ). joined p.ts ++ x) p.reading
         ∙ ap (λ (x : List ℕ). joined p.ts ++ x) (sym (append-nil p.last)) ∙ sym (joined-append p.ts (p.last ∷ []))
@@ -90,21 +90,21 @@ module _ (u s : List ℕ) (l m : ℕ) (p : EndToEnd u s l m) where
     pub spelt-floats : (24 ≤ length (take m s)) × (length (take m s) ≡ m) × Nibbles (take m s)
     spelt-floats =
         let z = length-take-le m s p.room in
-        (omega (arith, z, y.1), z, rw end_to_end (nibbles-joined all all-nibbles))
+        (omega (arith, z, y.1), z, rw end_to_end_lem (nibbles-joined all all-nibbles))
 
     asked : ReadsFloats u all
     asked =
         record {
           digits = all-nibbles;
           eight = all-eight;
-          three = omega (arith, y.1, length-take-le m s p.room, ap length end_to_end, length-alike 8 all all-eight);
+          three = omega (arith, y.1, length-take-le m s p.room, ap length end_to_end_lem, length-alike 8 all all-eight);
           words = p.reads.words;
         }
 
-    told : ringsIn 8 (take m s) ≡ all
-    told = ap (ringsIn 8) end_to_end ∙ rings-joined 8 all (omega arith) all-eight
+    told : rings_in 8 (take m s) ≡ all
+    told = ap (rings_in 8) end_to_end_lem ∙ rings-joined 8 all (omega arith) all-eight
 
-    pub put-floats : (k : ℕ) (b : List ℕ) (at r : ℕ) (b' : List ℕ) → Puts (FloatsTold k (take m s)) deskRoom b at r b' → Puts (Replies (ReadsFloats u) (ShadesAsked k)) deskRoom b at r b'
+    pub put-floats : (k : ℕ) (b : List ℕ) (at r : ℕ) (b' : List ℕ) → Puts (FloatsTold k (take m s)) desk_room b at r b' → Puts (Replies (ReadsFloats u) (ShadesAsked k)) desk_room b at r b'
     put-floats k b at r b' x = put-good (ReadsFloats u) (ShadesAsked k) b at r b' all asked (puts-on _ _ (λ t z. subst (λ ts. ShadesAsked k ts t) told z) b at r b' x)
 
 -- ---- k in front of them
@@ -112,11 +112,11 @@ module _ (u s : List ℕ) (l m : ℕ) (p : EndToEnd u s l m) where
 module _ (t : List ℕ) where
   pub no-shade : HeadSays t Malformed → (q : ℕ × List (List ℕ)) → ReadsShade t q → ⊥
   no-shade h (k, []) x = absurd (omega (arith, x.three))
-  no-shade h (k, v ∷ vs) x = h k (map hexOf v) (map (map hexOf) vs) x.short x.words
+  no-shade h (k, v ∷ vs) x = h k (map hex_of v) (map (map hex_of) vs) x.short x.words
 
   module _ (j at : ℕ) (h : HeadSays t (Number j at)) (b : List ℕ) (p r : ℕ) (b' : List ℕ) where
-    pub put-shade : Puts (Replies (ReadsFloats (take (length t - at) (drop at t))) (ShadesAsked j)) deskRoom b p r b' →
-        Puts (Replies (ReadsShade t) (λ q. ShadesSays q.0 (map float_of q.1))) deskRoom b p r b'
+    pub put-shade : Puts (Replies (ReadsFloats (take (length t - at) (drop at t))) (ShadesAsked j)) desk_room b p r b' →
+        Puts (Replies (ReadsShade t) (λ q. ShadesSays q.0 (map float_of q.1))) desk_room b p r b'
     put-shade x = put_as _ _ _ _ on back b p r b' (rw (rest_all t at) at x)
       where
         on : (ts : List (List ℕ)) → ReadsFloats (drop at t) ts → (y : ℕ × List (List ℕ)) × ReadsShade t y × ((u : List ℕ) → ShadesAsked j ts u → ShadesSays y.0 (map float_of y.1) u)

@@ -8,7 +8,7 @@ use Rattle.words.proofs.Plain.{ext_get_or, get_or-take, length-take-le}
 use lib.Ieee.{Float, nan}
 use Rattle.text_words_spec.specs.Words.{Nibbles}
 use Rattle.strip_spec.specs.Strip.{joined}
-use Rattle.sight_spec.specs.Rings.{ringsIn}
+use Rattle.sight_spec.specs.Rings.{rings_in}
 use Rattle.sight_spec.proofs.Rings.{length-first, first-at}
 use Rattle.desk_spec.specs.{Floats.float_of, Questions.EachNibbles}
 use Rattle.desk_floats_inner.specs.Says.{FloatsSay}
@@ -58,11 +58,11 @@ float_at [] j h = absurd (omega arith)
 float_at (t ∷ ts) zero h = refl
 float_at (t ∷ ts) (suc j) h = float_at ts j (omega arith)
 
-pub floats-all : (s : List ℕ) (xs : List Float) → length xs ≡ 512 → length s ≤ 4095 → FloatsSay s (length s / 8) xs → take (length s / 8) xs ≡ map float_of (ringsIn 8 s)
+pub floats-all : (s : List ℕ) (xs : List Float) → length xs ≡ 512 → length s ≤ 4095 → FloatsSay s (length s / 8) xs → take (length s / 8) xs ≡ map float_of (rings_in 8 s)
 floats-all s xs z h f =
     let n = length s / 8 in
     let l = length-first 8 s n in
     let m = length-take-le n xs (omega (arith, z, h)) in
-    ext_get_or nan (take n xs) (map float_of (ringsIn 8 s)) (m ∙ sym l ∙ sym (length-map (ringsIn 8 s) float_of)) (λ j g.
+    ext_get_or nan (take n xs) (map float_of (rings_in 8 s)) (m ∙ sym l ∙ sym (length-map (rings_in 8 s) float_of)) (λ j g.
     let i : j < n = omega (arith, g, m) in
-    get_or-take n xs j nan i ∙ f j i ∙ ap float_of (sym (first-at 8 s n j i)) ∙ sym (float_at (ringsIn 8 s) j (omega (arith, i, l))))
+    get_or-take n xs j nan i ∙ f j i ∙ ap float_of (sym (first-at 8 s n j i)) ∙ sym (float_at (rings_in 8 s) j (omega (arith, i, l))))

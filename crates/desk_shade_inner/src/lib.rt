@@ -1,12 +1,14 @@
 // The shades of reflectances by a card: the words, the calls, and what they print. No public calls.
 
+#![tactic(auto)]
+
 ghost use Rattle.std.specs.Prelude.{◌+◌, ◌≤◌, length};
 ghost use Rattle.stream_spec.specs.Blocks.{Puts};
 ghost use Rattle.text_words_spec.specs.Words.{Nibbles};
 ghost use Rattle.desk_spec.specs.declared.Verb.TheVariants as verbs;
 ghost use Rattle.desk_spec.specs.Questions.{Replies};
 ghost use Rattle.desk_spec.specs.Answers.{ShadesSays, VerbSays};
-ghost use Rattle.desk_texts_inner.specs.Says.{deskRoom};
+ghost use Rattle.desk_texts_inner.specs.Says.{desk_room};
 ghost use Rattle.desk_shade_inner.specs.Says.{ReadsFloats, ShadesAsked, FloatsTold};
 
 use desk_rings_inner::Words;
@@ -15,8 +17,8 @@ use desk_words_inner::Head;
 fn answer_shades(k: usize, xs: &[f32], buf: &mut [u8], at: usize) -> usize
     requires in_bounds { 3 ≤ length xs.now }
     requires xs_len_bound { length xs.now ≤ 512 }
-    requires desk_room_in_bounds { at + deskRoom ≤ length buf.old }
-    ensures { Puts (ShadesSays k xs.now) deskRoom buf.old at result buf.new }
+    requires desk_room_in_bounds { at + desk_room ≤ length buf.old }
+    ensures { Puts (ShadesSays k xs.now) desk_room buf.old at result buf.new }
 {
     if xs.len() == 3 {
         return desk_card_inner::answer_one(k, xs, buf, at);
@@ -31,8 +33,8 @@ fn answer_digits(k: usize, s: &[u8], buf: &mut [u8], at: usize) -> usize
     requires in_bounds { 24 ≤ length s.now }
     requires s_len_bound { length s.now ≤ 4095 }
     requires nibbles { Nibbles s.now }
-    requires desk_room_in_bounds { at + deskRoom ≤ length buf.old }
-    ensures { Puts (FloatsTold k s.now) deskRoom buf.old at result buf.new }
+    requires desk_room_in_bounds { at + desk_room ≤ length buf.old }
+    ensures { Puts (FloatsTold k s.now) desk_room buf.old at result buf.new }
 {
     let n = s.len() / 8;
     let mut xs = [0.0f32; 512];
@@ -44,8 +46,8 @@ fn answer_digits(k: usize, s: &[u8], buf: &mut [u8], at: usize) -> usize
 fn ask_shade(k: usize, u: &[u8], s: &mut [u8], buf: &mut [u8], at: usize) -> usize
     requires u_in_bounds { length u.now ≤ length s.old }
     requires s_len_bound { length s.old ≤ 4095 }
-    requires desk_room_in_bounds { at + deskRoom ≤ length buf.old }
-    ensures { Puts (Replies (ReadsFloats u.now) (ShadesAsked k)) deskRoom buf.old at result buf.new }
+    requires desk_room_in_bounds { at + desk_room ≤ length buf.old }
+    ensures { Puts (Replies (ReadsFloats u.now) (ShadesAsked k)) desk_room buf.old at result buf.new }
 {
     match desk_rings_inner::spell_words(u, s) {
         Words::Malformed => desk_texts_inner::place_malformed(buf, at),
@@ -61,8 +63,8 @@ fn ask_shade(k: usize, u: &[u8], s: &mut [u8], buf: &mut [u8], at: usize) -> usi
 // What the text behind `shade` prints.
 pub fn place_shade(t: &[u8], buf: &mut [u8], at: usize) -> usize
     requires t_len_bound { length t.now ≤ 4095 }
-    requires desk_room_in_bounds { at + deskRoom ≤ length buf.old }
-    ensures { Puts (VerbSays verbs.Shade t.now) deskRoom buf.old at result buf.new }
+    requires desk_room_in_bounds { at + desk_room ≤ length buf.old }
+    ensures { Puts (VerbSays verbs.Shade t.now) desk_room buf.old at result buf.new }
 {
     match desk_words_inner::head_of(t) {
         Head::Malformed => desk_texts_inner::place_malformed(buf, at),

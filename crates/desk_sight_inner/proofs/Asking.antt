@@ -12,9 +12,9 @@ use Rattle.words.specs.Readings.{Sized}
 use Rattle.refusal.specs.{declared.Refusal.Refusal, declared.Refusal.TheVariants.Length, declared.Refusal.TheVariants.Pair}
 use Rattle.refusal.specs.Order.{fact, ◌▸◌, Given}
 use Rattle.sight_spec.specs.declared.Sighting.{Sighting}
-use Rattle.desk_spec.specs.{Questions.ReadsSight, Questions.Replies, Texts.sightText, Answers.AnswerShows, Answers.SeenSays}
-use Rattle.desk_spec.specs.Sights.{AsLong, lengthsOrder, SightedSays, alike, unlike}
-use Rattle.desk_texts_inner.specs.Says.{deskRoom}
+use Rattle.desk_spec.specs.{Questions.ReadsSight, Questions.Replies, Texts.sight_text, Answers.AnswerShows, Answers.SeenSays}
+use Rattle.desk_spec.specs.Sights.{AsLong, lengths_order, SightedSays, alike, unlike}
+use Rattle.desk_texts_inner.specs.Says.{desk_room}
 use Rattle.desk_texts_inner.proofs.Putting.{puts-on, put-good, put_as}
 use Rattle.desk_words_inner.specs.declared.Head.TheVariants as W
 use Rattle.desk_words_inner.specs.Says.{HeadSays}
@@ -28,7 +28,7 @@ use Rattle.desk_sight_inner.specs.Says.{SeenAmong, HeadsSay}
 -- ---- rings and a reading
 
 -- the refusal of the lengths, where some ring is not as long
-lengths-given : (r : List ℕ) (ts : List (List ℕ)) (q : Refusal) → (AsLong (length r) ts → ⊥) → Given (fact (Sized (length r)) (Length 0) ▸ fact ⊥ Pair) q → Given (lengthsOrder r ts) q
+lengths-given : (r : List ℕ) (ts : List (List ℕ)) (q : Refusal) → (AsLong (length r) ts → ⊥) → Given (fact (Sized (length r)) (Length 0) ▸ fact ⊥ Pair) q → Given (lengths_order r ts) q
 lengths-given r ts q n (inl x) = inl x
 lengths-given r ts q n (inr x) = inr (x.0, (x.1.0, n))
 
@@ -44,7 +44,7 @@ module _ (u out : List ℕ) (l m k e : ℕ) (p : EndToEnd u out l m) where
       unlike n z.0 (lengths-given p.last p.ts z.0 n z.1) z.2
 
   pub put-spelt : (b : Bool) → EachSays u (m - l) b → (c : List ℕ) (at r : ℕ) (c' : List ℕ) →
-      Puts (AnswerShows (TellSays (take l out) (take (m - l) (drop l out)) k e b) sightText) deskRoom c at r c' → Puts (Replies (ReadsRings u) (SeenAmong k e)) deskRoom c at r c'
+      Puts (AnswerShows (TellSays (take l out) (take (m - l) (drop l out)) k e b) sight_text) desk_room c at r c' → Puts (Replies (ReadsRings u) (SeenAmong k e)) desk_room c at r c'
   put-spelt b x c at r c' y =
       put-good (ReadsRings u) (SeenAmong k e) c at r c' (p.ts, p.last) p.reads (puts-on _ _ (λ t z. record { answer = z.answer; says = told b x z.answer z.says; is = z.is }) c at r c' y)
 
@@ -73,8 +73,8 @@ module _ (t : List ℕ) where
       h q.0 q.1 w.0 w.1 x.short x.second (x.words ∙ ap (λ (y : List (List ℕ)). decimal q.0 ∷ decimal q.1 ∷ y) w.2)
 
   module _ (k e at : ℕ) (h : HeadsSay t (Numbers k e at)) (b : List ℕ) (p r : ℕ) (b' : List ℕ) where
-    pub put-sight : Puts (Replies (ReadsRings (take (length t - at) (drop at t))) (SeenAmong k e)) deskRoom b p r b' →
-        Puts (Replies (ReadsSight t) (λ q. SeenSays q.0 q.1 q.2 q.3)) deskRoom b p r b'
+    pub put-sight : Puts (Replies (ReadsRings (take (length t - at) (drop at t))) (SeenAmong k e)) desk_room b p r b' →
+        Puts (Replies (ReadsSight t) (λ q. SeenSays q.0 q.1 q.2 q.3)) desk_room b p r b'
     put-sight x = put_as _ _ _ _ on back b p r b' (rw (rest_all t at) at x)
       where
         on : (q : List (List ℕ) × List ℕ) → ReadsRings (drop at t) q →

@@ -1,12 +1,14 @@
 // A reading looked for among rings: its words, and what they print. No public calls.
 
+#![tactic(auto)]
+
 ghost use Rattle.std.specs.Prelude.{◌+◌, ◌-◌, ◌≤◌, length, take, drop};
 ghost use Rattle.stream_spec.specs.Blocks.{Puts};
 ghost use Rattle.desk_spec.specs.declared.Verb.TheVariants as verbs;
 ghost use Rattle.desk_spec.specs.Questions.{Replies};
-ghost use Rattle.desk_spec.specs.Texts.{sightText};
+ghost use Rattle.desk_spec.specs.Texts.{sight_text};
 ghost use Rattle.desk_spec.specs.Answers.{AnswerShows, VerbSays};
-ghost use Rattle.desk_texts_inner.specs.Says.{deskRoom};
+ghost use Rattle.desk_texts_inner.specs.Says.{desk_room};
 ghost use Rattle.desk_rings_inner.specs.Says.{ReadsRings};
 ghost use Rattle.desk_sight_lengths_inner.specs.Says.{TellSays};
 ghost use Rattle.desk_sight_inner.specs.Says.{SeenAmong, HeadsSay};
@@ -27,8 +29,8 @@ fn answer_sight(
 ) -> usize
     requires l_le_m { l ≤ m }
     requires m_in_bounds { m ≤ length sectors.now }
-    requires desk_room_in_bounds { at + deskRoom ≤ length buf.old }
-    ensures { Puts (AnswerShows (TellSays (take l sectors.now) (take (m - l) (drop l sectors.now)) k most alike) sightText) deskRoom buf.old at result buf.new }
+    requires desk_room_in_bounds { at + desk_room ≤ length buf.old }
+    ensures { Puts (AnswerShows (TellSays (take l sectors.now) (take (m - l) (drop l sectors.now)) k most alike) sight_text) desk_room buf.old at result buf.new }
 {
     let a = desk_sight_lengths_inner::tell(&sectors[..l], &sectors[l..m], alike, k, most);
     desk_sight_text_inner::place_sighting(buf, at, a)
@@ -37,8 +39,8 @@ fn answer_sight(
 // The rings and the reading are spelt into the lent bytes, end to end.
 fn ask_sight(k: usize, most: usize, u: &[u8], out: &mut [u8], buf: &mut [u8], at: usize) -> usize
     requires u_in_bounds { length u.now ≤ length out.old }
-    requires desk_room_in_bounds { at + deskRoom ≤ length buf.old }
-    ensures { Puts (Replies (ReadsRings u.now) (SeenAmong k most)) deskRoom buf.old at result buf.new }
+    requires desk_room_in_bounds { at + desk_room ≤ length buf.old }
+    ensures { Puts (Replies (ReadsRings u.now) (SeenAmong k most)) desk_room buf.old at result buf.new }
 {
     match desk_rings_inner::spell_words(u, out) {
         Words::Malformed => desk_texts_inner::place_malformed(buf, at),
@@ -71,8 +73,8 @@ fn heads_of(t: &[u8]) -> Heads
 // What the text behind `sight` prints.
 pub fn place_sight(t: &[u8], buf: &mut [u8], at: usize) -> usize
     requires t_len_bound { length t.now ≤ 4095 }
-    requires desk_room_in_bounds { at + deskRoom ≤ length buf.old }
-    ensures { Puts (VerbSays verbs.Sight t.now) deskRoom buf.old at result buf.new }
+    requires desk_room_in_bounds { at + desk_room ≤ length buf.old }
+    ensures { Puts (VerbSays verbs.Sight t.now) desk_room buf.old at result buf.new }
 {
     match heads_of(t) {
         Heads::Malformed => desk_texts_inner::place_malformed(buf, at),

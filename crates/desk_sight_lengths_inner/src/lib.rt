@@ -1,5 +1,7 @@
 // What is told of a reading among rings whose lengths were compared with its own. No public calls.
 
+#![tactic(auto)]
+
 ghost use Rattle.desk_sight_lengths_inner.specs.Says.{TellSays};
 
 use refusal::Refusal;

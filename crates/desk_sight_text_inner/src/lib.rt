@@ -1,15 +1,17 @@
 // What the desk prints of a sighting, placed into a lent buffer. No public calls.
 
+#![tactic(auto)]
+
 ghost use Rattle.std.specs.Prelude.{◌+◌, ◌≤◌, length};
-ghost use Rattle.desk_spec.specs.Texts.{sightText};
-ghost use Rattle.desk_texts_inner.specs.Says.{deskRoom, LinePrinted};
+ghost use Rattle.desk_spec.specs.Texts.{sight_text};
+ghost use Rattle.desk_texts_inner.specs.Says.{desk_room, LinePrinted};
 
 use sight_spec::Sighting;
 
 // The line of an answer.
 pub fn place_sighting(buf: &mut [u8], at: usize, a: Sighting) -> usize
-    requires { at + deskRoom ≤ length buf.old }
-    ensures { LinePrinted buf.old at (sightText a) result buf.new }
+    requires { at + desk_room ≤ length buf.old }
+    ensures { LinePrinted buf.old at (sight_text a) result buf.new }
 {
     match a {
         Sighting::Front {

@@ -6,7 +6,7 @@
 --     known-one                      a word is one verb's name
 --     place-one, one_line            a line has one verb and one text behind it
 use Rattle.words.proofs.Plain.{ℕ, suc, ◌+◌, ◌<◌, arith, ◌≡◌, refl, sym, ap, ◌∙◌, List, [], ◌∷◌, ◌++◌, map, length, get_or, take, drop}
-use Rattle.text_spec.specs.{Decimal.decimal, Text.hexOf}
+use Rattle.text_spec.specs.{Decimal.decimal, Text.hex_of}
 use Rattle.text_spec.proofs.Digits.{decimal-one}
 use Rattle.words.proofs.Split.{lt, eq, gt, tri}
 use Rattle.text_words_spec.specs.Words.{pieces, PieceAt, Nibbles, Spelt}
@@ -15,13 +15,13 @@ use Rattle.text_words_spec.proofs.Pieces.{first-same, behind-same, none-some}
 use Rattle.text_words_spec.proofs.Spelling.{spelt-one}
 use Rattle.desk_spec.specs.{declared.Verb.Verb, declared.Found.Found}
 use Rattle.desk_spec.specs.declared.Verb.TheVariants as Asks
-use Rattle.desk_spec.specs.{declared.Found.TheVariants.Known, declared.Found.TheVariants.Unknown, Verbs.verbOf}
+use Rattle.desk_spec.specs.{declared.Found.TheVariants.Known, declared.Found.TheVariants.Unknown, Verbs.verb_of}
 use Rattle.desk_spec.specs.Answers.{LineReads}
 use Rattle.desk_spec.specs.Questions.{ReadsReading, ReadsPair, ReadsNumbers, ReadsByte, ReadsSight, EachNibbles, words_of, CountsSpelt, ReadsCounts, ReadsAfter, ReadsShade}
 
 -- the same digits
-pub spelt-same : (v w : List ℕ) → Nibbles v → Nibbles w → map hexOf v ≡ map hexOf w → v ≡ w
-spelt-same v w p q e = spelt-one (map hexOf w) v w (record { digits = sym e; below = p }) (record { digits = refl; below = q })
+pub spelt-same : (v w : List ℕ) → Nibbles v → Nibbles w → map hex_of v ≡ map hex_of w → v ≡ w
+spelt-same v w p q e = spelt-one (map hex_of w) v w (record { digits = sym e; below = p }) (record { digits = refl; below = q })
 
 -- the words of rings and a reading
 words-some : (ts : List (List ℕ)) (r : List ℕ) → [] ≡ words_of ts r → ⊥
@@ -50,7 +50,7 @@ decimals-one (c ∷ cs) (d ∷ ds) e =
 pub counts_same : (t u cs ds : List ℕ) → t ≡ u → CountsSpelt t cs → CountsSpelt u ds → cs ≡ ds
 counts_same t u cs ds e x y = decimals-one cs ds (sym x.numbers ∙ ap (λ (s : List ℕ). pieces 44 s) e ∙ y.numbers)
 
-spelt-each : (us vs : List (List ℕ)) → EachNibbles us → EachNibbles vs → map (map hexOf) us ≡ map (map hexOf) vs → us ≡ vs
+spelt-each : (us vs : List (List ℕ)) → EachNibbles us → EachNibbles vs → map (map hex_of) us ≡ map (map hex_of) vs → us ≡ vs
 spelt-each [] [] p q e = refl
 spelt-each [] (v ∷ vs) p q e = absurd (none-some _ _ e)
 spelt-each (u ∷ us) [] p q e = absurd (none-some _ _ (sym e))
@@ -119,12 +119,12 @@ module _ (t : List ℕ) where
 -- ---- a line
 
 -- the verb that is known; `Stock` where none is
-abbrev verbIn : Found → Verb
-verbIn (Known v) = v
-verbIn Unknown = Asks.Stock
+abbrev verb_in : Found → Verb
+verb_in (Known v) = v
+verb_in Unknown = Asks.Stock
 
 pub known-one : (u v : Verb) → Known u ≡ Known v → u ≡ v
-known-one u v e = ap verbIn e
+known-one u v e = ap verb_in e
 
 -- a first piece ends at one place
 pub place-one : (sep : ℕ) (s : List ℕ) (a b : ℕ) → PieceAt sep s a → PieceAt sep s b → a ≡ b
@@ -138,6 +138,6 @@ place-one sep s a b p q =
 pub one_line : (s : List ℕ) (p q : Verb × List ℕ) → LineReads s p → LineReads s q → p ≡ q
 one_line s (u, t) (v, t') a b =
     let e = place-one 32 s a.at b.at a.ends b.ends in
-    let x : u ≡ v = known-one u v (sym a.verb ∙ ap (λ (i : ℕ). verbOf (take i s)) e ∙ b.verb) in
+    let x : u ≡ v = known-one u v (sym a.verb ∙ ap (λ (i : ℕ). verb_of (take i s)) e ∙ b.verb) in
     let y : t ≡ t' = a.behind ∙ ap (λ (i : ℕ). drop (i + 1) s) e ∙ sym b.behind in
     λ i. (x i, y i)

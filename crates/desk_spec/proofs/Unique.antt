@@ -29,7 +29,7 @@ use Rattle.desk_spec.specs.{declared.Both.TheVariants.Same, declared.Both.TheVar
 use Rattle.desk_spec.specs.declared.Verb.TheVariants as Asks
 use Rattle.desk_spec.specs.Questions.{Replies, good, bad}
 use Rattle.desk_spec.specs.Answers.{AnswerShows, KindPrints, StepPrints, AboutSays, BothSays, ManySays, StripPrints, SeenSays, FirstPrints, AfterPrints, VerbSays}
-use Rattle.desk_spec.specs.Answers.{DeskAnswers, blank, ShadesSays, oneValue, severalValues}
+use Rattle.desk_spec.specs.Answers.{DeskAnswers, blank, ShadesSays, one_value, several_values}
 use Rattle.desk_spec.proofs.Questions.{one-reading, one-pair, one-numbers, one_byte, one-sight, one-counts, one-after, one_line, one-shade}
 use Rattle.desk_spec.proofs.Sights.{one-sighted}
 
@@ -99,10 +99,10 @@ one-after-ring k w cs t u x y =
 -- ---- shades
 
 pub one-shades : (k : ℕ) (xs : List Float) (t u : List ℕ) → ShadesSays k xs t → ShadesSays k xs u → t ≡ u
-one-shades k xs t u (oneValue l x) (oneValue m y) = one-shows _ _ (one-sector _ k _) t u x y
-one-shades k xs t u (oneValue l x) (severalValues m y) = absurd (omega arith)
-one-shades k xs t u (severalValues l x) (oneValue m y) = absurd (omega arith)
-one-shades k xs t u (severalValues l x) (severalValues m y) =
+one-shades k xs t u (one_value l x) (one_value m y) = one-shows _ _ (one-sector _ k _) t u x y
+one-shades k xs t u (one_value l x) (several_values m y) = absurd (omega arith)
+one-shades k xs t u (several_values l x) (one_value m y) = absurd (omega arith)
+one-shades k xs t u (several_values l x) (several_values m y) =
     one-shows {A = RingRead × List ℕ} _ _ (λ a b p q. let e = one-ring _ k _ _ a.0 b.0 a.1 b.1 p q in λ i. (e.0 i, e.1 i)) t u x y
 
 -- ---- a line

@@ -9,7 +9,7 @@
 --     FirstPrints k cs text, AfterPrints k w cs text    the first ring of fixed counts, and the next
 --     ShadesSays k xs text    what one value, or several, of the floats xs behind those of the card tell
 --     VerbSays v t text       what the text t behind a verb prints
---     longestLine             a longer line is malformed
+--     longest_line             a longer line is malformed
 --     LineReads s q           the line s is a verb's name, a space, and a text
 --     DeskAnswers s text          what the line s prints, its newline left out
 -- An output that a call asks for is as long as the reading, that of a strip as long as the strip, that of a first ring as long as the sum of the counts, and 0 before.
@@ -20,8 +20,8 @@ use Rattle.text_spec.specs.Ascii.{space}
 use Rattle.text_words_spec.specs.Words.{PieceAt}
 use Rattle.rings.specs.Necklace.{necklace, lyndon}
 use Rattle.rings.specs.Prenecklace.{prenecklace}
-use Rattle.rings.specs.Alike.{sameRing, evenHanded}
-use Rattle.refusal.specs.Calls.{oneReading, twoReadings}
+use Rattle.rings.specs.Alike.{same_ring, even_handed}
+use Rattle.refusal.specs.Calls.{one_reading, two_readings}
 use Rattle.classify_spec.specs.Says.{ClassifySays}
 use Rattle.home_spec.specs.Says.{HomeSays, ToldSays, DistanceSays}
 use Rattle.home_spec.specs.declared.Homed.{Homed}
@@ -29,7 +29,7 @@ use Rattle.strip_spec.specs.declared.Written.{Written}
 use Rattle.strip_spec.specs.Says.{StripSays, PlaceSays}
 use Rattle.how_many_spec.specs.declared.Counted.{Counted}
 use Rattle.how_many_spec.specs.Says.{CountSays}
-use Rattle.stock_spec.specs.Stock.{homeByte}
+use Rattle.stock_spec.specs.Stock.{home_byte}
 use Rattle.walk_spec.specs.declared.Outcome.{Outcome}
 use Rattle.walk_bracelet_spec.specs.declared.Arrival.{Arrival}
 use Rattle.walk_reading_spec.specs.Says.{StepFromSays, BraceletFromSays}
@@ -49,11 +49,11 @@ use Rattle.desk_spec.specs.declared.Both.TheVariants.{Same, Apart}
 use Rattle.desk_spec.specs.declared.Verb.{Verb}
 use Rattle.desk_spec.specs.declared.Verb.TheVariants as Asks
 use Rattle.desk_spec.specs.declared.Found.TheVariants.{Known}
-use Rattle.desk_spec.specs.Verbs.{verbOf}
+use Rattle.desk_spec.specs.Verbs.{verb_of}
 use Rattle.desk_spec.specs.Questions.{ReadsReading, ReadsPair, ReadsNumbers, ReadsByte, ReadsSight, ReadsCounts, ReadsAfter, Replies, ReadsShade}
-use Rattle.desk_spec.specs.Texts.{classText, homeText, toldText, distanceText, placeText, manyText, stockText, stepText, arrivalText, stripText, sightText}
-use Rattle.desk_spec.specs.Texts.{firstRingText, nextRingText, sectorText, shadesText}
-use Rattle.desk_spec.specs.Floats.{float_of, firstCard}
+use Rattle.desk_spec.specs.Texts.{class_text, home_text, told_text, distance_text, place_text, many_text, stock_text, step_text, arrival_text, strip_text, sight_text}
+use Rattle.desk_spec.specs.Texts.{first_ring_text, next_ring_text, sector_text, shades_text}
+use Rattle.desk_spec.specs.Floats.{float_of, first_card}
 use Rattle.desk_spec.specs.Sights.{SightedSays}
 
 -- text is what an answer prints that is promised
@@ -70,57 +70,57 @@ blank n = replicate n 0
 
 -- to the next of a kind, with the moves
 abbrev pub KindPrints : (List ℕ → Bool) → ℕ → List ℕ → List ℕ → Type 0
-KindPrints kind k w text = AnswerShows {A = Outcome × List ℕ} (λ x. StepFromSays kind w k (blank (length w)) x.0 x.1) (λ x. stepText x.0 x.1) text
+KindPrints kind k w text = AnswerShows {A = Outcome × List ℕ} (λ x. StepFromSays kind w k (blank (length w)) x.0 x.1) (λ x. step_text x.0 x.1) text
 
 abbrev pub StepPrints : Step → ℕ → List ℕ → List ℕ → Type 0
 StepPrints Necklace k w text = KindPrints necklace k w text
 StepPrints Lyndon k w text = KindPrints lyndon k w text
 StepPrints Prenecklace k w text = KindPrints prenecklace k w text
-StepPrints Bracelet k w text = AnswerShows {A = Arrival × List ℕ} (λ x. BraceletFromSays w k (blank (length w)) x.0 x.1) (λ x. arrivalText x.0 x.1) text
+StepPrints Bracelet k w text = AnswerShows {A = Arrival × List ℕ} (λ x. BraceletFromSays w k (blank (length w)) x.0 x.1) (λ x. arrival_text x.0 x.1) text
 
 -- ---- one reading
 
 abbrev pub AboutSays : About → ℕ → List ℕ → List ℕ → Type 0
-AboutSays Class k w text = AnswerShows (λ a. ClassifySays w k a) classText text
-AboutSays Home k w text = AnswerShows {A = Homed × List ℕ} (λ x. HomeSays w k (blank (length w)) x.0 x.1) (λ x. homeText x.0 x.1) text
-AboutSays Even k w text = AnswerShows (λ a. ToldSays (oneReading w k) (evenHanded w) a) toldText text
-AboutSays Place k w text = AnswerShows (λ a. PlaceSays w k a) placeText text
+AboutSays Class k w text = AnswerShows (λ a. ClassifySays w k a) class_text text
+AboutSays Home k w text = AnswerShows {A = Homed × List ℕ} (λ x. HomeSays w k (blank (length w)) x.0 x.1) (λ x. home_text x.0 x.1) text
+AboutSays Even k w text = AnswerShows (λ a. ToldSays (one_reading w k) (even_handed w) a) told_text text
+AboutSays Place k w text = AnswerShows (λ a. PlaceSays w k a) place_text text
 AboutSays (OfOne.Step v) k w text = StepPrints v k w text
 
 -- ---- two readings
 
 abbrev pub BothSays : Both → ℕ → List ℕ → List ℕ → List ℕ → Type 0
-BothSays Same k a b text = AnswerShows (λ r. ToldSays (twoReadings a b k) (sameRing a b) r) toldText text
-BothSays Apart k a b text = AnswerShows (λ r. DistanceSays a b k r) distanceText text
+BothSays Same k a b text = AnswerShows (λ r. ToldSays (two_readings a b k) (same_ring a b) r) told_text text
+BothSays Apart k a b text = AnswerShows (λ r. DistanceSays a b k r) distance_text text
 
 -- ---- numbers
 
 abbrev pub ManySays : ℕ → ℕ → List ℕ → Type 0
-ManySays k n text = AnswerShows {A = Counted × Counted} (λ x. CountSays necklace k n x.0 × CountSays lyndon k n x.1) (λ x. manyText x.0 x.1) text
+ManySays k n text = AnswerShows {A = Counted × Counted} (λ x. CountSays necklace k n x.0 × CountSays lyndon k n x.1) (λ x. many_text x.0 x.1) text
 
 abbrev pub StripPrints : ℕ → ℕ → List ℕ → Type 0
-StripPrints k n text = AnswerShows {A = Written × List ℕ} (λ x. StripSays n k (blank (k ^ n)) x.0 x.1) (λ x. stripText x.0 x.1) text
+StripPrints k n text = AnswerShows {A = Written × List ℕ} (λ x. StripSays n k (blank (k ^ n)) x.0 x.1) (λ x. strip_text x.0 x.1) text
 
 -- ---- a reading among rings
 
 abbrev pub SeenSays : ℕ → ℕ → List (List ℕ) → List ℕ → List ℕ → Type 0
-SeenSays k e ts r text = AnswerShows (λ a. SightedSays ts r k e a) sightText text
+SeenSays k e ts r text = AnswerShows (λ a. SightedSays ts r k e a) sight_text text
 
 -- ---- counts
 
 abbrev pub FirstPrints : ℕ → List ℕ → List ℕ → Type 0
-FirstPrints k cs text = AnswerShows {A = FirstAnswer × List ℕ} (λ x. FirstSays k cs (blank (sum_of cs)) x.0 x.1) (λ x. firstRingText x.0 x.1) text
+FirstPrints k cs text = AnswerShows {A = FirstAnswer × List ℕ} (λ x. FirstSays k cs (blank (sum_of cs)) x.0 x.1) (λ x. first_ring_text x.0 x.1) text
 
 abbrev pub AfterPrints : ℕ → List ℕ → List ℕ → List ℕ → Type 0
-AfterPrints k w cs text = AnswerShows {A = NextAnswer × List ℕ} (λ x. NextSays w k cs (blank (length w)) x.0 x.1) (λ x. nextRingText x.0 x.1) text
+AfterPrints k w cs text = AnswerShows {A = NextAnswer × List ℕ} (λ x. NextSays w k cs (blank (length w)) x.0 x.1) (λ x. next_ring_text x.0 x.1) text
 
 -- ---- shades
 
 -- behind the two floats of the card: one value is a sector's, and several are a ring's
 pub data ShadesSays (k : ℕ) (xs : List Float) (text : List ℕ) : Type 0 where
-  oneValue : length xs ≡ 3 → AnswerShows (λ a. SectorSays (get_or xs 2 nan) k (firstCard xs) a) sectorText text → ShadesSays k xs text
-  severalValues : 3 < length xs →
-      AnswerShows {A = RingRead × List ℕ} (λ a. RingSays (drop 2 xs) k (firstCard xs) (blank (length (drop 2 xs))) a.0 a.1) (λ a. shadesText a.0 a.1) text → ShadesSays k xs text
+  one_value : length xs ≡ 3 → AnswerShows (λ a. SectorSays (get_or xs 2 nan) k (first_card xs) a) sector_text text → ShadesSays k xs text
+  several_values : 3 < length xs →
+      AnswerShows {A = RingRead × List ℕ} (λ a. RingSays (drop 2 xs) k (first_card xs) (blank (length (drop 2 xs))) a.0 a.1) (λ a. shades_text a.0 a.1) text → ShadesSays k xs text
 
 -- ---- a line
 
@@ -128,23 +128,23 @@ abbrev pub VerbSays : Verb → List ℕ → List ℕ → Type 0
 VerbSays (Asks.About v) t text = Replies (ReadsReading t) (λ q. AboutSays v q.0 q.1) text
 VerbSays (Asks.Both v) t text = Replies (ReadsPair t) (λ q. BothSays v q.0 q.1 q.2) text
 VerbSays Asks.Many t text = Replies (ReadsNumbers t) (λ q. ManySays q.0 q.1) text
-VerbSays Asks.Stock t text = Replies (ReadsByte t) (λ b x. x ≡ stockText (homeByte b)) text
+VerbSays Asks.Stock t text = Replies (ReadsByte t) (λ b x. x ≡ stock_text (home_byte b)) text
 VerbSays Asks.Strip t text = Replies (ReadsNumbers t) (λ q. StripPrints q.0 q.1) text
 VerbSays Asks.Sight t text = Replies (ReadsSight t) (λ q. SeenSays q.0 q.1 q.2 q.3) text
 VerbSays Asks.First t text = Replies (ReadsCounts t) (λ q. FirstPrints q.0 q.1) text
 VerbSays Asks.After t text = Replies (ReadsAfter t) (λ q. AfterPrints q.0 q.1 q.2) text
 VerbSays Asks.Shade t text = Replies (ReadsShade t) (λ q. ShadesSays q.0 (map float_of q.1)) text
 
-abbrev pub longestLine : ℕ
-longestLine = 4095
+abbrev pub longest_line : ℕ
+longest_line = 4095
 
 -- a verb, and what stands behind its word: a word ends at the first space
 pub record LineReads (s : List ℕ) (q : Verb × List ℕ) : Type 0 where
-  pub within : length s ≤ longestLine
+  pub within : length s ≤ longest_line
   pub at : ℕ
   pub ends : PieceAt space s at
   pub inside : at < length s
-  pub verb : verbOf (take at s) ≡ Known q.0
+  pub verb : verb_of (take at s) ≡ Known q.0
   pub behind : q.1 ≡ drop (at + 1) s
 
 abbrev pub DeskAnswers : List ℕ → List ℕ → Type 0

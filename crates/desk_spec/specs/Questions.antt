@@ -16,10 +16,10 @@
 use Rattle.std.specs.Prelude.{ℕ, ◌<◌, ◌≤◌, ◌≡◌, List, [], ◌∷◌, ◌++◌, map, length, get_or}
 use Rattle.text_spec.specs.Ascii.{space}
 use Rattle.text_spec.specs.Decimal.{decimal}
-use Rattle.text_spec.specs.Text.{hexOf}
+use Rattle.text_spec.specs.Text.{hex_of}
 use Rattle.line_spec.specs.Line.{fields}
 use Rattle.text_words_spec.specs.Words.{pieces, Nibbles}
-use Rattle.desk_spec.specs.Texts.{malformedText}
+use Rattle.desk_spec.specs.Texts.{malformed_text}
 use Rattle.desk_spec.specs.Sights.{AsLong}
 
 abbrev pub ThreeDigits : ℕ → Type 0
@@ -31,20 +31,20 @@ EachNibbles ts = (j : ℕ) → j < length ts → Nibbles (get_or ts j [])
 
 -- the words that spell some rings and a reading behind them
 abbrev pub words_of : List (List ℕ) → List ℕ → List (List ℕ)
-words_of ts r = map (map hexOf) (ts ++ (r ∷ []))
+words_of ts r = map (map hex_of) (ts ++ (r ∷ []))
 
 -- k and a reading
 pub record ReadsReading (t : List ℕ) (q : ℕ × List ℕ) : Type 0 where
   pub short : ThreeDigits q.0
   pub sectors : Nibbles q.1
-  pub words : pieces space t ≡ decimal q.0 ∷ map hexOf q.1 ∷ []
+  pub words : pieces space t ≡ decimal q.0 ∷ map hex_of q.1 ∷ []
 
 -- k and two readings
 pub record ReadsPair (t : List ℕ) (q : ℕ × List ℕ × List ℕ) : Type 0 where
   pub short : ThreeDigits q.0
   pub sectors : Nibbles q.1
   pub others : Nibbles q.2
-  pub words : pieces space t ≡ decimal q.0 ∷ map hexOf q.1 ∷ map hexOf q.2 ∷ []
+  pub words : pieces space t ≡ decimal q.0 ∷ map hex_of q.1 ∷ map hex_of q.2 ∷ []
 
 -- two numbers
 pub record ReadsNumbers (t : List ℕ) (q : ℕ × ℕ) : Type 0 where
@@ -87,7 +87,7 @@ pub record ReadsAfter (t : List ℕ) (q : ℕ × List ℕ × List ℕ) : Type 0 
   pub sectors : Nibbles q.1
   pub word : List ℕ
   pub counts : CountsSpelt word q.2
-  pub words : pieces space t ≡ decimal q.0 ∷ map hexOf q.1 ∷ word ∷ []
+  pub words : pieces space t ≡ decimal q.0 ∷ map hex_of q.1 ∷ word ∷ []
 
 -- k, a card and values, eight digits each
 pub record ReadsShade (t : List ℕ) (q : ℕ × List (List ℕ)) : Type 0 where
@@ -95,9 +95,9 @@ pub record ReadsShade (t : List ℕ) (q : ℕ × List (List ℕ)) : Type 0 where
   pub digits : EachNibbles q.1
   pub eight : AsLong 8 q.1
   pub three : 3 ≤ length q.1
-  pub words : pieces space t ≡ decimal q.0 ∷ map (map hexOf) q.1
+  pub words : pieces space t ≡ decimal q.0 ∷ map (map hex_of) q.1
 
 -- what a text prints: what its question does, or that it asks none
 pub data Replies {Q : Type 0} (Reads : Q → Type 0) (Says : Q → List ℕ → Type 0) (text : List ℕ) : Type 0 where
   good : (q : Q) → Reads q → Says q text → Replies Reads Says text
-  bad : ((q : Q) → Reads q → ⊥) → text ≡ malformedText → Replies Reads Says text
+  bad : ((q : Q) → Reads q → ⊥) → text ≡ malformed_text → Replies Reads Says text

@@ -1,24 +1,24 @@
 -- What each answer prints: one line.
---     refusalText r          refused 3 at 2
---     malformedText          refused 11 at 0: what cannot be read
---     classText              loose at 3; opening 5; repeating 2; single
---     homeText a c           home 001101 shift 4 period 6, where c is the home reading
---     toldText               yes; no
---     distanceText           apart 2
---     placeText              place 6
---     manyText a b           6 3: the rings, and those that look different at each turn
---     stockText b            23
---     stepText a c           next 0111 moves 3, where c is the ring; done moves 0
---     arrivalText a c        next 001111, where c is the ring; done
---     stripText a c          00010111, where c is the strip
---     sectorText             shade 1; outside 3fc00000, by its bits; not a number
---     shadesText a c         ring 0110, where c is the ring
---     sightText              front 3 turned 5 misread 1; back 3 turned 5 misread 1; several; unknown
---     firstRingText a c      ring 000111, where c is the ring
---     nextRingText a c       ring 001011, where c is the ring; done
+--     refusal_text r          refused 3 at 2
+--     malformed_text          refused 11 at 0: what cannot be read
+--     class_text              loose at 3; opening 5; repeating 2; single
+--     home_text a c           home 001101 shift 4 period 6, where c is the home reading
+--     told_text               yes; no
+--     distance_text           apart 2
+--     place_text              place 6
+--     many_text a b           6 3: the rings, and those that look different at each turn
+--     stock_text b            23
+--     step_text a c           next 0111 moves 3, where c is the ring; done moves 0
+--     arrival_text a c        next 001111, where c is the ring; done
+--     strip_text a c          00010111, where c is the strip
+--     sector_text             shade 1; outside 3fc00000, by its bits; not a number
+--     shades_text a c         ring 0110, where c is the ring
+--     sight_text              front 3 turned 5 misread 1; back 3 turned 5 misread 1; several; unknown
+--     first_ring_text a c      ring 000111, where c is the ring
+--     next_ring_text a c       ring 001011, where c is the ring; done
 use Rattle.std.specs.Prelude.{ℕ, List, [], ◌∷◌, length}
 use Rattle.text_spec.specs.Ascii.{ascii}
-use Rattle.text_fill_spec.specs.Filled.{filledText}
+use Rattle.text_fill_spec.specs.Filled.{filled_text}
 use Rattle.rings.specs.declared.Class.{Class}
 use Rattle.rings.specs.declared.Class.TheVariants.{Loose, Opening, Repeating, Single}
 use Rattle.refusal.specs.declared.Refusal.{Refusal}
@@ -54,96 +54,96 @@ use Rattle.density_spec.specs.declared.SectorRead.{SectorRead}
 use Rattle.density_spec.specs.declared.SectorRead.TheVariants as Sectors
 use Rattle.density_spec.specs.declared.RingRead.{RingRead}
 use Rattle.density_spec.specs.declared.RingRead.TheVariants as Rings
-use Rattle.desk_spec.specs.Floats.{digitsOf}
+use Rattle.desk_spec.specs.Floats.{digits_of}
 
 -- a text with numbers alone
-abbrev pub plainText : List ℕ → List ℕ → List ℕ
-plainText t xs = filledText t xs 0 []
+abbrev pub plain_text : List ℕ → List ℕ → List ℕ
+plain_text t xs = filled_text t xs 0 []
 
 -- a text with a ring
-abbrev pub countedRingText : List ℕ → List ℕ → List ℕ → List ℕ
-countedRingText t xs w = filledText t xs (length w) w
+abbrev pub counted_ring_text : List ℕ → List ℕ → List ℕ → List ℕ
+counted_ring_text t xs w = filled_text t xs (length w) w
 
-abbrev pub refusalText : Refusal → List ℕ
-refusalText r = plainText (ascii "refused % at %\n") (number_of r ∷ place_of r ∷ [])
+abbrev pub refusal_text : Refusal → List ℕ
+refusal_text r = plain_text (ascii "refused % at %\n") (number_of r ∷ place_of r ∷ [])
 
-abbrev pub malformedText : List ℕ
-malformedText = refusalText Line
+abbrev pub malformed_text : List ℕ
+malformed_text = refusal_text Line
 
-abbrev pub nameText : Class → List ℕ
-nameText (Loose p) = plainText (ascii "loose at %\n") (p ∷ [])
-nameText (Opening p) = plainText (ascii "opening %\n") (p ∷ [])
-nameText (Repeating p) = plainText (ascii "repeating %\n") (p ∷ [])
-nameText Single = plainText (ascii "single\n") []
+abbrev pub name_text : Class → List ℕ
+name_text (Loose p) = plain_text (ascii "loose at %\n") (p ∷ [])
+name_text (Opening p) = plain_text (ascii "opening %\n") (p ∷ [])
+name_text (Repeating p) = plain_text (ascii "repeating %\n") (p ∷ [])
+name_text Single = plain_text (ascii "single\n") []
 
-abbrev pub classText : Classified → List ℕ
-classText (K.Is c) = nameText c
-classText (K.Refused r) = refusalText r
+abbrev pub class_text : Classified → List ℕ
+class_text (K.Is c) = name_text c
+class_text (K.Refused r) = refusal_text r
 
-abbrev pub homeText : Homed → List ℕ → List ℕ
-homeText (H.Home i p) c = countedRingText (ascii "home @ shift % period %\n") (i ∷ p ∷ []) c
-homeText (H.Refused r) c = refusalText r
+abbrev pub home_text : Homed → List ℕ → List ℕ
+home_text (H.Home i p) c = counted_ring_text (ascii "home @ shift % period %\n") (i ∷ p ∷ []) c
+home_text (H.Refused r) c = refusal_text r
 
-abbrev pub toldText : Told → List ℕ
-toldText T.Yes = plainText (ascii "yes\n") []
-toldText T.No = plainText (ascii "no\n") []
-toldText (T.Refused r) = refusalText r
+abbrev pub told_text : Told → List ℕ
+told_text T.Yes = plain_text (ascii "yes\n") []
+told_text T.No = plain_text (ascii "no\n") []
+told_text (T.Refused r) = refusal_text r
 
-abbrev pub distanceText : Distance → List ℕ
-distanceText (D.Apart x) = plainText (ascii "apart %\n") (x ∷ [])
-distanceText (D.Refused r) = refusalText r
+abbrev pub distance_text : Distance → List ℕ
+distance_text (D.Apart x) = plain_text (ascii "apart %\n") (x ∷ [])
+distance_text (D.Refused r) = refusal_text r
 
-abbrev pub placeText : Position → List ℕ
-placeText (P.Place p) = plainText (ascii "place %\n") (p ∷ [])
-placeText (P.Refused r) = refusalText r
+abbrev pub place_text : Position → List ℕ
+place_text (P.Place p) = plain_text (ascii "place %\n") (p ∷ [])
+place_text (P.Refused r) = refusal_text r
 
-abbrev pub manyText : Counted → Counted → List ℕ
-manyText (C.Rings x) (C.Rings y) = plainText (ascii "% %\n") (x ∷ y ∷ [])
-manyText (C.Rings x) (C.Refused r) = refusalText r
-manyText (C.Refused r) b = refusalText r
+abbrev pub many_text : Counted → Counted → List ℕ
+many_text (C.Rings x) (C.Rings y) = plain_text (ascii "% %\n") (x ∷ y ∷ [])
+many_text (C.Rings x) (C.Refused r) = refusal_text r
+many_text (C.Refused r) b = refusal_text r
 
-abbrev pub stockText : ℕ → List ℕ
-stockText b = plainText (ascii "%\n") (b ∷ [])
+abbrev pub stock_text : ℕ → List ℕ
+stock_text b = plain_text (ascii "%\n") (b ∷ [])
 
-abbrev pub stepText : Outcome → List ℕ → List ℕ
-stepText (O.Moved m) c = countedRingText (ascii "next @ moves %\n") (m ∷ []) c
-stepText (O.Done m) c = plainText (ascii "done moves %\n") (m ∷ [])
-stepText (O.Refused r) c = refusalText r
+abbrev pub step_text : Outcome → List ℕ → List ℕ
+step_text (O.Moved m) c = counted_ring_text (ascii "next @ moves %\n") (m ∷ []) c
+step_text (O.Done m) c = plain_text (ascii "done moves %\n") (m ∷ [])
+step_text (O.Refused r) c = refusal_text r
 
-abbrev pub arrivalText : Arrival → List ℕ → List ℕ
-arrivalText A.Moved c = countedRingText (ascii "next @\n") [] c
-arrivalText A.Done c = plainText (ascii "done\n") []
-arrivalText (A.Refused r) c = refusalText r
+abbrev pub arrival_text : Arrival → List ℕ → List ℕ
+arrival_text A.Moved c = counted_ring_text (ascii "next @\n") [] c
+arrival_text A.Done c = plain_text (ascii "done\n") []
+arrival_text (A.Refused r) c = refusal_text r
 
-abbrev pub stripText : Written → List ℕ → List ℕ
-stripText W.Strip c = countedRingText (ascii "@\n") [] c
-stripText (W.Refused r) c = refusalText r
+abbrev pub strip_text : Written → List ℕ → List ℕ
+strip_text W.Strip c = counted_ring_text (ascii "@\n") [] c
+strip_text (W.Refused r) c = refusal_text r
 
-abbrev pub sightText : Sighting → List ℕ
-sightText (S.Front t i x) = plainText (ascii "front % turned % misread %\n") (t ∷ i ∷ x ∷ [])
-sightText (S.Back t i x) = plainText (ascii "back % turned % misread %\n") (t ∷ i ∷ x ∷ [])
-sightText S.Several = plainText (ascii "several\n") []
-sightText S.Unknown = plainText (ascii "unknown\n") []
-sightText (S.Refused r) = refusalText r
+abbrev pub sight_text : Sighting → List ℕ
+sight_text (S.Front t i x) = plain_text (ascii "front % turned % misread %\n") (t ∷ i ∷ x ∷ [])
+sight_text (S.Back t i x) = plain_text (ascii "back % turned % misread %\n") (t ∷ i ∷ x ∷ [])
+sight_text S.Several = plain_text (ascii "several\n") []
+sight_text S.Unknown = plain_text (ascii "unknown\n") []
+sight_text (S.Refused r) = refusal_text r
 
-abbrev pub firstRingText : FirstAnswer → List ℕ → List ℕ
-firstRingText F.Ring c = countedRingText (ascii "ring @\n") [] c
-firstRingText (F.Refused r) c = refusalText r
+abbrev pub first_ring_text : FirstAnswer → List ℕ → List ℕ
+first_ring_text F.Ring c = counted_ring_text (ascii "ring @\n") [] c
+first_ring_text (F.Refused r) c = refusal_text r
 
-abbrev pub nextRingText : NextAnswer → List ℕ → List ℕ
-nextRingText N.Ring c = countedRingText (ascii "ring @\n") [] c
-nextRingText N.Done c = plainText (ascii "done\n") []
-nextRingText (N.Refused r) c = refusalText r
+abbrev pub next_ring_text : NextAnswer → List ℕ → List ℕ
+next_ring_text N.Ring c = counted_ring_text (ascii "ring @\n") [] c
+next_ring_text N.Done c = plain_text (ascii "done\n") []
+next_ring_text (N.Refused r) c = refusal_text r
 
-abbrev pub toldSectorText : Sector → List ℕ
-toldSectorText (Tells.Shade s) = plainText (ascii "shade %\n") (s ∷ [])
-toldSectorText (Tells.Outside x) = countedRingText (ascii "outside @\n") [] (digitsOf x)
-toldSectorText Tells.NotANumber = plainText (ascii "not a number\n") []
+abbrev pub told_sector_text : Sector → List ℕ
+told_sector_text (Tells.Shade s) = plain_text (ascii "shade %\n") (s ∷ [])
+told_sector_text (Tells.Outside x) = counted_ring_text (ascii "outside @\n") [] (digits_of x)
+told_sector_text Tells.NotANumber = plain_text (ascii "not a number\n") []
 
-abbrev pub sectorText : SectorRead → List ℕ
-sectorText (Sectors.Is s) = toldSectorText s
-sectorText (Sectors.Refused r) = refusalText r
+abbrev pub sector_text : SectorRead → List ℕ
+sector_text (Sectors.Is s) = told_sector_text s
+sector_text (Sectors.Refused r) = refusal_text r
 
-abbrev pub shadesText : RingRead → List ℕ → List ℕ
-shadesText Rings.Written c = countedRingText (ascii "ring @\n") [] c
-shadesText (Rings.Refused r) c = refusalText r
+abbrev pub shades_text : RingRead → List ℕ → List ℕ
+shades_text Rings.Written c = counted_ring_text (ascii "ring @\n") [] c
+shades_text (Rings.Refused r) c = refusal_text r

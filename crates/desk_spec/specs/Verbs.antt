@@ -1,6 +1,6 @@
 -- The verb of a word.
---     isKnown f     it is a verb's name
---     verbOf t      the verb whose name the word t is; each group of verbs has its own (aboutOf, bothOf, count_of, step_of, stripOf, cameraOf, shadesOf)
+--     is_known f     it is a verb's name
+--     verb_of t      the verb whose name the word t is; each group of verbs has its own (about_of, both_of, count_of, step_of, strip_of, camera_of, shades_of)
 use Rattle.std.specs.Prelude.{ℕ, Bool, true, false, List}
 use Rattle.words.specs.Order.{same}
 use Rattle.text_spec.specs.Ascii.{ascii}
@@ -21,15 +21,15 @@ abbrev pub or_else : Found → Found → Found
 or_else (Known v) next = Known v
 or_else Unknown next = next
 
-abbrev pub isKnown : Found → Bool
-isKnown (Known v) = true
-isKnown Unknown = false
+abbrev pub is_known : Found → Bool
+is_known (Known v) = true
+is_known Unknown = false
 
-unfoldable pub aboutOf : List ℕ → Found
-aboutOf t = named t (ascii "class") (About Class) (named t (ascii "home") (About Home) (named t (ascii "even") (About Even) (named t (ascii "place") (About Place) Unknown)))
+unfoldable pub about_of : List ℕ → Found
+about_of t = named t (ascii "class") (About Class) (named t (ascii "home") (About Home) (named t (ascii "even") (About Even) (named t (ascii "place") (About Place) Unknown)))
 
-unfoldable pub bothOf : List ℕ → Found
-bothOf t = named t (ascii "same") (Both Same) (named t (ascii "apart") (Both Apart) Unknown)
+unfoldable pub both_of : List ℕ → Found
+both_of t = named t (ascii "same") (Both Same) (named t (ascii "apart") (Both Apart) Unknown)
 
 unfoldable pub count_of : List ℕ → Found
 count_of t = named t (ascii "many") Many (named t (ascii "stock") Stock Unknown)
@@ -40,15 +40,15 @@ step_of t =
     (named t (ascii "lyndon") (About (Step Steps.Lyndon))
     (named t (ascii "prenecklace") (About (Step Steps.Prenecklace)) (named t (ascii "bracelet") (About (Step Steps.Bracelet)) Unknown)))
 
-unfoldable pub stripOf : List ℕ → Found
-stripOf t = named t (ascii "strip") Strip Unknown
+unfoldable pub strip_of : List ℕ → Found
+strip_of t = named t (ascii "strip") Strip Unknown
 
 -- what a camera asks
-unfoldable pub cameraOf : List ℕ → Found
-cameraOf t = named t (ascii "sight") Sight (named t (ascii "shade") Shade Unknown)
+unfoldable pub camera_of : List ℕ → Found
+camera_of t = named t (ascii "sight") Sight (named t (ascii "shade") Shade Unknown)
 
-unfoldable pub shadesOf : List ℕ → Found
-shadesOf t = named t (ascii "first") First (named t (ascii "after") After Unknown)
+unfoldable pub shades_of : List ℕ → Found
+shades_of t = named t (ascii "first") First (named t (ascii "after") After Unknown)
 
-unfoldable pub verbOf : List ℕ → Found
-verbOf t = or_else (aboutOf t) (or_else (bothOf t) (or_else (count_of t) (or_else (step_of t) (or_else (stripOf t) (or_else (cameraOf t) (shadesOf t))))))
+unfoldable pub verb_of : List ℕ → Found
+verb_of t = or_else (about_of t) (or_else (both_of t) (or_else (count_of t) (or_else (step_of t) (or_else (strip_of t) (or_else (camera_of t) (shades_of t))))))

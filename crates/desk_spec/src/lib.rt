@@ -1,5 +1,7 @@
 // What a line of the desk asks, and what it prints, as definitions. No functions.
 
+#![tactic(auto)]
+
 // A step from a reading, to the next ring of a kind.
 #[derive(Drop)]
 pub enum Step {

@@ -11,7 +11,7 @@ use borrow.Author.Tests.{eqb-true, eqb-false}
 use Rattle.words.proofs.Split.{passes, fails, test}
 use Rattle.text_fill_spec.specs.Filled.{slots, longest}
 use Rattle.text_fill_spec.proofs.Laws.{slots_same, slots-other}
-use Rattle.desk_texts_inner.specs.Says.{deskRoom, longestPlain}
+use Rattle.desk_texts_inner.specs.Says.{desk_room, longest_plain}
 
 pub slots-few : (c : ℕ) (t : List ℕ) → slots c t ≤ length t
 unfolding slots
@@ -22,6 +22,6 @@ slots-few c (a ∷ t) =
       | fails e ↦ omega (arith, slots-other c a t (eqb-false a c e), slots-few c t)
     ]
 
-pub plain-short : (t : List ℕ) → length t ≤ longestPlain → longest t 0 ≤ deskRoom
+pub plain-short : (t : List ℕ) → length t ≤ longest_plain → longest t 0 ≤ desk_room
 unfolding longest
 plain-short t h = omega (arith, h, slots-few 37 t)

@@ -1,9 +1,11 @@
 // What the desk prints for an answer, placed into a lent buffer that has room for a line. No public calls.
 
+#![tactic(auto)]
+
 ghost use Rattle.std.specs.Prelude.{◌+◌, ◌≤◌, [], ◌∷◌, length};
-ghost use Rattle.text_fill_spec.specs.Filled.{filledText, longest};
-ghost use Rattle.desk_spec.specs.Texts.{plainText, countedRingText, refusalText, malformedText, nameText, classText, homeText, toldText, distanceText, placeText, manyText, stockText};
-ghost use Rattle.desk_texts_inner.specs.Says.{deskRoom, longestRing, longestPlain, ringLineText, doneText, LinePrinted};
+ghost use Rattle.text_fill_spec.specs.Filled.{filled_text, longest};
+ghost use Rattle.desk_spec.specs.Texts.{plain_text, counted_ring_text, refusal_text, malformed_text, name_text, class_text, home_text, told_text, distance_text, place_text, many_text, stock_text};
+ghost use Rattle.desk_texts_inner.specs.Says.{desk_room, longest_ring, longest_plain, ring_line_text, done_text, LinePrinted};
 
 use classify_spec::Classified;
 use home_spec::{Distance, Homed, Told};
@@ -21,70 +23,70 @@ pub fn place_line(
     n: usize,
     ring: &[u8],
 ) -> usize
-    requires n_bound { longest text.now n ≤ deskRoom }
-    requires desk_room_in_bounds { at + deskRoom ≤ length buf.old }
-    ensures { LinePrinted buf.old at (filledText text.now numbers.now n ring.now) result buf.new }
+    requires n_bound { longest text.now n ≤ desk_room }
+    requires desk_room_in_bounds { at + desk_room ≤ length buf.old }
+    ensures { LinePrinted buf.old at (filled_text text.now numbers.now n ring.now) result buf.new }
 {
     text_fill_inner::place_filled(buf, at, text, numbers, n, ring)
 }
 
 // A short text with numbers and no ring.
 pub fn place_plain(buf: &mut [u8], at: usize, text: &[u8], numbers: &[usize]) -> usize
-    requires text_len_bound { length text.now ≤ longestPlain }
-    requires desk_room_in_bounds { at + deskRoom ≤ length buf.old }
-    ensures { LinePrinted buf.old at (plainText text.now numbers.now) result buf.new }
+    requires text_len_bound { length text.now ≤ longest_plain }
+    requires desk_room_in_bounds { at + desk_room ≤ length buf.old }
+    ensures { LinePrinted buf.old at (plain_text text.now numbers.now) result buf.new }
 {
     place_line(buf, at, text, numbers, 0, b"")
 }
 
 // One with no number.
 pub fn place_words(buf: &mut [u8], at: usize, text: &[u8]) -> usize
-    requires text_len_bound { length text.now ≤ longestPlain }
-    requires desk_room_in_bounds { at + deskRoom ≤ length buf.old }
-    ensures { LinePrinted buf.old at (plainText text.now []) result buf.new }
+    requires text_len_bound { length text.now ≤ longest_plain }
+    requires desk_room_in_bounds { at + desk_room ≤ length buf.old }
+    ensures { LinePrinted buf.old at (plain_text text.now []) result buf.new }
 {
     place_plain(buf, at, text, &[])
 }
 
 // One with one number.
 pub fn place_number(buf: &mut [u8], at: usize, text: &[u8], x: usize) -> usize
-    requires text_len_bound { length text.now ≤ longestPlain }
-    requires desk_room_in_bounds { at + deskRoom ≤ length buf.old }
-    ensures { LinePrinted buf.old at (plainText text.now (x ∷ [])) result buf.new }
+    requires text_len_bound { length text.now ≤ longest_plain }
+    requires desk_room_in_bounds { at + desk_room ≤ length buf.old }
+    ensures { LinePrinted buf.old at (plain_text text.now (x ∷ [])) result buf.new }
 {
     place_plain(buf, at, text, &[x])
 }
 
 // A text with a ring and no number.
 pub fn place_ring_line(buf: &mut [u8], at: usize, text: &[u8], ring: &[u8]) -> usize
-    requires ring_bound { longest text.now (length ring.now) ≤ deskRoom }
-    requires desk_room_in_bounds { at + deskRoom ≤ length buf.old }
-    ensures { LinePrinted buf.old at (countedRingText text.now [] ring.now) result buf.new }
+    requires ring_bound { longest text.now (length ring.now) ≤ desk_room }
+    requires desk_room_in_bounds { at + desk_room ≤ length buf.old }
+    ensures { LinePrinted buf.old at (counted_ring_text text.now [] ring.now) result buf.new }
 {
     place_line(buf, at, text, &[], ring.len(), ring)
 }
 
 // The line of a ring that was asked for.
 pub fn place_ring(buf: &mut [u8], at: usize, ring: &[u8]) -> usize
-    requires ring_len_bound { length ring.now ≤ longestRing }
-    requires desk_room_in_bounds { at + deskRoom ≤ length buf.old }
-    ensures { LinePrinted buf.old at (ringLineText ring.now) result buf.new }
+    requires ring_len_bound { length ring.now ≤ longest_ring }
+    requires desk_room_in_bounds { at + desk_room ≤ length buf.old }
+    ensures { LinePrinted buf.old at (ring_line_text ring.now) result buf.new }
 {
     place_ring_line(buf, at, b"ring @\n", ring)
 }
 
 // The line where there is no next ring.
 pub fn place_done(buf: &mut [u8], at: usize) -> usize
-    requires { at + deskRoom ≤ length buf.old }
-    ensures { LinePrinted buf.old at doneText result buf.new }
+    requires { at + desk_room ≤ length buf.old }
+    ensures { LinePrinted buf.old at done_text result buf.new }
 {
     place_words(buf, at, b"done\n")
 }
 
 // The line of a refusal.
 pub fn place_refusal(buf: &mut [u8], at: usize, r: Refusal) -> usize
-    requires { at + deskRoom ≤ length buf.old }
-    ensures { LinePrinted buf.old at (refusalText r) result buf.new }
+    requires { at + desk_room ≤ length buf.old }
+    ensures { LinePrinted buf.old at (refusal_text r) result buf.new }
 {
     let x = refusal::number(r);
     let p = refusal::place(r);
@@ -93,16 +95,16 @@ pub fn place_refusal(buf: &mut [u8], at: usize, r: Refusal) -> usize
 
 // The line of what is no question.
 pub fn place_malformed(buf: &mut [u8], at: usize) -> usize
-    requires { at + deskRoom ≤ length buf.old }
-    ensures { LinePrinted buf.old at malformedText result buf.new }
+    requires { at + desk_room ≤ length buf.old }
+    ensures { LinePrinted buf.old at malformed_text result buf.new }
 {
     place_refusal(buf, at, Refusal::Line)
 }
 
 // A class.
 fn place_class(buf: &mut [u8], at: usize, c: Class) -> usize
-    requires { at + deskRoom ≤ length buf.old }
-    ensures { LinePrinted buf.old at (nameText c) result buf.new }
+    requires { at + desk_room ≤ length buf.old }
+    ensures { LinePrinted buf.old at (name_text c) result buf.new }
 {
     match c {
         Class::Loose(p) => place_number(buf, at, b"loose at %\n", p),
@@ -113,8 +115,8 @@ fn place_class(buf: &mut [u8], at: usize, c: Class) -> usize
 }
 
 pub fn place_classified(buf: &mut [u8], at: usize, a: Classified) -> usize
-    requires { at + deskRoom ≤ length buf.old }
-    ensures { LinePrinted buf.old at (classText a) result buf.new }
+    requires { at + desk_room ≤ length buf.old }
+    ensures { LinePrinted buf.old at (class_text a) result buf.new }
 {
     match a {
         Classified::Is(c) => place_class(buf, at, c),
@@ -123,9 +125,9 @@ pub fn place_classified(buf: &mut [u8], at: usize, a: Classified) -> usize
 }
 
 pub fn place_homed(buf: &mut [u8], at: usize, a: Homed, ring: &[u8]) -> usize
-    requires ring_len_bound { length ring.now ≤ longestRing }
-    requires desk_room_in_bounds { at + deskRoom ≤ length buf.old }
-    ensures { LinePrinted buf.old at (homeText a ring.now) result buf.new }
+    requires ring_len_bound { length ring.now ≤ longest_ring }
+    requires desk_room_in_bounds { at + desk_room ≤ length buf.old }
+    ensures { LinePrinted buf.old at (home_text a ring.now) result buf.new }
 {
     match a {
         Homed::Home { shift, period } => place_line(
@@ -141,8 +143,8 @@ pub fn place_homed(buf: &mut [u8], at: usize, a: Homed, ring: &[u8]) -> usize
 }
 
 pub fn place_told(buf: &mut [u8], at: usize, a: Told) -> usize
-    requires { at + deskRoom ≤ length buf.old }
-    ensures { LinePrinted buf.old at (toldText a) result buf.new }
+    requires { at + desk_room ≤ length buf.old }
+    ensures { LinePrinted buf.old at (told_text a) result buf.new }
 {
     match a {
         Told::Yes => place_words(buf, at, b"yes\n"),
@@ -152,8 +154,8 @@ pub fn place_told(buf: &mut [u8], at: usize, a: Told) -> usize
 }
 
 pub fn place_distance(buf: &mut [u8], at: usize, a: Distance) -> usize
-    requires { at + deskRoom ≤ length buf.old }
-    ensures { LinePrinted buf.old at (distanceText a) result buf.new }
+    requires { at + desk_room ≤ length buf.old }
+    ensures { LinePrinted buf.old at (distance_text a) result buf.new }
 {
     match a {
         Distance::Apart(x) => place_number(buf, at, b"apart %\n", x),
@@ -162,8 +164,8 @@ pub fn place_distance(buf: &mut [u8], at: usize, a: Distance) -> usize
 }
 
 pub fn place_position(buf: &mut [u8], at: usize, a: Position) -> usize
-    requires { at + deskRoom ≤ length buf.old }
-    ensures { LinePrinted buf.old at (placeText a) result buf.new }
+    requires { at + desk_room ≤ length buf.old }
+    ensures { LinePrinted buf.old at (place_text a) result buf.new }
 {
     match a {
         Position::Place(p) => place_number(buf, at, b"place %\n", p),
@@ -173,8 +175,8 @@ pub fn place_position(buf: &mut [u8], at: usize, a: Position) -> usize
 
 // How many rings there are, and those that look different at each turn.
 pub fn place_many(buf: &mut [u8], at: usize, a: Counted, b: Counted) -> usize
-    requires { at + deskRoom ≤ length buf.old }
-    ensures { LinePrinted buf.old at (manyText a b) result buf.new }
+    requires { at + desk_room ≤ length buf.old }
+    ensures { LinePrinted buf.old at (many_text a b) result buf.new }
 {
     match a {
         Counted::Refused(r) => place_refusal(buf, at, r),
@@ -186,8 +188,8 @@ pub fn place_many(buf: &mut [u8], at: usize, a: Counted, b: Counted) -> usize
 }
 
 pub fn place_stock(buf: &mut [u8], at: usize, b: u8) -> usize
-    requires { at + deskRoom ≤ length buf.old }
-    ensures { LinePrinted buf.old at (stockText b) result buf.new }
+    requires { at + desk_room ≤ length buf.old }
+    ensures { LinePrinted buf.old at (stock_text b) result buf.new }
 {
     place_number(buf, at, b"%\n", b as usize)
 }

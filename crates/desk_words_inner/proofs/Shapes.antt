@@ -6,7 +6,7 @@
 --     take-blank, rest-long, ask-room what is lent for a reading, and for an output
 use Rattle.words.proofs.Plain.{ℕ, zero, suc, ◌+◌, ◌-◌, ◌<◌, ◌≤◌, arith, ◌≡◌, refl, sym, ap, ◌∙◌, List, [], ◌∷◌, map, length, take, drop, length-replicate}
 use Rattle.words.proofs.Plain.{length-drop, take_all}
-use Rattle.text_spec.specs.{Decimal.decimal, Text.hexOf}
+use Rattle.text_spec.specs.{Decimal.decimal, Text.hex_of}
 use Rattle.stream_spec.specs.Blocks.{Puts}
 use Rattle.text_words_spec.specs.Words.{pieces, PieceAt, Spelt}
 use Rattle.text_words_spec.proofs.Pieces.{pieces_more, pieces-single, more-two, more-first, more-rest}
@@ -14,7 +14,7 @@ use Rattle.text_words_spec.proofs.Spelling.{spelt-plain}
 use Rattle.line_spec.specs.{declared.Parsed.TheVariants.Pair, declared.Parsed.TheVariants.Line, Line.FieldsSays}
 use Rattle.desk_spec.specs.Questions.{ReadsReading, ReadsPair, ReadsNumbers, Replies}
 use Rattle.desk_spec.specs.{declared.Both.Both, Answers.BothSays, Answers.blank}
-use Rattle.desk_texts_inner.specs.Says.{deskRoom}
+use Rattle.desk_texts_inner.specs.Says.{desk_room}
 use Rattle.desk_texts_inner.proofs.Putting.{put_as}
 use Rattle.desk_words_inner.specs.declared.Head.TheVariants.{Number, Malformed}
 use Rattle.desk_words_inner.specs.Says.{ReadsBoth, SpeltBoth, BothAsked, HeadSays}
@@ -25,27 +25,27 @@ pub rest_all : (t : List ℕ) (at : ℕ) → take (length t - at) (drop at t) �
 rest_all t at = take_all (length t - at) (drop at t) (simp length-drop (omega arith))
 
 -- a spelt reading is its one word
-one_word : (t w : List ℕ) → Spelt t w → pieces 32 t ≡ map hexOf w ∷ []
+one_word : (t w : List ℕ) → Spelt t w → pieces 32 t ≡ map hex_of w ∷ []
 one_word t w s = spelt-plain 32 t w (omega arith) s ∙ ap (λ (x : List ℕ). x ∷ []) s.digits
 
 module _ (t : List ℕ) where
   pub no-reading : HeadSays t Malformed → (q : ℕ × List ℕ) → ReadsReading t q → ⊥
-  no-reading h q x = h q.0 (map hexOf q.1) [] x.short x.words
+  no-reading h q x = h q.0 (map hex_of q.1) [] x.short x.words
 
   pub no-pair : HeadSays t Malformed → (q : ℕ × List ℕ × List ℕ) → ReadsPair t q → ⊥
-  no-pair h q x = h q.0 (map hexOf q.1) (map hexOf q.2 ∷ []) x.short x.words
+  no-pair h q x = h q.0 (map hex_of q.1) (map hex_of q.2 ∷ []) x.short x.words
 
   module _ (k at : ℕ) (h : HeadSays t (Number k at)) where
     -- one reading
     pub put-reading : (Says : ℕ → List ℕ → List ℕ → Type 0) (b : List ℕ) (p r : ℕ) (b' : List ℕ) →
-        Puts (Replies (Spelt (take (length t - at) (drop at t))) (Says k)) deskRoom b p r b' → Puts (Replies (ReadsReading t) (λ q. Says q.0 q.1)) deskRoom b p r b'
+        Puts (Replies (Spelt (take (length t - at) (drop at t))) (Says k)) desk_room b p r b' → Puts (Replies (ReadsReading t) (λ q. Says q.0 q.1)) desk_room b p r b'
     put-reading Says b p r b' x = put_as _ _ _ _ on back b p r b' (rw (rest_all t at) at x)
       where
         on : (w : List ℕ) → Spelt (drop at t) w → (q : ℕ × List ℕ) × ReadsReading t q × ((u : List ℕ) → Says k w u → Says q.0 q.1 u)
         on w s = ((k, w), record { short = h.0; sectors = s.below; words = h.2 ∙ ap (λ (x : List (List ℕ)). decimal k ∷ x) (one_word (drop at t) w s) }, λ u y. y)
 
         back : (q : ℕ × List ℕ) → ReadsReading t q → (w : List ℕ) × Spelt (drop at t) w
-        back q y = (q.1, record { digits = pieces-single 32 (drop at t) _ (rest-words t k at h q.0 (map hexOf q.1 ∷ []) y.words); below = y.sectors })
+        back q y = (q.1, record { digits = pieces-single 32 (drop at t) _ (rest-words t k at h q.0 (map hex_of q.1 ∷ []) y.words); below = y.sectors })
 
 -- ---- two numbers
 
@@ -86,7 +86,7 @@ module _ (v : Both) (k : ℕ) (t : List ℕ) where
 
   -- two words
   pub put_both : (e : ℕ) → PieceAt 32 t e → e < length t → (b : List ℕ) (p r : ℕ) (b' : List ℕ) →
-      Puts (BothAsked v k (take e t) (take (length t - (e + 1)) (drop (e + 1) t))) deskRoom b p r b' → Puts (Replies (ReadsBoth t) (SpeltBoth v k)) deskRoom b p r b'
+      Puts (BothAsked v k (take e t) (take (length t - (e + 1)) (drop (e + 1) t))) desk_room b p r b' → Puts (Replies (ReadsBoth t) (SpeltBoth v k)) desk_room b p r b'
   put_both e p h b at r b' x = put_as _ _ _ _ on back b at r b' (rw (rest_all t (e + 1)) at x)
     where
       on : (q : List ℕ × List ℕ) → Spelt (take e t) q.0 × Spelt (drop (e + 1) t) q.1 → (y : List ℕ × List ℕ) × ReadsBoth t y × ((u : List ℕ) → SpeltBoth v k q u → SpeltBoth v k y u)
@@ -96,7 +96,7 @@ module _ (v : Both) (k : ℕ) (t : List ℕ) where
           sectors = s.0.below;
           others = s.1.below;
           words =
-              pieces_more 32 t e p h ∙ ap (λ (x : List ℕ). x ∷ pieces 32 (drop (e + 1) t)) s.0.digits ∙ ap (λ (x : List (List ℕ)). map hexOf q.0 ∷ x) (one_word (drop (e + 1) t) q.1 s.1);
+              pieces_more 32 t e p h ∙ ap (λ (x : List ℕ). x ∷ pieces 32 (drop (e + 1) t)) s.0.digits ∙ ap (λ (x : List (List ℕ)). map hex_of q.0 ∷ x) (one_word (drop (e + 1) t) q.1 s.1);
         },
         λ u y. y,
       )
@@ -112,7 +112,7 @@ module _ (v : Both) (k : ℕ) (t : List ℕ) where
 
   -- and a number in front of them
   pub put-pair : (j at : ℕ) → HeadSays t (Number j at) → (b : List ℕ) (p r : ℕ) (b' : List ℕ) →
-      Puts (Replies (ReadsBoth (take (length t - at) (drop at t))) (SpeltBoth v j)) deskRoom b p r b' → Puts (Replies (ReadsPair t) (λ q. BothSays v q.0 q.1 q.2)) deskRoom b p r b'
+      Puts (Replies (ReadsBoth (take (length t - at) (drop at t))) (SpeltBoth v j)) desk_room b p r b' → Puts (Replies (ReadsPair t) (λ q. BothSays v q.0 q.1 q.2)) desk_room b p r b'
   put-pair j at h b p r b' x = put_as _ _ _ _ on back b p r b' (rw (rest_all t at) at x)
     where
       on : (q : List ℕ × List ℕ) → ReadsBoth (drop at t) q → (y : ℕ × List ℕ × List ℕ) × ReadsPair t y × ((u : List ℕ) → SpeltBoth v j q u → BothSays v y.0 y.1 y.2 u)

@@ -6,7 +6,7 @@
 use Rattle.std.specs.Prelude.{ℕ, ◌<◌, ◌≤◌, ◌≡◌, List, [], ◌∷◌, map, length, drop}
 use Rattle.text_spec.specs.Ascii.{space}
 use Rattle.text_spec.specs.Decimal.{decimal}
-use Rattle.text_spec.specs.Text.{hexOf}
+use Rattle.text_spec.specs.Text.{hex_of}
 use Rattle.text_words_spec.specs.Words.{pieces, Nibbles, Spelt}
 use Rattle.desk_spec.specs.declared.Both.{Both}
 use Rattle.desk_spec.specs.Questions.{ThreeDigits, Replies}
@@ -25,7 +25,7 @@ HeadSays t r = HeadAtSays space t r
 pub record ReadsBoth (t : List ℕ) (q : List ℕ × List ℕ) : Type 0 where
   pub sectors : Nibbles q.0
   pub others : Nibbles q.1
-  pub words : pieces space t ≡ map hexOf q.0 ∷ map hexOf q.1 ∷ []
+  pub words : pieces space t ≡ map hex_of q.0 ∷ map hex_of q.1 ∷ []
 
 abbrev pub SpeltBoth : Both → ℕ → List ℕ × List ℕ → List ℕ → Type 0
 SpeltBoth v k q text = BothSays v k q.0 q.1 text

@@ -1,5 +1,7 @@
 // The first of some words or pieces, a number, and where the text goes on. No public calls.
 
+#![tactic(auto)]
+
 ghost use Rattle.desk_words_inner.specs.Says.{HeadAtSays, HeadSays};
 
 use line_spec::Numeral;

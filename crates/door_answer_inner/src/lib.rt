@@ -1,7 +1,9 @@
 // Answers of one number, and refusals, as the structs that C knows. No public calls.
 
+#![tactic(auto)]
+
 ghost use Rattle.std.specs.Prelude.{◌≡◌};
-ghost use Rattle.door_spec.specs.Flat.{answered, refusedBy};
+ghost use Rattle.door_spec.specs.Flat.{answered, refused_by};
 
 use door_spec::RingsAnswer;
 use refusal::Refusal;
@@ -17,7 +19,7 @@ pub fn value(x: usize) -> RingsAnswer
 }
 
 pub fn refused(r: Refusal) -> RingsAnswer
-    ensures { result ≡ refusedBy r }
+    ensures { result ≡ refused_by r }
 {
     RingsAnswer {
         refused: refusal::number(r),

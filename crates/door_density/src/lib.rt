@@ -1,15 +1,17 @@
 // The calls by reflectances, exported under plain C names (`include/rings.h`): each promises the form in numbers of an answer that the call promises (`Flat` of `door_spec`).
 
+#![tactic(auto)]
+
 ghost use Rattle.std.specs.Prelude.{◌≡◌};
 ghost use Rattle.density_spec.specs.Says.{SectorSays, RingSays};
-ghost use Rattle.door_spec.specs.Flat.{Flat, cardOf, flatSector, flatSectorRead, flatRingRead};
+ghost use Rattle.door_spec.specs.Flat.{Flat, card_of, flat_sector, flat_sector_read, flat_ring_read};
 
 use density_spec::{Card, RingRead, Sector, SectorRead};
 use door_spec::{RingsAnswer, RingsSector};
 use refusal::Refusal;
 
 fn flat_sector(s: Sector) -> RingsSector
-    ensures { result ≡ flatSector s }
+    ensures { result ≡ flat_sector s }
 {
     match s {
         Sector::Shade(x) => RingsSector {
@@ -37,7 +39,7 @@ fn flat_sector(s: Sector) -> RingsSector
 }
 
 fn flat_sector_read(a: SectorRead) -> RingsSector
-    ensures { result ≡ flatSectorRead a }
+    ensures { result ≡ flat_sector_read a }
 {
     match a {
         SectorRead::Is(s) => flat_sector(s),
@@ -58,14 +60,14 @@ pub extern "C" fn rings_sector_shade(
     dark: f32,
     light: f32,
 ) -> RingsSector
-    ensures { Flat (SectorSays reflectance k (cardOf dark light)) flatSectorRead result }
+    ensures { Flat (SectorSays reflectance k (card_of dark light)) flat_sector_read result }
 {
     let card = Card { dark, light };
     flat_sector_read(density::sector_shade(reflectance, k, card))
 }
 
 fn flat_ring_read(a: RingRead) -> RingsAnswer
-    ensures { result ≡ flatRingRead a }
+    ensures { result ≡ flat_ring_read a }
 {
     match a {
         RingRead::Written => door_answer_inner::value(1),
@@ -81,7 +83,7 @@ pub extern "C" fn rings_ring_shades(
     light: f32,
     out: &mut [u8],
 ) -> RingsAnswer
-    ensures { Flat (λ a. RingSays reflectances.now k (cardOf dark light) out.old a out.new) flatRingRead result }
+    ensures { Flat (λ a. RingSays reflectances.now k (card_of dark light) out.old a out.new) flat_ring_read result }
 {
     let card = Card { dark, light };
     flat_ring_read(density::ring_shades(reflectances, k, card, out))

@@ -1,12 +1,14 @@
 // The calls on readings, exported under plain C names (`include/rings.h`): each promises the form in numbers of an answer that the call promises (`Flat` of `door_spec`).
 
+#![tactic(auto)]
+
 ghost use Rattle.std.specs.Prelude.{◌≡◌};
-ghost use Rattle.rings.specs.Alike.{evenHanded, sameRing};
-ghost use Rattle.refusal.specs.Calls.{oneReading, twoReadings};
+ghost use Rattle.rings.specs.Alike.{even_handed, same_ring};
+ghost use Rattle.refusal.specs.Calls.{one_reading, two_readings};
 ghost use Rattle.classify_spec.specs.Says.{ClassifySays};
 ghost use Rattle.home_spec.specs.Says.{HomeSays, ToldSays, DistanceSays, ClosestSays};
-ghost use Rattle.stock_spec.specs.Stock.{homeByte};
-ghost use Rattle.door_spec.specs.Flat.{Flat, classNumber, classValue, flatClassified, flatHomed, flatTold, flatDistance, flatClosest};
+ghost use Rattle.stock_spec.specs.Stock.{home_byte};
+ghost use Rattle.door_spec.specs.Flat.{Flat, class_number, class_value, flat_classified, flat_homed, flat_told, flat_distance, flat_closest};
 
 use classify_spec::Classified;
 use door_spec::{RingsAnswer, RingsClass, RingsHome, RingsNearest};
@@ -17,7 +19,7 @@ use rings::Class;
 // ---- classes
 
 fn class_number(c: Class) -> usize
-    ensures { result ≡ classNumber c }
+    ensures { result ≡ class_number c }
 {
     match c {
         Class::Loose(_) => 1,
@@ -28,7 +30,7 @@ fn class_number(c: Class) -> usize
 }
 
 fn class_value(c: Class) -> usize
-    ensures { result ≡ classValue c }
+    ensures { result ≡ class_value c }
 {
     match c {
         Class::Loose(p) => p,
@@ -39,7 +41,7 @@ fn class_value(c: Class) -> usize
 }
 
 fn flat_classified(a: Classified) -> RingsClass
-    ensures { result ≡ flatClassified a }
+    ensures { result ≡ flat_classified a }
 {
     match a {
         Classified::Is(c) => RingsClass {
@@ -59,7 +61,7 @@ fn flat_classified(a: Classified) -> RingsClass
 
 #[unsafe(no_mangle)]
 pub extern "C" fn rings_classify(reading: &[u8], k: usize) -> RingsClass
-    ensures { Flat (ClassifySays reading.now k) flatClassified result }
+    ensures { Flat (ClassifySays reading.now k) flat_classified result }
 {
     flat_classified(classify::classify(reading, k))
 }
@@ -67,7 +69,7 @@ pub extern "C" fn rings_classify(reading: &[u8], k: usize) -> RingsClass
 // ---- home
 
 fn flat_homed(a: Homed) -> RingsHome
-    ensures { result ≡ flatHomed a }
+    ensures { result ≡ flat_homed a }
 {
     match a {
         Homed::Home { shift, period } => RingsHome {
@@ -87,14 +89,14 @@ fn flat_homed(a: Homed) -> RingsHome
 
 #[unsafe(no_mangle)]
 pub extern "C" fn rings_home(reading: &[u8], k: usize, out: &mut [u8]) -> RingsHome
-    ensures { Flat (λ a. HomeSays reading.now k out.old a out.new) flatHomed result }
+    ensures { Flat (λ a. HomeSays reading.now k out.old a out.new) flat_homed result }
 {
     flat_homed(home::bring_home(reading, k, out))
 }
 
 #[unsafe(no_mangle)]
 pub extern "C" fn rings_stock_home(target: u8) -> u8
-    ensures { result ≡ homeByte target }
+    ensures { result ≡ home_byte target }
 {
     stock::stock_home(target)
 }
@@ -102,7 +104,7 @@ pub extern "C" fn rings_stock_home(target: u8) -> u8
 // ---- comparing
 
 fn flat_told(a: Told) -> RingsAnswer
-    ensures { result ≡ flatTold a }
+    ensures { result ≡ flat_told a }
 {
     match a {
         Told::Yes => door_answer_inner::value(1),
@@ -113,20 +115,20 @@ fn flat_told(a: Told) -> RingsAnswer
 
 #[unsafe(no_mangle)]
 pub extern "C" fn rings_same(a: &[u8], b: &[u8], k: usize) -> RingsAnswer
-    ensures { Flat (ToldSays (twoReadings a.now b.now k) (sameRing a.now b.now)) flatTold result }
+    ensures { Flat (ToldSays (two_readings a.now b.now k) (same_ring a.now b.now)) flat_told result }
 {
     flat_told(home::same_ring(a, b, k))
 }
 
 #[unsafe(no_mangle)]
 pub extern "C" fn rings_even_handed(reading: &[u8], k: usize) -> RingsAnswer
-    ensures { Flat (ToldSays (oneReading reading.now k) (evenHanded reading.now)) flatTold result }
+    ensures { Flat (ToldSays (one_reading reading.now k) (even_handed reading.now)) flat_told result }
 {
     flat_told(home::even_handed(reading, k))
 }
 
 fn flat_distance(a: Distance) -> RingsAnswer
-    ensures { result ≡ flatDistance a }
+    ensures { result ≡ flat_distance a }
 {
     match a {
         Distance::Apart(x) => door_answer_inner::value(x),
@@ -136,13 +138,13 @@ fn flat_distance(a: Distance) -> RingsAnswer
 
 #[unsafe(no_mangle)]
 pub extern "C" fn rings_apart(a: &[u8], b: &[u8], k: usize) -> RingsAnswer
-    ensures { Flat (DistanceSays a.now b.now k) flatDistance result }
+    ensures { Flat (DistanceSays a.now b.now k) flat_distance result }
 {
     flat_distance(home::apart(a, b, k))
 }
 
 fn flat_closest(a: Closest) -> RingsNearest
-    ensures { result ≡ flatClosest a }
+    ensures { result ≡ flat_closest a }
 {
     match a {
         Closest::At { distance, shift } => RingsNearest {
@@ -162,7 +164,7 @@ fn flat_closest(a: Closest) -> RingsNearest
 
 #[unsafe(no_mangle)]
 pub extern "C" fn rings_nearest(a: &[u8], b: &[u8], k: usize) -> RingsNearest
-    ensures { Flat (ClosestSays a.now b.now k) flatClosest result }
+    ensures { Flat (ClosestSays a.now b.now k) flat_closest result }
 {
     flat_closest(home::nearest(a, b, k))
 }

@@ -1,11 +1,13 @@
 // The calls on catalogues, exported under plain C names (`include/rings.h`): each promises the form in numbers of an answer that the call promises (`Flat` of `door_spec`).
 
+#![tactic(auto)]
+
 ghost use Rattle.std.specs.Prelude.{◌≡◌};
 ghost use Rattle.record_spec.specs.declared.Kind.TheVariants.{Front, Packed};
 ghost use Rattle.record_spec.specs.Says.{ReadSays};
 ghost use Rattle.record_spec.specs.Writes.{WriteSays};
 ghost use Rattle.converter_spec.specs.Converts.{ConvertSays};
-ghost use Rattle.door_spec.specs.Flat.{Flat, kindNumber, flatEntry, flatWritten, flatConversion};
+ghost use Rattle.door_spec.specs.Flat.{Flat, kind_number, flat_entry, flat_written, flat_conversion};
 
 use converter_spec::Conversion;
 use door_spec::{RingsAnswer, RingsRecord};
@@ -15,7 +17,7 @@ use refusal::Refusal;
 // ---- reading
 
 fn kind_number(x: Kind) -> usize
-    ensures { result ≡ kindNumber x }
+    ensures { result ≡ kind_number x }
 {
     match x {
         Kind::Front => 1,
@@ -24,7 +26,7 @@ fn kind_number(x: Kind) -> usize
 }
 
 fn flat_entry(a: Entry) -> RingsRecord
-    ensures { result ≡ flatEntry a }
+    ensures { result ≡ flat_entry a }
 {
     match a {
         Entry::Record { n, k, kind, next } => RingsRecord {
@@ -56,7 +58,7 @@ fn flat_entry(a: Entry) -> RingsRecord
 
 #[unsafe(no_mangle)]
 pub extern "C" fn rings_read_record(catalogue: &[u8], start: usize, out: &mut [u8]) -> RingsRecord
-    ensures { Flat (λ a. ReadSays catalogue.now start out.old a out.new) flatEntry result }
+    ensures { Flat (λ a. ReadSays catalogue.now start out.old a out.new) flat_entry result }
 {
     flat_entry(catalogue::read_record(catalogue, start, out))
 }
@@ -64,7 +66,7 @@ pub extern "C" fn rings_read_record(catalogue: &[u8], start: usize, out: &mut [u
 // ---- writing
 
 fn flat_written(a: Written) -> RingsAnswer
-    ensures { result ≡ flatWritten a }
+    ensures { result ≡ flat_written a }
 {
     match a {
         Written::After(x) => door_answer_inner::value(x),
@@ -79,7 +81,7 @@ pub extern "C" fn rings_write_front(
     buffer: &mut [u8],
     at: usize,
 ) -> RingsAnswer
-    ensures { Flat (λ a. WriteSays reading.now k Front buffer.old at a buffer.new) flatWritten result }
+    ensures { Flat (λ a. WriteSays reading.now k Front buffer.old at a buffer.new) flat_written result }
 {
     flat_written(writer::write_record(reading, k, Kind::Front, buffer, at))
 }
@@ -91,7 +93,7 @@ pub extern "C" fn rings_write_packed(
     buffer: &mut [u8],
     at: usize,
 ) -> RingsAnswer
-    ensures { Flat (λ a. WriteSays reading.now k Packed buffer.old at a buffer.new) flatWritten result }
+    ensures { Flat (λ a. WriteSays reading.now k Packed buffer.old at a buffer.new) flat_written result }
 {
     flat_written(writer::write_record(reading, k, Kind::Packed, buffer, at))
 }
@@ -99,7 +101,7 @@ pub extern "C" fn rings_write_packed(
 // ---- converting
 
 fn flat_conversion(a: Conversion) -> RingsAnswer
-    ensures { result ≡ flatConversion a }
+    ensures { result ≡ flat_conversion a }
 {
     match a {
         Conversion::Converted => door_answer_inner::value(1),
@@ -109,7 +111,7 @@ fn flat_conversion(a: Conversion) -> RingsAnswer
 
 #[unsafe(no_mangle)]
 pub extern "C" fn rings_convert(old: &[u8], out: &mut [u8]) -> RingsAnswer
-    ensures { Flat (λ a. ConvertSays old.now out.old a out.new) flatConversion result }
+    ensures { Flat (λ a. ConvertSays old.now out.old a out.new) flat_conversion result }
 {
     flat_conversion(converter::convert(old, out))
 }

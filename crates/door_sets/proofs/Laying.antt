@@ -5,7 +5,7 @@
 use Rattle.words.proofs.Plain.{ℕ, ◌≡◌, refl, sym, ◌∙◌, inl, inr, Bool, List, ◌++◌, length, take, drop}
 use Rattle.word_copy_laws.proofs.Copy.{copied}
 use Rattle.refusal.specs.{declared.Refusal.Refusal, declared.Refusal.TheVariants.Room, Order.Given}
-use Rattle.set_pick_spec.specs.{Order.setOrder, Says.SetChosen}
+use Rattle.set_pick_spec.specs.{Order.set_order, Says.SetChosen}
 use Rattle.door_spec.specs.{declared.SetLaid.TheVariants.Set, declared.SetLaid.TheVariants.Refused, Sets.LaidSays}
 
 -- the output has another length
@@ -18,5 +18,5 @@ module _ (n k d want : ℕ) (ts : List (List ℕ)) (o : List ℕ) (room : length
   laid-set places c t f long chosen e =
       (room, record { asked = chosen.asked; places = copied places o c e (room ∙ sym long) ∙ chosen.places; number = chosen.number; full = chosen.full })
 
-  pub laid-refused : (r : Refusal) → Given (setOrder n k d want) r → LaidSays n k d want ts o (Refused r) o
+  pub laid-refused : (r : Refusal) → Given (set_order n k d want) r → LaidSays n k d want ts o (Refused r) o
   laid-refused r g = (inr (room, g), refl)

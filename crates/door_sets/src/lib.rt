@@ -1,9 +1,11 @@
 // Target sets, exported under plain C names (`include/rings.h`): each call promises the form in numbers of an answer that is promised (`Flat` of `door_spec`).
 
+#![tactic(auto)]
+
 ghost use Rattle.std.specs.Prelude.{◌≡◌, length};
 ghost use Rattle.set_spec.specs.Greedy.{picked};
-ghost use Rattle.guard_spec.specs.Choice.{guarded, chosenBy};
-ghost use Rattle.door_spec.specs.Flat.{Flat, fullNumber, flatLaid};
+ghost use Rattle.guard_spec.specs.Choice.{guarded, chosen_by};
+ghost use Rattle.door_spec.specs.Flat.{Flat, full_number, flat_laid};
 ghost use Rattle.door_spec.specs.Sets.{LaidSays, Lays};
 
 use door_spec::{RingsSet, SetLaid};
@@ -15,7 +17,7 @@ use set_pick_spec::Picked;
 const PLACES: usize = 768;
 
 fn full_number(f: bool) -> usize
-    ensures { result ≡ fullNumber f }
+    ensures { result ≡ full_number f }
 {
     if f {
         return 1;
@@ -24,7 +26,7 @@ fn full_number(f: bool) -> usize
 }
 
 fn flat_laid(a: SetLaid) -> RingsSet
-    ensures { result ≡ flatLaid a }
+    ensures { result ≡ flat_laid a }
 {
     match a {
         SetLaid::Set { taken, full } => RingsSet {
@@ -63,7 +65,7 @@ fn lay(set: Picked, out: &mut [u8]) -> SetLaid
 
 // The set of a rule, laid into the output.
 fn lay_by(rule: Rule, n: usize, k: usize, d: usize, wanted: usize, out: &mut [u8]) -> SetLaid
-    ensures { LaidSays n k d wanted (chosenBy rule n k d wanted) out.old result out.new }
+    ensures { LaidSays n k d wanted (chosen_by rule n k d wanted) out.old result out.new }
 {
     if out.len() != PLACES {
         return SetLaid::Refused(Refusal::Room);
@@ -81,7 +83,7 @@ pub extern "C" fn rings_pick(
     wanted: usize,
     out: &mut [u8],
 ) -> RingsSet
-    ensures { Flat (λ a. LaidSays n k d wanted (picked n k d wanted) out.old a out.new) flatLaid result }
+    ensures { Flat (λ a. LaidSays n k d wanted (picked n k d wanted) out.old a out.new) flat_laid result }
 {
     flat_laid(lay_by(Rule::Plain, n, k, d, wanted, out))
 }
@@ -96,7 +98,7 @@ pub extern "C" fn rings_pick_guarded(
     wanted: usize,
     out: &mut [u8],
 ) -> RingsSet
-    ensures { Flat (λ a. LaidSays n k d wanted (guarded n k d wanted) out.old a out.new) flatLaid result }
+    ensures { Flat (λ a. LaidSays n k d wanted (guarded n k d wanted) out.old a out.new) flat_laid result }
 {
     flat_laid(lay_by(Rule::Guarded, n, k, d, wanted, out))
 }

@@ -1,8 +1,10 @@
 // Which ring of a set is seen, exported under a plain C name (`include/rings.h`): it promises the form in numbers of an answer that the call promises (`Flat` of `door_spec`).
 
+#![tactic(auto)]
+
 ghost use Rattle.std.specs.Prelude.{◌≡◌};
 ghost use Rattle.sight_spec.specs.Says.{SightSays};
-ghost use Rattle.door_spec.specs.Flat.{Flat, sighted, flatSighting};
+ghost use Rattle.door_spec.specs.Flat.{Flat, sighted, flat_sighting};
 
 use door_spec::RingsSighting;
 use refusal::Refusal;
@@ -22,7 +24,7 @@ fn flat_one(kind: usize, target: usize, shift: usize, misread: usize) -> RingsSi
 }
 
 fn flat_sighting(a: Sighting) -> RingsSighting
-    ensures { result ≡ flatSighting a }
+    ensures { result ≡ flat_sighting a }
 {
     match a {
         Sighting::Front {
@@ -50,7 +52,7 @@ fn flat_sighting(a: Sighting) -> RingsSighting
 
 #[unsafe(no_mangle)]
 pub extern "C" fn rings_sight(rings: &[u8], reading: &[u8], k: usize, most: usize) -> RingsSighting
-    ensures { Flat (SightSays rings.now reading.now k most) flatSighting result }
+    ensures { Flat (SightSays rings.now reading.now k most) flat_sighting result }
 {
     flat_sighting(sight::sight(rings, reading, k, most))
 }

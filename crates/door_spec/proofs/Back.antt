@@ -1,6 +1,6 @@
 -- Nothing of an answer is lost in its numbers: from them the answer is read back.
---     refusalOf x p          the refusal of a number and a place; `refusal-back`: that of a refusal's own is itself
---     good, goodClass, ..    the answer of a form that is no refusal
+--     refusal_of x p          the refusal of a number and a place; `refusal-back`: that of a refusal's own is itself
+--     good, good_class, ..    the answer of a form that is no refusal
 --     back                   an answer of numbers read back: its refusal, or what it answers
 --     NAME-back              read back, the form of an answer is that answer
 use Rattle.words.proofs.Plain.{ℕ, ◌≡◌, refl, Bool, true, false, List, [], ◌∷◌, eqb, get_or}
@@ -46,19 +46,19 @@ use Rattle.door_spec.specs.{declared.RingsSighting.RingsSighting, declared.Rings
 use Rattle.door_spec.specs.{declared.RingsRecord.RingsRecord, declared.RingsSector.RingsSector, declared.RingsSet.RingsSet}
 use Rattle.door_spec.specs.declared.SetLaid.{SetLaid}
 use Rattle.door_spec.specs.declared.SetLaid.TheVariants as G
-use Rattle.door_spec.specs.Flat.{flatTold, flatDistance, flatArrival, flatFirst, flatNext, flatWritten, flatConversion, flatRingRead, flatStrip, flatPosition, flatCounted}
-use Rattle.door_spec.specs.Flat.{classNumber, classValue, flatClassified, flatHomed, flatClosest, flatSighting, flatOutcome, flatEntry, flatSectorRead, flatLaid}
+use Rattle.door_spec.specs.Flat.{flat_told, flat_distance, flat_arrival, flat_first, flat_next, flat_written, flat_conversion, flat_ring_read, flat_strip, flat_position, flat_counted}
+use Rattle.door_spec.specs.Flat.{class_number, class_value, flat_classified, flat_homed, flat_closest, flat_sighting, flat_outcome, flat_entry, flat_sector_read, flat_laid}
 
 -- ---- refusals
 
 -- by their numbers, from 1 on; nothing is refused by 0
-abbrev pub refusalOf : ℕ → ℕ → Refusal
-refusalOf x p =
+abbrev pub refusal_of : ℕ → ℕ → Refusal
+refusal_of x p =
     get_or (Line ∷ Length p ∷ Shades p ∷ Sector p ∷ Room ∷ OffWalk p ∷ Counts ∷ Cut p ∷ Mark p ∷ NotHome p ∷ Pair ∷ Line ∷ TooMany ∷ Set ∷ Card ∷ Unreadable p ∷ Retired p ∷ Padding p ∷ []) x Line
 
 -- an answer of numbers read back: a refusal where its first number is not 0, else what is answered
 abbrev pub back : {A : Type 0} → (Refusal → A) → A → ℕ → ℕ → A
-back bad good x p = elim (eqb x 0) [ true ↦ good | false ↦ bad (refusalOf x p) ]
+back bad good x p = elim (eqb x 0) [ true ↦ good | false ↦ bad (refusal_of x p) ]
 
 pub refusal-back : {A : Type 0} (bad : Refusal → A) (good : A) (r : Refusal) → back bad good (number_of r) (place_of r) ≡ bad r
 refusal-back bad good (Length p) = refl
@@ -85,87 +85,87 @@ refusal-back bad good (Padding p) = refl
 abbrev pub either : {A : Type 0} → A → A → ℕ → A
 either a b x = elim (eqb x 0) [ true ↦ a | false ↦ b ]
 
-pub told_back : (a : Told) → back T.Refused (either T.No T.Yes (flatTold a).value) (flatTold a).refused (flatTold a).place ≡ a
+pub told_back : (a : Told) → back T.Refused (either T.No T.Yes (flat_told a).value) (flat_told a).refused (flat_told a).place ≡ a
 told_back T.Yes = refl
 told_back T.No = refl
 told_back (T.Refused r) = refusal-back T.Refused T.No r
 
-pub distance_back : (a : Distance) → back D.Refused (D.Apart (flatDistance a).value) (flatDistance a).refused (flatDistance a).place ≡ a
+pub distance_back : (a : Distance) → back D.Refused (D.Apart (flat_distance a).value) (flat_distance a).refused (flat_distance a).place ≡ a
 distance_back (D.Apart x) = refl
 distance_back (D.Refused r) = refusal-back D.Refused (D.Apart 0) r
 
-pub arrival-back : (a : Arrival) → back B.Refused (either B.Done B.Moved (flatArrival a).value) (flatArrival a).refused (flatArrival a).place ≡ a
+pub arrival-back : (a : Arrival) → back B.Refused (either B.Done B.Moved (flat_arrival a).value) (flat_arrival a).refused (flat_arrival a).place ≡ a
 arrival-back B.Moved = refl
 arrival-back B.Done = refl
 arrival-back (B.Refused r) = refusal-back B.Refused B.Done r
 
-pub first_back : (a : FirstAnswer) → back F.Refused F.Ring (flatFirst a).refused (flatFirst a).place ≡ a
+pub first_back : (a : FirstAnswer) → back F.Refused F.Ring (flat_first a).refused (flat_first a).place ≡ a
 first_back F.Ring = refl
 first_back (F.Refused r) = refusal-back F.Refused F.Ring r
 
-pub next-back : (a : NextAnswer) → back X.Refused (either X.Done X.Ring (flatNext a).value) (flatNext a).refused (flatNext a).place ≡ a
+pub next-back : (a : NextAnswer) → back X.Refused (either X.Done X.Ring (flat_next a).value) (flat_next a).refused (flat_next a).place ≡ a
 next-back X.Ring = refl
 next-back X.Done = refl
 next-back (X.Refused r) = refusal-back X.Refused X.Done r
 
-pub written_back : (a : Written) → back W.Refused (W.After (flatWritten a).value) (flatWritten a).refused (flatWritten a).place ≡ a
+pub written_back : (a : Written) → back W.Refused (W.After (flat_written a).value) (flat_written a).refused (flat_written a).place ≡ a
 written_back (W.After x) = refl
 written_back (W.Refused r) = refusal-back W.Refused (W.After 0) r
 
-pub conversion-back : (a : Conversion) → back C.Refused C.Converted (flatConversion a).refused (flatConversion a).place ≡ a
+pub conversion-back : (a : Conversion) → back C.Refused C.Converted (flat_conversion a).refused (flat_conversion a).place ≡ a
 conversion-back C.Converted = refl
 conversion-back (C.Refused r) = refusal-back C.Refused C.Converted r
 
-pub ring-read-back : (a : RingRead) → back R.Refused R.Written (flatRingRead a).refused (flatRingRead a).place ≡ a
+pub ring-read-back : (a : RingRead) → back R.Refused R.Written (flat_ring_read a).refused (flat_ring_read a).place ≡ a
 ring-read-back R.Written = refl
 ring-read-back (R.Refused r) = refusal-back R.Refused R.Written r
 
-pub strip-back : (a : StripWritten) → back L.Refused L.Strip (flatStrip a).refused (flatStrip a).place ≡ a
+pub strip-back : (a : StripWritten) → back L.Refused L.Strip (flat_strip a).refused (flat_strip a).place ≡ a
 strip-back L.Strip = refl
 strip-back (L.Refused r) = refusal-back L.Refused L.Strip r
 
-pub position-back : (a : Position) → back P.Refused (P.Place (flatPosition a).value) (flatPosition a).refused (flatPosition a).place ≡ a
+pub position-back : (a : Position) → back P.Refused (P.Place (flat_position a).value) (flat_position a).refused (flat_position a).place ≡ a
 position-back (P.Place x) = refl
 position-back (P.Refused r) = refusal-back P.Refused (P.Place 0) r
 
-pub counted_back : (a : Counted) → back N.Refused (N.Rings (flatCounted a).value) (flatCounted a).refused (flatCounted a).place ≡ a
+pub counted_back : (a : Counted) → back N.Refused (N.Rings (flat_counted a).value) (flat_counted a).refused (flat_counted a).place ≡ a
 counted_back (N.Rings x) = refl
 counted_back (N.Refused r) = refusal-back N.Refused (N.Rings 0) r
 
 -- ---- answers of several numbers
 
-abbrev pub classOfNumbers : ℕ → ℕ → Class
-classOfNumbers x p = get_or (Single ∷ Loose p ∷ Opening p ∷ Repeating p ∷ []) x Single
+abbrev pub class_of_numbers : ℕ → ℕ → Class
+class_of_numbers x p = get_or (Single ∷ Loose p ∷ Opening p ∷ Repeating p ∷ []) x Single
 
-class_back : (c : Class) → classOfNumbers (classNumber c) (classValue c) ≡ c
+class_back : (c : Class) → class_of_numbers (class_number c) (class_value c) ≡ c
 class_back (Loose p) = refl
 class_back (Opening p) = refl
 class_back (Repeating p) = refl
 class_back Single = refl
 
-pub classified-back : (a : Classified) → back K.Refused (K.Is (classOfNumbers (flatClassified a).kind (flatClassified a).value)) (flatClassified a).refused (flatClassified a).place ≡ a
+pub classified-back : (a : Classified) → back K.Refused (K.Is (class_of_numbers (flat_classified a).kind (flat_classified a).value)) (flat_classified a).refused (flat_classified a).place ≡ a
 classified-back (K.Is c) = rw (class_back c) refl
 classified-back (K.Refused r) = refusal-back K.Refused (K.Is Single) r
 
-pub homed-back : (a : Homed) → back H.Refused (H.Home (flatHomed a).shift (flatHomed a).period) (flatHomed a).refused (flatHomed a).place ≡ a
+pub homed-back : (a : Homed) → back H.Refused (H.Home (flat_homed a).shift (flat_homed a).period) (flat_homed a).refused (flat_homed a).place ≡ a
 homed-back (H.Home i p) = refl
 homed-back (H.Refused r) = refusal-back H.Refused (H.Home 0 0) r
 
-pub closest-back : (a : Closest) → back M.Refused (M.At (flatClosest a).distance (flatClosest a).shift) (flatClosest a).refused (flatClosest a).place ≡ a
+pub closest-back : (a : Closest) → back M.Refused (M.At (flat_closest a).distance (flat_closest a).shift) (flat_closest a).refused (flat_closest a).place ≡ a
 closest-back (M.At d i) = refl
 closest-back (M.Refused r) = refusal-back M.Refused (M.At 0 0) r
 
-abbrev pub sightingOf : RingsSighting → Sighting
-sightingOf r = get_or (Y.Unknown ∷ Y.Front r.target r.shift r.misread ∷ Y.Back r.target r.shift r.misread ∷ Y.Several ∷ []) r.kind Y.Unknown
+abbrev pub sighting_of : RingsSighting → Sighting
+sighting_of r = get_or (Y.Unknown ∷ Y.Front r.target r.shift r.misread ∷ Y.Back r.target r.shift r.misread ∷ Y.Several ∷ []) r.kind Y.Unknown
 
-pub sighting-back : (a : Sighting) → back Y.Refused (sightingOf (flatSighting a)) (flatSighting a).refused (flatSighting a).place ≡ a
+pub sighting-back : (a : Sighting) → back Y.Refused (sighting_of (flat_sighting a)) (flat_sighting a).refused (flat_sighting a).place ≡ a
 sighting-back (Y.Front t i x) = refl
 sighting-back (Y.Back t i x) = refl
 sighting-back Y.Several = refl
 sighting-back Y.Unknown = refl
 sighting-back (Y.Refused r) = refusal-back Y.Refused Y.Unknown r
 
-pub outcome-back : (a : Outcome) → back O.Refused (either (O.Done (flatOutcome a).moves) (O.Moved (flatOutcome a).moves) (flatOutcome a).moved) (flatOutcome a).refused (flatOutcome a).place ≡ a
+pub outcome-back : (a : Outcome) → back O.Refused (either (O.Done (flat_outcome a).moves) (O.Moved (flat_outcome a).moves) (flat_outcome a).moved) (flat_outcome a).refused (flat_outcome a).place ≡ a
 outcome-back (O.Moved m) = refl
 outcome-back (O.Done m) = refl
 outcome-back (O.Refused r) = refusal-back O.Refused (O.Done 0) r
@@ -173,22 +173,22 @@ outcome-back (O.Refused r) = refusal-back O.Refused (O.Done 0) r
 abbrev pub entry_of : RingsRecord → Entry
 entry_of r = get_or (E.End ∷ E.Record r.n r.k Front r.next ∷ E.Record r.n r.k Packed r.next ∷ []) r.kind E.End
 
-pub entry-back : (a : Entry) → back E.Refused (entry_of (flatEntry a)) (flatEntry a).refused (flatEntry a).place ≡ a
+pub entry-back : (a : Entry) → back E.Refused (entry_of (flat_entry a)) (flat_entry a).refused (flat_entry a).place ≡ a
 entry-back (E.Record n k Front next) = refl
 entry-back (E.Record n k Packed next) = refl
 entry-back E.End = refl
 entry-back (E.Refused r) = refusal-back E.Refused E.End r
 
-abbrev pub sectorOf : RingsSector → Reflectance
-sectorOf r = get_or (NotANumber ∷ Shade r.shade ∷ Outside r.outside ∷ []) r.kind NotANumber
+abbrev pub sector_of : RingsSector → Reflectance
+sector_of r = get_or (NotANumber ∷ Shade r.shade ∷ Outside r.outside ∷ []) r.kind NotANumber
 
-pub sector-back : (a : SectorRead) → back S.Refused (S.Is (sectorOf (flatSectorRead a))) (flatSectorRead a).refused (flatSectorRead a).place ≡ a
+pub sector-back : (a : SectorRead) → back S.Refused (S.Is (sector_of (flat_sector_read a))) (flat_sector_read a).refused (flat_sector_read a).place ≡ a
 sector-back (S.Is (Shade x)) = refl
 sector-back (S.Is (Outside x)) = refl
 sector-back (S.Is NotANumber) = refl
 sector-back (S.Refused r) = refusal-back S.Refused (S.Is NotANumber) r
 
-pub laid-back : (a : SetLaid) → back G.Refused (G.Set (flatLaid a).taken (either false true (flatLaid a).full)) (flatLaid a).refused (flatLaid a).place ≡ a
+pub laid-back : (a : SetLaid) → back G.Refused (G.Set (flat_laid a).taken (either false true (flat_laid a).full)) (flat_laid a).refused (flat_laid a).place ≡ a
 laid-back (G.Set t true) = refl
 laid-back (G.Set t false) = refl
 laid-back (G.Refused r) = refusal-back G.Refused (G.Set 0 false) r

@@ -1,6 +1,8 @@
 // What the calls for programs in other languages answer: numbers alone, since C knows no enum that carries something. No functions; `include/rings.h` declares the same
 // structs. Each begins with `refused`, the refusal's number or 0, and `place`, its place; behind them stands what the call answers, 0 where it is refused.
 
+#![tactic(auto)]
+
 use refusal::Refusal;
 
 // An answer of one number.

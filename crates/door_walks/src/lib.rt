@@ -1,12 +1,14 @@
 // The steps from a reading and the rings of fixed shade counts, exported under plain C names (`include/rings.h`): each promises the form in numbers of an answer that the
 // call promises (`Flat` of `door_spec`). A walk's record is not handed out: a caller in C keeps the ring alone.
 
+#![tactic(auto)]
+
 ghost use Rattle.std.specs.Prelude.{◌≡◌};
 ghost use Rattle.rings.specs.Necklace.{necklace, lyndon};
 ghost use Rattle.rings.specs.Prenecklace.{prenecklace};
 ghost use Rattle.walk_reading_spec.specs.Says.{StepFromSays, BraceletFromSays};
 ghost use Rattle.shades_spec.specs.Answers.{FirstSays, NextSays};
-ghost use Rattle.door_spec.specs.Flat.{Flat, flatOutcome, flatArrival, flatFirst, flatNext};
+ghost use Rattle.door_spec.specs.Flat.{Flat, flat_outcome, flat_arrival, flat_first, flat_next};
 
 use door_spec::{RingsAnswer, RingsStep};
 use refusal::Refusal;
@@ -17,7 +19,7 @@ use walk_spec::Outcome;
 // ---- steps
 
 fn flat_outcome(a: Outcome) -> RingsStep
-    ensures { result ≡ flatOutcome a }
+    ensures { result ≡ flat_outcome a }
 {
     match a {
         Outcome::Moved(m) => RingsStep {
@@ -43,27 +45,27 @@ fn flat_outcome(a: Outcome) -> RingsStep
 
 #[unsafe(no_mangle)]
 pub extern "C" fn rings_next_prenecklace(reading: &[u8], k: usize, out: &mut [u8]) -> RingsStep
-    ensures { Flat (λ a. StepFromSays prenecklace reading.now k out.old a out.new) flatOutcome result }
+    ensures { Flat (λ a. StepFromSays prenecklace reading.now k out.old a out.new) flat_outcome result }
 {
     flat_outcome(walk_reading::next_prenecklace(reading, k, out))
 }
 
 #[unsafe(no_mangle)]
 pub extern "C" fn rings_next_necklace(reading: &[u8], k: usize, out: &mut [u8]) -> RingsStep
-    ensures { Flat (λ a. StepFromSays necklace reading.now k out.old a out.new) flatOutcome result }
+    ensures { Flat (λ a. StepFromSays necklace reading.now k out.old a out.new) flat_outcome result }
 {
     flat_outcome(walk_reading::next_necklace(reading, k, out))
 }
 
 #[unsafe(no_mangle)]
 pub extern "C" fn rings_next_lyndon(reading: &[u8], k: usize, out: &mut [u8]) -> RingsStep
-    ensures { Flat (λ a. StepFromSays lyndon reading.now k out.old a out.new) flatOutcome result }
+    ensures { Flat (λ a. StepFromSays lyndon reading.now k out.old a out.new) flat_outcome result }
 {
     flat_outcome(walk_reading::next_lyndon(reading, k, out))
 }
 
 fn flat_arrival(a: Arrival) -> RingsAnswer
-    ensures { result ≡ flatArrival a }
+    ensures { result ≡ flat_arrival a }
 {
     match a {
         Arrival::Moved => door_answer_inner::value(1),
@@ -74,7 +76,7 @@ fn flat_arrival(a: Arrival) -> RingsAnswer
 
 #[unsafe(no_mangle)]
 pub extern "C" fn rings_next_bracelet(reading: &[u8], k: usize, out: &mut [u8]) -> RingsAnswer
-    ensures { Flat (λ a. BraceletFromSays reading.now k out.old a out.new) flatArrival result }
+    ensures { Flat (λ a. BraceletFromSays reading.now k out.old a out.new) flat_arrival result }
 {
     flat_arrival(walk_reading::next_bracelet(reading, k, out))
 }
@@ -82,7 +84,7 @@ pub extern "C" fn rings_next_bracelet(reading: &[u8], k: usize, out: &mut [u8]) 
 // ---- fixed shade counts
 
 fn flat_first(a: FirstAnswer) -> RingsAnswer
-    ensures { result ≡ flatFirst a }
+    ensures { result ≡ flat_first a }
 {
     match a {
         FirstAnswer::Ring => door_answer_inner::value(1),
@@ -92,13 +94,13 @@ fn flat_first(a: FirstAnswer) -> RingsAnswer
 
 #[unsafe(no_mangle)]
 pub extern "C" fn rings_first_ring(k: usize, counts: &[usize], out: &mut [u8]) -> RingsAnswer
-    ensures { Flat (λ a. FirstSays k counts.now out.old a out.new) flatFirst result }
+    ensures { Flat (λ a. FirstSays k counts.now out.old a out.new) flat_first result }
 {
     flat_first(shades::first_ring(k, counts, out))
 }
 
 fn flat_next(a: NextAnswer) -> RingsAnswer
-    ensures { result ≡ flatNext a }
+    ensures { result ≡ flat_next a }
 {
     match a {
         NextAnswer::Ring => door_answer_inner::value(1),
@@ -114,7 +116,7 @@ pub extern "C" fn rings_next_ring(
     counts: &[usize],
     out: &mut [u8],
 ) -> RingsAnswer
-    ensures { Flat (λ a. NextSays reading.now k counts.now out.old a out.new) flatNext result }
+    ensures { Flat (λ a. NextSays reading.now k counts.now out.old a out.new) flat_next result }
 {
     flat_next(shades::next_ring(reading, k, counts, out))
 }

@@ -1,5 +1,7 @@
 // How the calls are used: a reading is brought home, a walk takes three steps from there, and a record is read.
 
+#![tactic(auto)]
+
 mod print;
 
 use catalogue::Entry;

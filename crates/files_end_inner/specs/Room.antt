@@ -1,6 +1,6 @@
 -- The room that the end takes.
---     endRoom   what stands behind the last record has no more bytes
+--     end_room   what stands behind the last record has no more bytes
 use Rattle.std.specs.Prelude.{ℕ}
 
-abbrev pub endRoom : ℕ
-endRoom = 80
+abbrev pub end_room : ℕ
+end_room = 80

@@ -8,16 +8,16 @@ use Rattle.program_passes_inner.specs.Passes.{Course}
 use Rattle.program_passes_inner.specs.Passes.Course.{On, Done, Stopped}
 use Rattle.files_spec.specs.{declared.Job.Job, declared.How.How, declared.Taken.Taken, Blocks.TakeSays}
 use Rattle.files_spec.specs.declared.How.TheVariants as H
-use Rattle.files_text_inner.specs.Room.{recordRoom}
+use Rattle.files_text_inner.specs.Room.{record_room}
 use Rattle.files_records_inner.specs.Says.{share}
-use Rattle.files_time_inner.specs.{declared.Time.Time, Says.refusedOf}
+use Rattle.files_time_inner.specs.{declared.Time.Time, Says.refused_of}
 use Rattle.files_pass_inner.specs.Says.{SmallFile, turn_of, FileTurnSays}
 use Rattle.files_pass_inner.specs.Says.FileTurnSays.{gone}
 
 -- ---- a block that was gone through
 
 -- there is room for what it shows
-pub taken-room : (b d : List ℕ) → SmallFile b d → length b * share + recordRoom ≤ length d
+pub taken-room : (b d : List ℕ) → SmallFile b d → length b * share + record_room ≤ length d
 taken-room b d s = omega (arith, s.short, s.room)
 
 -- what it shows stands at the beginning of the output
@@ -39,5 +39,5 @@ module _ (w : Time) (h : How) (m : ℕ) where
   pub turn-is-done : h ≡ H.Over → Done m ≡ turn_of w h m
   turn-is-done e = rw e refl
 
-  pub turn-is-stopped : (r : Refusal) (t : Ending) → h ≡ H.Refused r → t ≡ refusedOf w r → Stopped t ≡ turn_of w h m
+  pub turn-is-stopped : (r : Refusal) (t : Ending) → h ≡ H.Refused r → t ≡ refused_of w r → Stopped t ≡ turn_of w h m
   turn-is-stopped r t e f = rw (e, f) refl

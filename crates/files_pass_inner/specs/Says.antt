@@ -14,17 +14,17 @@ use Rattle.files_spec.specs.declared.How.{How}
 use Rattle.files_spec.specs.declared.How.TheVariants as H
 use Rattle.files_spec.specs.declared.Taken.{Taken}
 use Rattle.files_spec.specs.Blocks.{TakenSays}
-use Rattle.files_text_inner.specs.Room.{recordRoom}
+use Rattle.files_text_inner.specs.Room.{record_room}
 use Rattle.files_records_inner.specs.Says.{share}
 use Rattle.files_time_inner.specs.declared.Time.{Time}
-use Rattle.files_time_inner.specs.Says.{writes_of, fileFailedOf, refusedOf}
+use Rattle.files_time_inner.specs.Says.{writes_of, file_failed_of, refused_of}
 
 abbrev pub most : ℕ
 most = 2048
 
 pub record SmallFile (b d : List ℕ) : Type 0 where
   pub short : length b ≤ most
-  pub room : most * share + recordRoom ≤ length d
+  pub room : most * share + record_room ≤ length d
 
 pub record RoomyFile (b d : List ℕ) : Type 0 where
   pub some : 68 ≤ length b
@@ -33,7 +33,7 @@ pub record RoomyFile (b d : List ℕ) : Type 0 where
 abbrev pub turn_of : Time → How → ℕ → Course
 turn_of w H.On m = On m
 turn_of w H.Over m = Done m
-turn_of w (H.Refused r) m = Stopped (refusedOf w r)
+turn_of w (H.Refused r) m = Stopped (refused_of w r)
 
 -- ---- a block
 
@@ -43,5 +43,5 @@ pub data FileTurnSays (j : Job) (w : Time) (p : ℕ) (b : List ℕ) (last : Bool
 
 -- what stands in the lent block afterwards was read: all of it, or its first m bytes, and then the file ended
 pub data FileAtSays (j : Job) (w : Time) (p : ℕ) (b d : List ℕ) (v : Course) : Type 0 where
-  unread : v ≡ Stopped (fileFailedOf w) → FileAtSays j w p b d v
+  unread : v ≡ Stopped (file_failed_of w) → FileAtSays j w p b d v
   read : (last : Bool) (m : ℕ) → ReadTo b last m → FileTurnSays j w p (take m b) last d v → FileAtSays j w p b d v

@@ -1,7 +1,9 @@
 // What becomes of a block of a catalogue, by what the file is gone through for, and by which time it is. No public calls: no contract can say what is read and written.
 
+#![tactic(auto)]
+
 ghost use Rattle.std.specs.Prelude.{◌<◌, ◌≡◌};
-ghost use Rattle.program_passes_inner.specs.Passes.{limit, courseOf};
+ghost use Rattle.program_passes_inner.specs.Passes.{limit, course_of};
 ghost use Rattle.files_pass_inner.specs.Says.{RoomyFile, SmallFile, turn_of, FileTurnSays, FileAtSays};
 
 use files_spec::{How, Job};
@@ -12,7 +14,7 @@ use program_passes_inner::Turn;
 
 // What becomes of a block that was gone through.
 fn turn_of(time: Time, how: How, used: usize) -> Turn
-    ensures { courseOf result ≡ turn_of time how used }
+    ensures { course_of result ≡ turn_of time how used }
 {
     match how {
         How::On => program_passes_inner::turn_by(false, used),
@@ -25,7 +27,7 @@ fn turn_of(time: Time, how: How, used: usize) -> Turn
 fn take_block(job: Job, time: Time, at: usize, block: &[u8], last: bool, out: &mut [u8]) -> Turn
     requires at_lt_limit { at < limit }
     requires small_file { SmallFile block.now out.old }
-    ensures { FileTurnSays job time at block.now last out.new (courseOf result) }
+    ensures { FileTurnSays job time at block.now last out.new (course_of result) }
 {
     let v = files_records_inner::take_records(job, at, block, last, out);
     let m = v.len;
@@ -42,7 +44,7 @@ fn take_block(job: Job, time: Time, at: usize, block: &[u8], last: bool, out: &m
 pub fn take_at(job: Job, time: Time, at: usize, block: &mut [u8], out: &mut [u8]) -> Turn
     requires at_lt_limit { at < limit }
     requires roomy_file { RoomyFile block.old out.old }
-    ensures { FileAtSays job time at block.new out.new (courseOf result) }
+    ensures { FileAtSays job time at block.new out.new (course_of result) }
 {
     let part = program_passes_inner::read_block(at, block);
     if part.failed {

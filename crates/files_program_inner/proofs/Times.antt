@@ -10,19 +10,19 @@ use Rattle.refusal.specs.{declared.Refusal.Refusal, Numbers.number_of, Numbers.p
 use Rattle.refusal.specs.declared.Checked.TheVariants as C
 use Rattle.program_ending_inner.specs.declared.Ending.{Ending}
 use Rattle.program_ending_inner.specs.declared.Ending.TheVariants as E
-use Rattle.program_passes_inner.specs.Passes.{limit, sameEnd, Course, goesFurther, EndWithin, finishAt}
+use Rattle.program_passes_inner.specs.Passes.{limit, same_end, Course, goes_further, EndWithin, finish_at}
 use Rattle.program_passes_inner.specs.Passes.Course.{On, Done, Stopped}
 use Rattle.program_passes_inner.proofs.Courses.{too_far}
-use Rattle.files_spec.specs.{declared.Job.Job, declared.How.How, declared.Taken.Taken, Shows.lastText}
+use Rattle.files_spec.specs.{declared.Job.Job, declared.How.How, declared.Taken.Taken, Shows.last_text}
 use Rattle.files_spec.specs.declared.How.TheVariants as H
 use Rattle.files_spec.specs.Blocks.{Records, none, BadRecord, Left, TakenSays}
 use Rattle.files_spec.proofs.Cut.{records-joined, told_over, told-bad}
-use Rattle.files_time_inner.specs.{declared.Time.Time, Says.fileFailedOf, Says.refusedOf}
+use Rattle.files_time_inner.specs.{declared.Time.Time, Says.file_failed_of, Says.refused_of}
 use Rattle.files_time_inner.specs.declared.Time.TheVariants.{Only, First, Second}
 use Rattle.files_pass_inner.specs.Says.{most, RoomyFile, turn_of, FileTurnSays, FileAtSays}
 use Rattle.files_pass_inner.specs.Says.FileTurnSays.{gone, unwritten}
 use Rattle.files_pass_inner.specs.Says.FileAtSays.{unread, read}
-use Rattle.files_program_inner.specs.Says.{onceFor, FileReached, FileTold, Broken, FileStopSays, FilePassSays, FileWrittenSays, FileThroughSays}
+use Rattle.files_program_inner.specs.Says.{once_for, FileReached, FileTold, Broken, FileStopSays, FilePassSays, FileWrittenSays, FileThroughSays}
 use Rattle.files_program_inner.specs.Says.FileThroughSays.{stopped, whole}
 
 pub roomy-still : (b d f g : List ℕ) → RoomyFile b d → length f ≡ length b → length g ≡ length d → RoomyFile f g
@@ -58,7 +58,7 @@ done-is w H.On n m e = absurd (other _ _ 0 1 e refl refl (λ z. omega arith))
 done-is w H.Over n m e = (refl, ap size_of e)
 done-is w (H.Refused r) n m e = absurd (other _ _ 2 1 e refl refl (λ z. omega arith))
 
-stopped-is : (w : Time) (h : How) (n : ℕ) (t : Ending) → turn_of w h n ≡ Stopped t → (r : Refusal) × (h ≡ H.Refused r) × (refusedOf w r ≡ t)
+stopped-is : (w : Time) (h : How) (n : ℕ) (t : Ending) → turn_of w h n ≡ Stopped t → (r : Refusal) × (h ≡ H.Refused r) × (refused_of w r ≡ t)
 stopped-is w H.On n t e = absurd (other _ _ 0 2 e refl refl (λ z. omega arith))
 stopped-is w H.Over n t e = absurd (other _ _ 1 2 e refl refl (λ z. omega arith))
 stopped-is w (H.Refused r) n t e = (r, refl, ap why e)
@@ -76,12 +76,12 @@ on-reached j p b last u t s (c, x, l, r) =
     (c ++ m, x ++ s.shown, omega (arith, length-append c m, length-take u.used b, s.inside), records-joined j 0 c x m s.shown r (rw e s.records))
 
 reached-told : (j : Job) (e : ℕ) → FileReached j e → FileTold j e
-reached-told j e (c, x, l, r) = (c, x ++ lastText j C.Good, l, told_over j c x r)
+reached-told j e (c, x, l, r) = (c, x ++ last_text j C.Good, l, told_over j c x r)
 
 reached-broken : (j : Job) (p : ℕ) (b : List ℕ) (last : Bool) (r : Refusal) → FileReached j p → BadRecord last b p r → Broken j r
-reached-broken j p b last r (c, x, l, s) h = (c ++ b, x ++ lastText j (C.Refused r), told-bad j c x b last r s (rw l h))
+reached-broken j p b last r (c, x, l, s) h = (c ++ b, x ++ last_text j (C.Refused r), told-bad j c x b last r s (rw l h))
 
-refused-stops : (j : Job) (w : Time) (r : Refusal) → Broken j r → FileStopSays j w (refusedOf w r)
+refused-stops : (j : Job) (w : Time) (r : Refusal) → Broken j r → FileStopSays j w (refused_of w r)
 refused-stops j Only r h = (refl, (r, h))
 refused-stops j First r h = (refl, (r, h, refl, refl))
 refused-stops j Second r h = refl
@@ -91,7 +91,7 @@ second Only = 0
 second First = 0
 second Second = 1
 
-failed-stops : (j : Job) (w : Time) → FileStopSays j w (fileFailedOf w)
+failed-stops : (j : Job) (w : Time) → FileStopSays j w (file_failed_of w)
 failed-stops j Only = λ e. let z : ◌≡◌ {A = ℕ} 0 1 = ap second e in omega arith
 failed-stops j First = λ e. let z : ◌≡◌ {A = ℕ} 0 1 = ap second e in omega arith
 failed-stops j Second = refl
@@ -141,12 +141,12 @@ module _ (j : Job) (w : Time) (p : ℕ) (q : FileReached j p) (v : Course) where
   at_done b d m e (read last n i h) = let k = turn-done (take n b) last d m e h in (omega (arith, k.0, length-take n b), k.1)
 
   at-stopped : (b d : List ℕ) (t : Ending) → v ≡ Stopped t → FileAtSays j w p b d v → FileStopSays j w t
-  at-stopped b d t e (unread f) = let k : t ≡ fileFailedOf w = ap why (sym e ∙ f) in rw k (failed-stops j w)
+  at-stopped b d t e (unread f) = let k : t ≡ file_failed_of w = ap why (sym e ∙ f) in rw k (failed-stops j w)
   at-stopped b d t e (read last n i h) = turn_stopped (take n b) last d t e h
 
 module _ (j : Job) (w : Time) (p : ℕ) (q : FileReached j p) (b d : List ℕ) where
   -- how a time ends with a block
-  pub at-ends : (v : Course) → 68 ≤ length b → goesFurther p v ≡ false → FileAtSays j w p b d v → FilePassSays j w (finishAt p v)
+  pub at-ends : (v : Course) → 68 ≤ length b → goes_further p v ≡ false → FileAtSays j w p b d v → FilePassSays j w (finish_at p v)
   at-ends (On m) l e h = (p + m, too_far p m e, (at_on j w p q (On m) b d m refl l h).2)
   at-ends (Done m) l e h = (at_done j w p q (Done m) b d m refl h).1
   at-ends (Stopped t) l e h = at-stopped j w p q (Stopped t) b d t refl h
@@ -159,16 +159,16 @@ module _ (j : Job) (w : Time) (p : ℕ) (q : FileReached j p) (b d : List ℕ) w
 -- ---- how a time ended
 
 -- the two ends compared
-pub written-told : (j : Job) (e a : ℕ) (t : Ending) → FileTold j a → t ≡ sameEnd e a → FileWrittenSays j e t
-unfolding sameEnd
+pub written-told : (j : Job) (e a : ℕ) (t : Ending) → FileTold j a → t ≡ same_end e a → FileWrittenSays j e t
+unfolding same_end
 written-told j e a t h f =
     elim (test (eqb e a)) [
-      | passes g ↦ let q : FileTold j e = rw (eqb-true e a g) h in inl (q, rw (g, sameEnd) at f)
-      | fails g ↦ let q : t ≡ E.Changed = rw (g, sameEnd) at f in inr (rw q refl)
+      | passes g ↦ let q : FileTold j e = rw (eqb-true e a g) h in inl (q, rw (g, same_end) at f)
+      | fails g ↦ let q : t ≡ E.Changed = rw (g, same_end) at f in inr (rw q refl)
     ]
 
 -- ---- the whole
 
-pub through-written : (j : Job) (e : ℕ) (t : Ending) → onceFor j ≡ false → FileWrittenSays j e t → FileThroughSays j t
+pub through-written : (j : Job) (e : ℕ) (t : Ending) → once_for j ≡ false → FileWrittenSays j e t → FileThroughSays j t
 through-written j e t k (inl h) = whole e h.0 h.1
 through-written j e t k (inr h) = stopped Second k h

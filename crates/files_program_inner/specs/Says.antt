@@ -1,5 +1,5 @@
 -- How a time through the file ended, and how all did. j is what the file is gone through for, w which time it is.
---     onceFor j, AsOften j w     is the file gone through once for this job, and is this one of its times?
+--     once_for j, AsOften j w     is the file gone through once for this job, and is this one of its times?
 --     FileReached j e                some bytes c of length e are good records, one behind another
 --     FileTold j e, Broken j r       some bytes are a good catalogue, of length e, or one whose first damage is r
 --     FileStopSays j w t             why it stopped before the end: the file is called too long only behind good records as far as the limit
@@ -21,14 +21,14 @@ use Rattle.files_time_inner.specs.declared.Time.{Time}
 use Rattle.files_time_inner.specs.declared.Time.TheVariants.{Only, First, Second}
 use Rattle.files_time_inner.specs.Says.{writes_of}
 
-abbrev pub onceFor : Job → Bool
-onceFor J.Read = true
-onceFor J.Move = false
+abbrev pub once_for : Job → Bool
+once_for J.Read = true
+once_for J.Move = false
 
 abbrev pub AsOften : Job → Time → Type 0
-AsOften j Only = onceFor j ≡ true
-AsOften j First = onceFor j ≡ false
-AsOften j Second = onceFor j ≡ false
+AsOften j Only = once_for j ≡ true
+AsOften j First = once_for j ≡ false
+AsOften j Second = once_for j ≡ false
 
 -- ---- a time through
 

@@ -2,10 +2,12 @@
 // They go through the file on standard input block after block. A telling goes through it once, and writes as it goes; a program that writes nothing where the file is
 // bad goes through it twice, and writes the second time.
 
+#![tactic(auto)]
+
 ghost use Rattle.std.specs.Prelude.{◌≡◌, true, false};
-ghost use Rattle.program_passes_inner.specs.Passes.{finishOf};
+ghost use Rattle.program_passes_inner.specs.Passes.{finish_of};
 ghost use Rattle.files_pass_inner.specs.Says.{RoomyFile};
-ghost use Rattle.files_program_inner.specs.Says.{onceFor, FilePassSays, FileWrittenSays, FileThroughSays};
+ghost use Rattle.files_program_inner.specs.Says.{once_for, FilePassSays, FileWrittenSays, FileThroughSays};
 
 use files_spec::Job;
 use files_time_inner::Time;
@@ -16,7 +18,7 @@ use program_passes_inner::Pass;
 // Once through the file.
 fn go_once(job: Job, time: Time, block: &mut [u8], out: &mut [u8]) -> Pass
     requires { RoomyFile block.old out.old }
-    ensures { FilePassSays job time (finishOf result) }
+    ensures { FilePassSays job time (finish_of result) }
 {
     let mut at = 0;
     loop {
@@ -31,7 +33,7 @@ fn go_once(job: Job, time: Time, block: &mut [u8], out: &mut [u8]) -> Pass
 // The only time.
 fn go_only(job: Job, block: &mut [u8], out: &mut [u8]) -> Ending
     requires roomy_file { RoomyFile block.old out.old }
-    requires job_value { onceFor job ≡ true }
+    requires job_value { once_for job ≡ true }
     ensures { FileThroughSays job result }
 {
     let only = go_once(job, Time::Only, block, out);
@@ -56,7 +58,7 @@ fn go_again(job: Job, end: usize, block: &mut [u8], out: &mut [u8]) -> Ending
 // Both times.
 fn go_twice(job: Job, block: &mut [u8], out: &mut [u8]) -> Ending
     requires roomy_file { RoomyFile block.old out.old }
-    requires job_value { onceFor job ≡ false }
+    requires job_value { once_for job ≡ false }
     ensures { FileThroughSays job result }
 {
     let first = go_once(job, Time::First, block, out);

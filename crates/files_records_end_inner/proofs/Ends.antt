@@ -4,9 +4,9 @@
 use Rattle.words.proofs.Plain.{ℕ, zero, suc, ◌+◌, ◌<◌, ◌≤◌, arith, ◌≡◌, refl, Bool, true, false, List, []}
 use Rattle.refusal.specs.declared.Checked.TheVariants as C
 use Rattle.stream_spec.specs.Blocks.{Puts}
-use Rattle.files_spec.specs.{declared.Job.Job, declared.Taken.Taken, Shows.lastText}
+use Rattle.files_spec.specs.{declared.Job.Job, declared.Taken.Taken, Shows.last_text}
 use Rattle.files_spec.specs.declared.How.TheVariants as H
-use Rattle.files_end_inner.specs.Room.{endRoom}
+use Rattle.files_end_inner.specs.Room.{end_room}
 use Rattle.files_records_end_inner.specs.Says.{EnoughSays, left_of, RecordsStopSays}
 
 -- ---- is another read?
@@ -31,7 +31,7 @@ enough-long last m e h = rw e h
 -- ---- behind the last record
 
 module _ (j : Job) (p used : ℕ) (last : Bool) (o : List ℕ) (len : ℕ) (v : Taken) (d : List ℕ) where
-  pub finish-over : last ≡ true → v.how ≡ H.Over → v.used ≡ used → v.place ≡ p + used → Puts (λ t. t ≡ lastText j C.Good) endRoom o len v.len d → RecordsStopSays j p used (left_of last) o len v d
+  pub finish-over : last ≡ true → v.how ≡ H.Over → v.used ≡ used → v.place ≡ p + used → Puts (λ t. t ≡ last_text j C.Good) end_room o len v.len d → RecordsStopSays j p used (left_of last) o len v d
   finish-over e f g h q = rw e (record { why = f; bytes = g; place = h; puts = record { text = q.text; says = q.says; short = q.short; placed = q.placed } })
 
   pub finish-on : last ≡ false → v.how ≡ H.On → v.used ≡ used → v.place ≡ p + used → v.len ≡ len → d ≡ o → RecordsStopSays j p used (left_of last) o len v d

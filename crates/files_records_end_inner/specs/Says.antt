@@ -10,9 +10,9 @@ use Rattle.files_spec.specs.declared.Job.{Job}
 use Rattle.files_spec.specs.declared.How.{How}
 use Rattle.files_spec.specs.declared.How.TheVariants as H
 use Rattle.files_spec.specs.declared.Taken.{Taken}
-use Rattle.files_spec.specs.Shows.{lastText}
+use Rattle.files_spec.specs.Shows.{last_text}
 use Rattle.files_spec.specs.Blocks.{Enough}
-use Rattle.files_end_inner.specs.Room.{endRoom}
+use Rattle.files_end_inner.specs.Room.{end_room}
 
 abbrev pub EnoughSays : Bool → ℕ → Bool → Type 0
 EnoughSays last m true = Enough last m
@@ -24,11 +24,11 @@ left_of false = H.On
 
 abbrev pub BehindText : Job → How → List ℕ → Type 0
 BehindText j H.On t = t ≡ []
-BehindText j H.Over t = t ≡ lastText j C.Good
-BehindText j (H.Refused r) t = t ≡ lastText j (C.Refused r)
+BehindText j H.Over t = t ≡ last_text j C.Good
+BehindText j (H.Refused r) t = t ≡ last_text j (C.Refused r)
 
 pub record RecordsStopSays (j : Job) (p used : ℕ) (h : How) (o : List ℕ) (len : ℕ) (v : Taken) (d : List ℕ) : Type 0 where
   pub why : v.how ≡ h
   pub bytes : v.used ≡ used
   pub place : v.place ≡ p + used
-  pub puts : Puts (BehindText j h) endRoom o len v.len d
+  pub puts : Puts (BehindText j h) end_room o len v.len d

@@ -12,9 +12,9 @@ use Rattle.words.proofs.Split.{lt, eq, gt, tri}
 use Rattle.text_spec.specs.Put.{Placed}
 use Rattle.text_spec.proofs.Put.{placed-none, placed-append, placed-length}
 use Rattle.refusal.specs.{declared.Refusal.Refusal, Order.Given}
-use Rattle.record_spec.specs.{declared.Kind.Kind, declared.Entry.Entry, Order.recordOrder, Says.Read, Says.ReadSays}
+use Rattle.record_spec.specs.{declared.Kind.Kind, declared.Entry.Entry, Order.record_order, Says.Read, Says.ReadSays}
 use Rattle.record_spec.specs.declared.Entry.TheVariants as E
-use Rattle.record_spec.specs.Layout.{bodyLength, n_of, k_of}
+use Rattle.record_spec.specs.Layout.{body_length, n_of, k_of}
 use Rattle.record_body_inner.specs.Steps.{RecordSays}
 use Rattle.record_spec.proofs.{Forms.some_bytes, Rounds.length-answer, Rounds.answer-passes}
 use Rattle.stream_spec.specs.Blocks.{Puts}
@@ -22,7 +22,7 @@ use Rattle.files_spec.specs.{declared.Job.Job, declared.How.How, declared.Taken.
 use Rattle.files_spec.specs.declared.How.TheVariants as H
 use Rattle.files_spec.specs.Blocks.{One, Records, none, more, Enough, BadRecord, Left, TakenSays, TakeSays}
 use Rattle.files_spec.proofs.Joined.{read-own}
-use Rattle.files_text_inner.specs.Room.{recordRoom, Answered}
+use Rattle.files_text_inner.specs.Room.{record_room, Answered}
 use Rattle.files_records_end_inner.specs.Says.{EnoughSays, left_of, BehindText, RecordsStopSays}
 use Rattle.files_records_inner.specs.{declared.Step.Step, Says.share, Says.RecordStepSays}
 use Rattle.files_records_inner.specs.declared.Step.TheVariants as S
@@ -31,7 +31,7 @@ use Rattle.files_records_inner.specs.declared.Step.TheVariants as S
 
 module _ (t : List ℕ) (s : ℕ) (o : List ℕ) (n k : ℕ) (x : Kind) (next : ℕ) (d : List ℕ) (l : length o ≡ 64) (h : Read t s o n k x next d) where
   -- the same record at the beginning of a catalogue
-  first : ReadSays t 0 o (E.Record n k x (4 + bodyLength x n k)) d
+  first : ReadSays t 0 o (E.Record n k x (4 + body_length x n k)) d
   first = (
     l,
     omega (arith, h.good.0.1),
@@ -41,18 +41,18 @@ module _ (t : List ℕ) (s : ℕ) (o : List ℕ) (n k : ℕ) (x : Kind) (next : 
   pub answered-ring : Answered n k (take n d)
   answered-ring =
       record {
-        long = length-answer t 0 o n k x (4 + bodyLength x n k) d first;
-        passed = answer-passes t 0 o n k x (4 + bodyLength x n k) d first;
+        long = length-answer t 0 o n k x (4 + body_length x n k) d first;
+        passed = answer-passes t 0 o n k x (4 + body_length x n k) d first;
       }
 
-  same : bodyLength x n k ≡ bodyLength x (n_of t) (k_of t)
+  same : body_length x n k ≡ body_length x (n_of t) (k_of t)
   same = rw (h.sectors, h.shades) refl
 
   -- it has bytes, and stands in t
   pub size : (s + 5 ≤ next) × (next ≤ s + length t)
   size = omega (arith, h.follows, same, h.good.0.1, some_bytes (n_of t) (k_of t) x h.good.0.0.0.0 h.good.0.0.1)
 
-  pub step_after : (j : Job) (b : List ℕ) (at e : ℕ) (f : List ℕ) → Puts (Shows j s n k x (take n d)) recordRoom b at e f → RecordStepSays j s t b at (S.After (next - s) e) f
+  pub step_after : (j : Job) (b : List ℕ) (at e : ℕ) (f : List ℕ) → Puts (Shows j s n k x (take n d)) record_room b at e f → RecordStepSays j s t b at (S.After (next - s) e) f
   step_after j b at e f p = (
     omega (arith, size),
     omega (arith, size),
@@ -103,12 +103,12 @@ going_on j p b o i len d m e f g (u, v, q) =
     long = omega (arith, length-take i b, g.inside)
 
 -- the output keeps its length, and has room
-pub going-room : (j : Job) (p : ℕ) (b o : List ℕ) (i len : ℕ) (d : List ℕ) → Going j p b o i len d → length b * share + recordRoom ≤ length o → (length d ≡ length o) × (len + recordRoom ≤ length d)
+pub going-room : (j : Job) (p : ℕ) (b o : List ℕ) (i len : ℕ) (d : List ℕ) → Going j p b o i len d → length b * share + record_room ≤ length o → (length d ≡ length o) × (len + record_room ≤ length d)
 going-room j p b o i len d g h = omega (arith, placed-length o 0 g.shown len d g.placed, g.short, g.inside, h)
 
 -- no other record is read
 pub going-stop : (j : Job) (p : ℕ) (b : List ℕ) (last : Bool) (o : List ℕ) (i len : ℕ) (d : List ℕ) (h : How) (v : Taken) (f : List ℕ) →
-    Going j p b o i len d → length b * share + recordRoom ≤ length o → RecordsStopSays j p i h d len v f →
+    Going j p b o i len d → length b * share + record_room ≤ length o → RecordsStopSays j p i h d len v f →
     ((t : List ℕ) → BehindText j h t → Left j (p + i) (drop i b) last h t) → TakeSays j p b last o v f
 going-stop j p b last o i len d h v f g room s k =
     let q = s.puts in
@@ -138,7 +138,7 @@ left_over j p b false k t e = (refl, short, e)
     short : length b < 68
     short = elim (tri (length b) 68) [ lt h ↦ h | eq h ↦ absurd (k (omega arith)) | gt h ↦ absurd (k (omega arith)) ]
 
-pub left-bad : (j : Job) (p : ℕ) (b : List ℕ) (last : Bool) (r : Refusal) → EnoughSays last (length b) true → Given (recordOrder b p) r →
+pub left-bad : (j : Job) (p : ℕ) (b : List ℕ) (last : Bool) (r : Refusal) → EnoughSays last (length b) true → Given (record_order b p) r →
     (t : List ℕ) → BehindText j (H.Refused r) t → Left j p b last (H.Refused r) t
 left-bad j p b last r k g t e = (record { enough = k; given = g }, e)
 
@@ -166,7 +166,7 @@ module _ (j : Job) (p : ℕ) (b o : List ℕ) (i len : ℕ) (d : List ℕ) (g : 
     pub turn-same : (r : Refusal) → v ≡ S.Refused r → f ≡ d
     turn-same r q = let k : RecordStepSays j (p + i) (rest_of b i) d len (S.Refused r) f = rw q at h in k.1
 
-    pub turn-stop : (last : Bool) (r : Refusal) (w : Taken) (u : List ℕ) (y : Bool) → v ≡ S.Refused r → y ≡ true → EnoughSays last (length b - i) y → length b * share + recordRoom ≤ length o →
+    pub turn-stop : (last : Bool) (r : Refusal) (w : Taken) (u : List ℕ) (y : Bool) → v ≡ S.Refused r → y ≡ true → EnoughSays last (length b - i) y → length b * share + record_room ≤ length o →
         RecordsStopSays j p i (H.Refused r) f len w u → TakeSays j p b last o w u
     turn-stop last r w u y q z n room s =
         let k : RecordStepSays j (p + i) (drop i b) d len (S.Refused r) f = rw (rest-is b i, q) at h in
@@ -176,7 +176,7 @@ module _ (j : Job) (p : ℕ) (b o : List ℕ) (i len : ℕ) (d : List ℕ) (g : 
 
   -- none is read
   pub turn-over : (last : Bool) (w : Taken) (u : List ℕ) (y : Bool) → y ≡ false → EnoughSays last (length b - i) y →
-      length b * share + recordRoom ≤ length o → RecordsStopSays j p i (left_of last) d len w u → TakeSays j p b last o w u
+      length b * share + record_room ≤ length o → RecordsStopSays j p i (left_of last) d len w u → TakeSays j p b last o w u
   turn-over last w u y z n room s =
       let a : EnoughSays last (length (drop i b)) false = rw (length-drop i b) (rw z at n) in
       going-stop j p b last o i len d (left_of last) w u g room s (left_over j (p + i) (drop i b) last a)

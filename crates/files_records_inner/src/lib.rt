@@ -1,11 +1,13 @@
 // The records of a block of a catalogue, one after another, and what they show. No public calls.
 
+#![tactic(auto)]
+
 ghost use Rattle.std.specs.Prelude.{◌+◌, ◌*◌, ◌≤◌, ◌≡◌, length};
 ghost use Rattle.record_body_inner.specs.Steps.{Held};
 ghost use Rattle.files_spec.specs.declared.How.TheVariants.{Refused};
 ghost use Rattle.files_spec.specs.Blocks.{TakeSays};
-ghost use Rattle.files_text_inner.specs.Room.{recordRoom};
-ghost use Rattle.files_end_inner.specs.Room.{endRoom};
+ghost use Rattle.files_text_inner.specs.Room.{record_room};
+ghost use Rattle.files_end_inner.specs.Room.{end_room};
 ghost use Rattle.files_records_end_inner.specs.Says.{RecordsStopSays};
 ghost use Rattle.files_records_inner.specs.Says.{share, RecordStepSays};
 
@@ -23,7 +25,7 @@ pub enum Step {
 // The record that `rest` begins with, at a place of the catalogue, and what it shows.
 fn take_one(job: Job, place: usize, rest: &[u8], ring: &mut [u8], out: &mut [u8], at: usize) -> Step
     requires held { Held (place + length rest.now) × (length ring.old ≡ 64) }
-    requires record_room_in_bounds { at + recordRoom ≤ length out.old }
+    requires record_room_in_bounds { at + record_room ≤ length out.old }
     ensures { RecordStepSays job place rest.now out.old at result out.new }
 {
     match record_head_inner::read_head(rest, place, ring) {
@@ -38,7 +40,7 @@ fn take_one(job: Job, place: usize, rest: &[u8], ring: &mut [u8], out: &mut [u8]
 
 // Behind `used` bytes of good records one is refused.
 fn stop(job: Job, r: Refusal, place: usize, used: usize, out: &mut [u8], len: usize) -> Taken
-    requires { Held (place + used) × (len + endRoom ≤ length out.old) }
+    requires { Held (place + used) × (len + end_room ≤ length out.old) }
     ensures { RecordsStopSays job place used (Refused r) out.old len result out.new }
 {
     let e = files_end_inner::place_damage(job, r, out, len);
@@ -53,7 +55,7 @@ fn stop(job: Job, r: Refusal, place: usize, used: usize, out: &mut [u8], len: us
 // A block, for which there is room: what its records show stands at the beginning of the output.
 pub fn take_records(job: Job, place: usize, block: &[u8], last: bool, out: &mut [u8]) -> Taken
     requires held { Held (place + length block.now) }
-    requires record_room_in_bounds { length block.now * share + recordRoom ≤ length out.old }
+    requires record_room_in_bounds { length block.now * share + record_room ≤ length out.old }
     ensures { TakeSays job place block.now last out.old result out.new }
 {
     let mut ring = [0u8; 64];

@@ -11,12 +11,12 @@ use Rattle.words.proofs.Plain.{take_all, take-take, drop-drop, drop_at}
 use Rattle.refusal.specs.{declared.Refusal.Refusal, declared.Checked.Checked, Order.Given}
 use Rattle.refusal.specs.declared.Checked.TheVariants as C
 use Rattle.record_spec.specs.declared.Entry.TheVariants as E
-use Rattle.record_spec.specs.{Order.recordOrder, Says.ReadSays}
+use Rattle.record_spec.specs.{Order.record_order, Says.ReadSays}
 use Rattle.record_spec.proofs.Only.{drop-take}
-use Rattle.files_spec.specs.{declared.Job.Job, declared.How.How, declared.Taken.Taken, Shows.lastText}
+use Rattle.files_spec.specs.{declared.Job.Job, declared.How.How, declared.Taken.Taken, Shows.last_text}
 use Rattle.files_spec.specs.declared.How.TheVariants.{On, Over, Refused}
 use Rattle.files_spec.specs.Catalogues.{Through, over, bad, further, ShowsAll}
-use Rattle.files_spec.specs.Blocks.{One, Records, none, more, BadRecord, Left, TakenSays, fileBlock, FileReaches, verdictOf, Blockwise, part, rest}
+use Rattle.files_spec.specs.Blocks.{One, Records, none, more, BadRecord, Left, TakenSays, file_block, FileReaches, verdict_of, Blockwise, part, rest}
 use Rattle.files_spec.proofs.{Unique.one-tells, Joined.read-joined, Joined.given-joined}
 
 -- ---- good records
@@ -46,15 +46,15 @@ blank = replicate 64 0
 blank-long : length blank ≡ 64
 blank-long = refl
 
-ends : (j : Job) (c : List ℕ) (s : ℕ) → s ≡ length c → Through j c s C.Good (lastText j C.Good)
+ends : (j : Job) (c : List ℕ) (s : ℕ) → s ≡ length c → Through j c s C.Good (last_text j C.Good)
 ends j c s e = over blank (blank-long, e, refl)
 
-stops : (j : Job) (c : List ℕ) (s : ℕ) (r : Refusal) → s < length c → Given (recordOrder (drop s c) s) r → Through j c s (C.Refused r) (lastText j (C.Refused r))
+stops : (j : Job) (c : List ℕ) (s : ℕ) (r : Refusal) → s < length c → Given (record_order (drop s c) s) r → Through j c s (C.Refused r) (last_text j (C.Refused r))
 stops j c s r l g = bad {s = s} r blank (blank-long) (inr ((blank-long, omega arith), (l, g)), refl)
 
 -- what is left of the catalogue at s begins with what is left of the block, b, and goes on unless that was the last
 bad-stops : (j : Job) (c : List ℕ) (s : ℕ) (b z : List ℕ) (last : Bool) (r : Refusal) → drop s c ≡ b ++ z → (last ≡ true → z ≡ []) → BadRecord last b s r →
-    Through j c s (C.Refused r) (lastText j (C.Refused r))
+    Through j c s (C.Refused r) (last_text j (C.Refused r))
 bad-stops j c s b z true r e f h =
     let q : drop s c ≡ b = e ∙ ap (λ (y : List ℕ). b ++ y) (f refl) ∙ append-nil b in
     stops j c s r (omega (arith, ap length q, length-drop s c, h.enough)) (rw q h.given)
@@ -62,7 +62,7 @@ bad-stops j c s b z false r e f h =
     stops j c s r (omega (arith, ap length e, length-append b z, length-drop s c, h.enough)) (rw e (given-joined b z s r h.enough h.given))
 
 left-through : (j : Job) (c : List ℕ) (s : ℕ) (b z : List ℕ) (last : Bool) (w : How) (v : Checked) (t : List ℕ) → s ≤ length c → drop s c ≡ b ++ z →
-    (last ≡ true → z ≡ []) → Left j s b last w t → verdictOf w v → Through j c s v t
+    (last ≡ true → z ≡ []) → Left j s b last w t → verdict_of w v → Through j c s v t
 left-through j c s b z last On v t m e f h k = absurd k
 left-through j c s b z last Over v t m e f (p, q, r) k =
     let y : drop s c ≡ [] = e ∙ ap (λ (i : List ℕ). i ++ z) q ∙ f p in
@@ -72,9 +72,9 @@ left-through j c s b z last (Refused r) v t m e f (p, q) k = rw (k, q) (bad-stop
 -- ---- a block
 
 -- the catalogue from p on is the first e bytes of the block, the rest of the block, and what follows it
-module _ (c : List ℕ) (p m e : ℕ) (l : e ≤ length (fileBlock c p m)) where
+module _ (c : List ℕ) (p m e : ℕ) (l : e ≤ length (file_block c p m)) where
   abbrev b : List ℕ
-  b = fileBlock c p m
+  b = file_block c p m
 
   abbrev z : List ℕ
   z = drop m (drop p c)
@@ -101,7 +101,7 @@ module _ (c : List ℕ) (p m e : ℕ) (l : e ≤ length (fileBlock c p m)) where
 
 pub run-through : (j : Job) (c : List ℕ) (p : ℕ) (v : Checked) (t : List ℕ) → p ≤ length c → Blockwise j c p v t → Through j c p v t
 run-through j c p v t l (part {u = u} m w x s e r) =
-    let h : Left j w.place (drop w.used (fileBlock c p m)) false On s.behind = rw e at s.left in
+    let h : Left j w.place (drop w.used (file_block c p m)) false On s.behind = rw e at s.left in
     let f = s.place in
     let q : x ≡ s.shown = s.whole ∙ ap (λ (y : List ℕ). s.shown ++ y) h.2 ∙ append-nil s.shown in
     let k = inside c p m w.used s.inside l in
@@ -112,7 +112,7 @@ run-through j c p v t l (rest m last w x q s k) =
     let i = inside c p m w.used s.inside l in
     let h = rw f at s.left in
     rw s.whole (taken-through c p m w.used s.inside j s.shown v s.behind s.records
-    (left-through j c (p + w.used) (drop w.used (fileBlock c p m)) (drop m (drop p c)) last w.how v s.behind i
+    (left-through j c (p + w.used) (drop w.used (file_block c p m)) (drop m (drop p c)) last w.how v s.behind i
     (behind c p m w.used s.inside) (nothing c p m w.used s.inside last q) h k))
 
 pub run-tells : (j : Job) (c : List ℕ) (v : Checked) (t : List ℕ) → Blockwise j c 0 v t → ShowsAll j c v t
@@ -130,12 +130,12 @@ records-joined j p b t b' t' r (more {b = d} {t = u} a x s o) =
     rw (sym (append_assoc b d a), sym (append_assoc t u x)) (more a x (records-joined j p b t d u r s) (rw e at o))
 
 -- a catalogue that is these records
-pub told_over : (j : Job) (c t : List ℕ) → Records j 0 c t → ShowsAll j c C.Good (t ++ lastText j C.Good)
-told_over j c t r = records-through j c 0 c t [] C.Good (lastText j C.Good) r (sym (append-nil c)) (ends j c (0 + length c) (omega arith))
+pub told_over : (j : Job) (c t : List ℕ) → Records j 0 c t → ShowsAll j c C.Good (t ++ last_text j C.Good)
+told_over j c t r = records-through j c 0 c t [] C.Good (last_text j C.Good) r (sym (append-nil c)) (ends j c (0 + length c) (omega arith))
 
 -- and one in which bytes stand behind them that are refused
-pub told-bad : (j : Job) (c t b : List ℕ) (last : Bool) (r : Refusal) → Records j 0 c t → BadRecord last b (length c) r → ShowsAll j (c ++ b) (C.Refused r) (t ++ lastText j (C.Refused r))
+pub told-bad : (j : Job) (c t b : List ℕ) (last : Bool) (r : Refusal) → Records j 0 c t → BadRecord last b (length c) r → ShowsAll j (c ++ b) (C.Refused r) (t ++ last_text j (C.Refused r))
 told-bad j c t b last r s h =
     let e : 0 + length c ≡ length c = omega arith in
-    records-through j (c ++ b) 0 c t b (C.Refused r) (lastText j (C.Refused r)) s refl
+    records-through j (c ++ b) 0 c t b (C.Refused r) (last_text j (C.Refused r)) s refl
     (rw e (bad-stops j (c ++ b) (length c) b [] last r (drop_at c b (length c) refl ∙ sym (append-nil b)) (λ k. refl) h))

@@ -3,48 +3,48 @@
 use Rattle.words.proofs.Plain.{ℕ, ◌≡◌, refl, ◌∙◌, List, [], ◌∷◌}
 use Rattle.rings.specs.Open.{open-all}
 use Rattle.packing_spec.specs.Open.{open-packing}
-use Rattle.text_spec.specs.{Ascii.ascii, Decimal.decimalIn, Decimal.decimal, Text.twoNumbers}
-use Rattle.text_fill_spec.specs.Filled.{filledText}
+use Rattle.text_spec.specs.{Ascii.ascii, Decimal.decimal_in, Decimal.decimal, Text.two_numbers}
+use Rattle.text_fill_spec.specs.Filled.{filled_text}
 use Rattle.refusal.specs.declared.Refusal.TheVariants.{NotHome}
 use Rattle.refusal.specs.declared.Checked.TheVariants.{Good, Refused}
 use Rattle.record_spec.specs.declared.Kind.TheVariants.{Front, Packed}
-use Rattle.record_spec.proofs.Wrote.{recordBytes}
+use Rattle.record_spec.proofs.Wrote.{record_bytes}
 use Rattle.files_spec.specs.declared.Job.TheVariants.{Read, Move}
-use Rattle.files_spec.specs.Shows.{otherKind, recordLine, Shows, lastText}
+use Rattle.files_spec.specs.Shows.{other_kind, record_line, Shows, last_text}
 use Rattle.files_spec.proofs.Unique.{filled-bytes}
 
 abbrev ring : List ℕ
 ring = 0 ∷ 0 ∷ 1 ∷ 0 ∷ 1 ∷ 1 ∷ []
 
 -- their lines
-pub front-line : recordLine 0 Front 6 2 ring ≡ ascii "0 front 6 2 001011\n"
-unfolding filledText decimal decimalIn
+pub front-line : record_line 0 Front 6 2 ring ≡ ascii "0 front 6 2 001011\n"
+unfolding filled_text decimal decimal_in
 front-line = refl
 
-pub packed-line : recordLine 67 Packed 6 2 ring ≡ ascii "67 packed 6 2 001011\n"
-unfolding filledText decimal decimalIn
+pub packed-line : record_line 67 Packed 6 2 ring ≡ ascii "67 packed 6 2 001011\n"
+unfolding filled_text decimal decimal_in
 packed-line = refl
 
 -- the lines behind them
-pub end_line : lastText Read Good ≡ ascii "end\n"
-unfolding lastText
+pub end_line : last_text Read Good ≡ ascii "end\n"
+unfolding last_text
 end_line = refl
 
-pub refused-line : lastText Read (Refused (NotHome 67)) ≡ ascii "refused 9 at 67\n"
-unfolding lastText twoNumbers decimal decimalIn
+pub refused-line : last_text Read (Refused (NotHome 67)) ≡ ascii "refused 9 at 67\n"
+unfolding last_text two_numbers decimal decimal_in
 refused-line = refl
 
 -- moved, each becomes the other
-front_bytes : recordBytes (otherKind Packed) 2 ring ≡ (0x52 ∷ 0x46 ∷ 6 ∷ 2 ∷ ring)
+front_bytes : record_bytes (other_kind Packed) 2 ring ≡ (0x52 ∷ 0x46 ∷ 6 ∷ 2 ∷ ring)
 unfolding open-all open-packing
 front_bytes = refl
 
-packed-bytes : recordBytes (otherKind Front) 2 ring ≡ (0x52 ∷ 0x50 ∷ 6 ∷ 2 ∷ 0x2C ∷ [])
+packed-bytes : record_bytes (other_kind Front) 2 ring ≡ (0x52 ∷ 0x50 ∷ 6 ∷ 2 ∷ 0x2_c ∷ [])
 unfolding open-all open-packing
 packed-bytes = refl
 
-pub front-moved : (s : ℕ) (t : List ℕ) → Shows Move s 6 2 Front ring t → t ≡ (0x52 ∷ 0x50 ∷ 6 ∷ 2 ∷ 0x2C ∷ [])
-front-moved s t h = filled-bytes ring 2 (otherKind Front) t h ∙ packed-bytes
+pub front-moved : (s : ℕ) (t : List ℕ) → Shows Move s 6 2 Front ring t → t ≡ (0x52 ∷ 0x50 ∷ 6 ∷ 2 ∷ 0x2_c ∷ [])
+front-moved s t h = filled-bytes ring 2 (other_kind Front) t h ∙ packed-bytes
 
 pub packed-moved : (s : ℕ) (t : List ℕ) → Shows Move s 6 2 Packed ring t → t ≡ (0x52 ∷ 0x46 ∷ 6 ∷ 2 ∷ ring)
-packed-moved s t h = filled-bytes ring 2 (otherKind Packed) t h ∙ front_bytes
+packed-moved s t h = filled-bytes ring 2 (other_kind Packed) t h ∙ front_bytes

@@ -6,29 +6,29 @@
 --     one-through       so has what is left from a place on
 --     one-tells         and a whole catalogue
 use Rattle.words.proofs.Plain.{ℕ, ◌+◌, arith, ◌≡◌, refl, sym, ap, subst, ◌∙◌, List, [], ◌++◌, append-nil, length, take, drop, drop_of_length-le}
-use Rattle.refusal.specs.{declared.Refusal.Refusal, declared.Checked.Checked, Order.Passed, Calls.oneReading}
+use Rattle.refusal.specs.{declared.Refusal.Refusal, declared.Checked.Checked, Order.Passed, Calls.one_reading}
 use Rattle.refusal.specs.declared.Checked.TheVariants as C
-use Rattle.record_spec.specs.{declared.Kind.Kind, declared.Entry.Entry, Layout.bodyLength, Says.ReadSays}
+use Rattle.record_spec.specs.{declared.Kind.Kind, declared.Entry.Entry, Layout.body_length, Says.ReadSays}
 use Rattle.record_spec.specs.declared.Entry.TheVariants.{Record, End, Refused}
 use Rattle.record_spec.proofs.{Answer.fixed, Laws.output-front}
-use Rattle.record_spec.proofs.Wrote.{recordBytes, length-record, bytes-placed, wrote-bytes}
+use Rattle.record_spec.proofs.Wrote.{record_bytes, length-record, bytes-placed, wrote-bytes}
 use Rattle.files_spec.specs.declared.Job.{Job}
 use Rattle.files_spec.specs.declared.Job.TheVariants as J
-use Rattle.files_spec.specs.Shows.{otherKind, Filled, Shows, lastText}
+use Rattle.files_spec.specs.Shows.{other_kind, Filled, Shows, last_text}
 use Rattle.files_spec.specs.Catalogues.{Through, over, bad, further, ShowsAll}
 
 -- ---- a record
 
-pub filled-bytes : (w : List ℕ) (k : ℕ) (x : Kind) (t : List ℕ) → Filled w k x t → t ≡ recordBytes x k w
+pub filled-bytes : (w : List ℕ) (k : ℕ) (x : Kind) (t : List ℕ) → Filled w k x t → t ≡ record_bytes x k w
 filled-bytes w k x t f =
     let h = f.written in
-    let e : drop (4 + bodyLength x (length w) k) (drop 0 f.room) ≡ [] = drop_of_length-le f.room {i = 4 + bodyLength x (length w) k} (omega (arith, h.follows, f.same)) in
-    wrote-bytes w k x h.passed f.room 0 (length t) t h ∙ ap (λ (z : List ℕ). recordBytes x k w ++ z) e ∙ append-nil (recordBytes x k w)
+    let e : drop (4 + body_length x (length w) k) (drop 0 f.room) ≡ [] = drop_of_length-le f.room {i = 4 + body_length x (length w) k} (omega (arith, h.follows, f.same)) in
+    wrote-bytes w k x h.passed f.room 0 (length t) t h ∙ ap (λ (z : List ℕ). record_bytes x k w ++ z) e ∙ append-nil (record_bytes x k w)
 
-pub bytes-filled : (w : List ℕ) (k : ℕ) (x : Kind) → Passed (oneReading w k) → Filled w k x (recordBytes x k w)
+pub bytes-filled : (w : List ℕ) (k : ℕ) (x : Kind) → Passed (one_reading w k) → Filled w k x (record_bytes x k w)
 bytes-filled w k x g =
     record {
-      room = recordBytes x k w;
+      room = record_bytes x k w;
       same = refl;
       written =
           record {
@@ -36,16 +36,16 @@ bytes-filled w k x g =
             fits = omega (arith, length-record w k x g);
             follows = length-record w k x g;
             before = refl;
-            here = bytes-placed w k x g (recordBytes x k w) (recordBytes x k w) (sym (ap (λ (z : List ℕ). recordBytes x k w ++ z) none ∙ append-nil (recordBytes x k w)));
+            here = bytes-placed w k x g (record_bytes x k w) (record_bytes x k w) (sym (ap (λ (z : List ℕ). record_bytes x k w ++ z) none ∙ append-nil (record_bytes x k w)));
           };
     }
   where
-    none : drop (4 + bodyLength x (length w) k) (recordBytes x k w) ≡ []
-    none = drop_of_length-le (recordBytes x k w) {i = 4 + bodyLength x (length w) k} (omega (arith, length-record w k x g))
+    none : drop (4 + body_length x (length w) k) (record_bytes x k w) ≡ []
+    none = drop_of_length-le (record_bytes x k w) {i = 4 + body_length x (length w) k} (omega (arith, length-record w k x g))
 
 pub one-shown : (j : Job) (s n k : ℕ) (x : Kind) (w t u : List ℕ) → Shows j s n k x w t → Shows j s n k x w u → t ≡ u
 one-shown J.Read s n k x w t u p q = p ∙ sym q
-one-shown J.Move s n k x w t u p q = filled-bytes w k (otherKind x) t p ∙ sym (filled-bytes w k (otherKind x) u q)
+one-shown J.Move s n k x w t u p q = filled-bytes w k (other_kind x) t p ∙ sym (filled-bytes w k (other_kind x) u q)
 
 -- ---- the reader's answer
 
@@ -60,10 +60,10 @@ which (Record n k x next) = 0
 which End = 1
 which (Refused r) = 2
 
-abbrev whyOf : Entry → Refusal → Refusal
-whyOf (Record n k x next) r = r
-whyOf End r = r
-whyOf (Refused q) r = q
+abbrev why_of : Entry → Refusal → Refusal
+why_of (Record n k x next) r = r
+why_of End r = r
+why_of (Refused q) r = q
 
 differ : (e f : Entry) (a b : ℕ) → e ≡ f → which e ≡ a → which f ≡ b → (a ≡ b → ⊥) → ⊥
 differ e f a b p q r n = n (sym q ∙ ap which p ∙ r)
@@ -83,7 +83,7 @@ one-through j c s v w t u (over o p) (bad r q m h) = absurd (differ _ _ 1 2 (sam
 one-through j c s v w t u (over o p) (further n k x next q d y h g r) = absurd (differ _ _ 1 0 (same-entry c s o q End (Record n k x next) o d p.0 h.0 p h) refl refl (λ z. omega arith))
 one-through j c s v w t u (bad r o l p) (over q h) = absurd (differ _ _ 2 1 (same-entry c s o q (Refused r) End o q l h.0 p h) refl refl (λ z. omega arith))
 one-through j c s v w t u (bad r o l p) (bad r' q m h) =
-    let e : r ≡ r' = ap (λ (z : Entry). whyOf z r) (same-entry c s o q (Refused r) (Refused r') o q l m p h) in
+    let e : r ≡ r' = ap (λ (z : Entry). why_of z r) (same-entry c s o q (Refused r) (Refused r') o q l m p h) in
     rw e (refl, refl)
 one-through j c s v w t u (bad r o l p) (further n k x next q d y h g r') = absurd (differ _ _ 2 0 (same-entry c s o q (Refused r) (Record n k x next) o d l h.0 p h) refl refl (λ z. omega arith))
 one-through j c s v w t u (further n k x next o d y h g r) (over q p) = absurd (differ _ _ 0 1 (same-entry c s o q (Record n k x next) End d q h.0 p.0 h p) refl refl (λ z. omega arith))

@@ -7,7 +7,7 @@
 --     TakenSays j p b last v t  the block b, which stands at p, was gone through so far as v tells, and t is what it shows
 --     TakeSays                  the same, where t stands at the beginning of an output that held o before and holds d after
 -- And a whole catalogue c, however it is cut:
---     fileBlock c p m             the block of c that begins at p and has m bytes, or fewer where c ends
+--     file_block c p m             the block of c that begins at p and has m bytes, or fewer where c ends
 --     Blockwise j c p v t       block after block from p on: v is the verdict, and t what the blocks show, one after another
 -- That a run shows what the whole catalogue shows: proofs/Cut.
 use Rattle.std.specs.Prelude.{ℕ, ◌+◌, ◌<◌, ◌≤◌, ◌≡◌, Bool, true, false, List, [], ◌++◌, length, take, drop}
@@ -17,13 +17,13 @@ use Rattle.refusal.specs.declared.Checked.{Checked}
 use Rattle.refusal.specs.declared.Checked.TheVariants as C
 use Rattle.refusal.specs.Order.{Given}
 use Rattle.record_spec.specs.declared.Kind.{Kind}
-use Rattle.record_spec.specs.Order.{recordOrder}
+use Rattle.record_spec.specs.Order.{record_order}
 use Rattle.record_spec.specs.Says.{Read}
 use Rattle.files_spec.specs.declared.Job.{Job}
 use Rattle.files_spec.specs.declared.How.{How}
 use Rattle.files_spec.specs.declared.How.TheVariants.{On, Over, Refused}
 use Rattle.files_spec.specs.declared.Taken.{Taken}
-use Rattle.files_spec.specs.Shows.{Shows, lastText}
+use Rattle.files_spec.specs.Shows.{Shows, last_text}
 
 -- ---- records
 
@@ -49,13 +49,13 @@ Enough false m = 68 ≤ m
 
 pub record BadRecord (last : Bool) (b : List ℕ) (p : ℕ) (r : Refusal) : Type 0 where
   pub enough : Enough last (length b)
-  pub given : Given (recordOrder b p) r
+  pub given : Given (record_order b p) r
 
 -- what is left behind e bytes of records, by why it was left; t is what stands behind what they show
 abbrev pub Left : Job → ℕ → List ℕ → Bool → How → List ℕ → Type 0
 Left j p b last On t = (last ≡ false) × (length b < 68) × (t ≡ [])
-Left j p b last Over t = (last ≡ true) × (b ≡ []) × (t ≡ lastText j C.Good)
-Left j p b last (Refused r) t = BadRecord last b p r × (t ≡ lastText j (C.Refused r))
+Left j p b last Over t = (last ≡ true) × (b ≡ []) × (t ≡ last_text j C.Good)
+Left j p b last (Refused r) t = BadRecord last b p r × (t ≡ last_text j (C.Refused r))
 
 pub record TakenSays (j : Job) (p : ℕ) (b : List ℕ) (last : Bool) (v : Taken) (t : List ℕ) : Type 0 where
   pub shown : List ℕ
@@ -74,8 +74,8 @@ pub record TakeSays (j : Job) (p : ℕ) (b : List ℕ) (last : Bool) (o : List �
 
 -- ---- a whole catalogue
 
-abbrev pub fileBlock : List ℕ → ℕ → ℕ → List ℕ
-fileBlock c p m = take m (drop p c)
+abbrev pub file_block : List ℕ → ℕ → ℕ → List ℕ
+file_block c p m = take m (drop p c)
 
 -- a block may be called the last only where the catalogue ends with it
 abbrev pub FileReaches : List ℕ → ℕ → ℕ → Bool → Type 0
@@ -83,11 +83,11 @@ FileReaches c p m true = length c ≤ p + m
 FileReaches c p m false = Unit
 
 -- the verdict of a block behind which no other is read
-abbrev pub verdictOf : How → Checked → Type 0
-verdictOf On v = ⊥
-verdictOf Over v = v ≡ C.Good
-verdictOf (Refused r) v = v ≡ C.Refused r
+abbrev pub verdict_of : How → Checked → Type 0
+verdict_of On v = ⊥
+verdict_of Over v = v ≡ C.Good
+verdict_of (Refused r) v = v ≡ C.Refused r
 
 pub data Blockwise (j : Job) (c : List ℕ) : ℕ → Checked → List ℕ → Type 0 where
-  part : {p : ℕ} {v : Checked} {u : List ℕ} (m : ℕ) (w : Taken) (t : List ℕ) → TakenSays j p (fileBlock c p m) false w t → w.how ≡ On → Blockwise j c w.place v u → Blockwise j c p v (t ++ u)
-  rest : {p : ℕ} {v : Checked} (m : ℕ) (last : Bool) (w : Taken) (t : List ℕ) → FileReaches c p m last → TakenSays j p (fileBlock c p m) last w t → verdictOf w.how v → Blockwise j c p v t
+  part : {p : ℕ} {v : Checked} {u : List ℕ} (m : ℕ) (w : Taken) (t : List ℕ) → TakenSays j p (file_block c p m) false w t → w.how ≡ On → Blockwise j c w.place v u → Blockwise j c p v (t ++ u)
+  rest : {p : ℕ} {v : Checked} (m : ℕ) (last : Bool) (w : Taken) (t : List ℕ) → FileReaches c p m last → TakenSays j p (file_block c p m) last w t → verdict_of w.how v → Blockwise j c p v t

@@ -1,5 +1,7 @@
 // Files gone through whole, piece after piece (issue 38's commands on catalogues): what they are gone through for, and how far a block of one was.
 
+#![tactic(auto)]
+
 use refusal::Refusal;
 
 // What a file is gone through for: a catalogue is told record by record, or its records are moved to the other form.

@@ -1,17 +1,19 @@
 // What a record of a catalogue shows, placed into a lent buffer. No public calls.
 
+#![tactic(auto)]
+
 ghost use Rattle.std.specs.Prelude.{◌+◌, ◌≤◌, ◌≡◌, length};
 ghost use Rattle.text_spec.specs.Put.{Placed};
 ghost use Rattle.stream_spec.specs.Blocks.{Puts};
-ghost use Rattle.files_spec.specs.Shows.{otherKind, recordLine, Filled, Shows};
-ghost use Rattle.files_text_inner.specs.Room.{recordRoom, Answered};
+ghost use Rattle.files_spec.specs.Shows.{other_kind, record_line, Filled, Shows};
+ghost use Rattle.files_text_inner.specs.Room.{record_room, Answered};
 
 use files_spec::Job;
 use record_spec::{Kind, Written};
 
 // The other form.
 fn other(kind: Kind) -> Kind
-    ensures { result ≡ otherKind kind }
+    ensures { result ≡ other_kind kind }
 {
     match kind {
         Kind::Front => Kind::Packed,
@@ -30,8 +32,8 @@ fn place_line(
     at: usize,
 ) -> usize
     requires answered { Answered n k ring.now }
-    requires record_room_in_bounds { at + recordRoom ≤ length buf.old }
-    ensures { Placed buf.old at (recordLine at_record kind n k ring.now) result buf.new }
+    requires record_room_in_bounds { at + record_room ≤ length buf.old }
+    ensures { Placed buf.old at (record_line at_record kind n k ring.now) result buf.new }
 {
     let numbers = [at_record, n, k];
     match kind {
@@ -52,8 +54,8 @@ fn place_line(
 // The bytes of the record of a ring. A ring that passes the checks is not refused where there is room.
 pub fn place_bytes(k: usize, kind: Kind, ring: &[u8], buf: &mut [u8], at: usize) -> usize
     requires answered { Answered (length ring.now) k ring.now }
-    requires record_room_in_bounds { at + recordRoom ≤ length buf.old }
-    ensures { Puts (Filled ring.now k kind) recordRoom buf.old at result buf.new }
+    requires record_room_in_bounds { at + record_room ≤ length buf.old }
+    ensures { Puts (Filled ring.now k kind) record_room buf.old at result buf.new }
 {
     match writer::write_record(ring, k, kind, buf, at) {
         Written::After(e) => e,
@@ -73,8 +75,8 @@ pub fn place_record(
     at: usize,
 ) -> usize
     requires answered { Answered n k ring.now }
-    requires record_room_in_bounds { at + recordRoom ≤ length buf.old }
-    ensures { Puts (Shows job at_record n k kind ring.now) recordRoom buf.old at result buf.new }
+    requires record_room_in_bounds { at + record_room ≤ length buf.old }
+    ensures { Puts (Shows job at_record n k kind ring.now) record_room buf.old at result buf.new }
 {
     match job {
         Job::Read => place_line(at_record, n, k, kind, ring, buf, at),

@@ -1,6 +1,6 @@
 -- What each time w through a catalogue does.
 --     writes_of w                     is what a block shows written?
---     fileFailedOf w, refusedOf w r  how a run ends where a read fails, and where a piece is refused
+--     file_failed_of w, refused_of w r  how a run ends where a read fails, and where a piece is refused
 use Rattle.std.specs.Prelude.{Bool, true, false}
 use Rattle.refusal.specs.declared.Refusal.{Refusal}
 use Rattle.refusal.specs.Numbers.{number_of, place_of}
@@ -14,12 +14,12 @@ writes_of Only = true
 writes_of First = false
 writes_of Second = true
 
-abbrev pub fileFailedOf : Time → Ending
-fileFailedOf Only = E.Unread
-fileFailedOf First = E.Unread
-fileFailedOf Second = E.Lost
+abbrev pub file_failed_of : Time → Ending
+file_failed_of Only = E.Unread
+file_failed_of First = E.Unread
+file_failed_of Second = E.Lost
 
-abbrev pub refusedOf : Time → Refusal → Ending
-refusedOf Only r = E.Whole
-refusedOf First r = E.Refused (number_of r) (place_of r)
-refusedOf Second r = E.Changed
+abbrev pub refused_of : Time → Refusal → Ending
+refused_of Only r = E.Whole
+refused_of First r = E.Refused (number_of r) (place_of r)
+refused_of Second r = E.Changed

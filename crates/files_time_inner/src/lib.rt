@@ -1,7 +1,9 @@
 // Which time through a catalogue it is: whether what a block shows is written, and how a run ends. No public calls: no contract can say what is read and written.
 
+#![tactic(auto)]
+
 ghost use Rattle.std.specs.Prelude.{◌≡◌};
-ghost use Rattle.files_time_inner.specs.Says.{writes_of, fileFailedOf, refusedOf};
+ghost use Rattle.files_time_inner.specs.Says.{writes_of, file_failed_of, refused_of};
 
 use program_ending_inner::Ending;
 use refusal::Refusal;
@@ -27,7 +29,7 @@ pub fn writes(time: Time) -> bool
 
 // How a run ends where a read fails.
 pub fn failed(time: Time) -> Ending
-    ensures { result ≡ fileFailedOf time }
+    ensures { result ≡ file_failed_of time }
 {
     match time {
         Time::Only => Ending::Unread,
@@ -38,7 +40,7 @@ pub fn failed(time: Time) -> Ending
 
 // How a run ends where a piece is refused: the only time that is told in what was written; the second time it is not the file that was checked.
 pub fn refused(time: Time, r: Refusal) -> Ending
-    ensures { result ≡ refusedOf time r }
+    ensures { result ≡ refused_of time r }
 {
     match time {
         Time::Only => Ending::Whole,

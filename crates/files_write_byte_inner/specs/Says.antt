@@ -1,6 +1,6 @@
 -- What taking a byte of the lines promises, and their end. u is what is kept of the line under way before, l' what the lent line holds afterwards; b is the buffer before, b'
 -- afterwards; n lines ended before.
---     mostEnded   fewer lines have ended
+--     most_ended   fewer lines have ended
 --     LinedByte   one byte c: a newline has the line's record placed, and counts; any other byte is added to the line
 --     LinedEnd    the end of the input: the record of a last line without newline, or why it is refused
 use Rattle.std.specs.Prelude.{ℕ, ◌+◌, ◌<◌, ◌≤◌, ◌≡◌, List, [], ◌∷◌, length, take}
@@ -8,16 +8,16 @@ use Rattle.text_spec.specs.Ascii.{newline}
 use Rattle.record_spec.specs.declared.Kind.{Kind}
 use Rattle.stream_spec.specs.Lines.{ended}
 use Rattle.stream_spec.specs.Blocks.{ByteSays, EndSays}
-use Rattle.files_text_inner.specs.Room.{recordRoom}
-use Rattle.files_write_spec.specs.RingLines.{mostKept, LineWrites, LineRefused}
+use Rattle.files_text_inner.specs.Room.{record_room}
+use Rattle.files_write_spec.specs.RingLines.{most_kept, LineWrites, LineRefused}
 use Rattle.files_write_byte_inner.specs.declared.Lined.{Lined}
 use Rattle.files_write_byte_inner.specs.declared.Lined.TheVariants.{On, Refused}
 
-abbrev pub mostEnded : ℕ
-mostEnded = 9223372036854775808
+abbrev pub most_ended : ℕ
+most_ended = 9223372036854775808
 
 abbrev pub LinedByte : Kind → List ℕ → ℕ → ℕ → List ℕ → ℕ → Lined → List ℕ → List ℕ → Type 0
-LinedByte x u at c b n (On m e k) l' b' = (m ≤ length l') × ByteSays (LineWrites x) mostKept recordRoom u at c b (take m l') e b' × (k ≡ n + length (ended [] (c ∷ [])))
+LinedByte x u at c b n (On m e k) l' b' = (m ≤ length l') × ByteSays (LineWrites x) most_kept record_room u at c b (take m l') e b' × (k ≡ n + length (ended [] (c ∷ [])))
 LinedByte x u at c b n (Refused r k) l' b' = (c ≡ newline) × LineRefused u r × (k ≡ n + 1)
 
 abbrev pub LinedEnd : Kind → List ℕ → List ℕ → ℕ → Lined → List ℕ → Type 0

@@ -1,9 +1,11 @@
 // One byte more of the lines that write a catalogue, and their end. No public calls.
 
+#![tactic(auto)]
+
 ghost use Rattle.std.specs.Prelude.{◌+◌, ◌<◌, ◌≤◌, ◌≡◌, length, take};
-ghost use Rattle.files_text_inner.specs.Room.{recordRoom};
-ghost use Rattle.files_write_spec.specs.RingLines.{mostKept};
-ghost use Rattle.files_write_byte_inner.specs.Says.{mostEnded, LinedByte, LinedEnd};
+ghost use Rattle.files_text_inner.specs.Room.{record_room};
+ghost use Rattle.files_write_spec.specs.RingLines.{most_kept};
+ghost use Rattle.files_write_byte_inner.specs.Says.{most_ended, LinedByte, LinedEnd};
 
 use record_spec::{Kind, Written};
 use refusal::Refusal;
@@ -26,10 +28,10 @@ pub fn take_byte(
     at: usize,
     lines: usize,
 ) -> Lined
-    requires line_len { length line.old ≡ mostKept }
+    requires line_len { length line.old ≡ most_kept }
     requires len_in_bounds { len ≤ length line.old }
-    requires record_room_in_bounds { at + recordRoom ≤ length buf.old }
-    requires lines_lt_most_ended { lines < mostEnded }
+    requires record_room_in_bounds { at + record_room ≤ length buf.old }
+    requires lines_lt_most_ended { lines < most_ended }
     ensures { LinedByte kind (take len line.old) at b buf.old lines result line.new buf.new }
 {
     if b == b'\n' {
@@ -47,8 +49,8 @@ pub fn take_byte(
 
 // The end of the input: the record of a last line that has no newline.
 pub fn take_last(kind: Kind, line: &[u8], buf: &mut [u8], lines: usize) -> Lined
-    requires record_room_in_bounds { recordRoom ≤ length buf.old }
-    requires lines_lt_most_ended { lines < mostEnded }
+    requires record_room_in_bounds { record_room ≤ length buf.old }
+    requires lines_lt_most_ended { lines < most_ended }
     ensures { LinedEnd kind line.now buf.old lines result buf.new }
 {
     if line.len() == 0 {

@@ -1,9 +1,11 @@
 // How a run of the programs that write a catalogue from lines ended, by which time it is, and what is said of that. No public calls: no contract can say what is
 // written.
 
+#![tactic(auto)]
+
 ghost use Rattle.std.specs.Prelude.{◌≤◌, ◌≡◌, length};
 ghost use Rattle.text_spec.specs.Put.{Placed};
-ghost use Rattle.files_write_ending_inner.specs.Endings.{lineRefusedOf, lineFailedOf, writesRecords, HandedOn, endedRoom, endedText};
+ghost use Rattle.files_write_ending_inner.specs.Endings.{line_refused_of, line_failed_of, writes_records, HandedOn, ended_room, ended_text};
 
 use libc::STDOUT_FILENO;
 use program_ending_inner::Ending;
@@ -25,7 +27,7 @@ pub enum Ended {
 
 // How a run ends where a line is refused: the second time it is not the input that was checked.
 pub fn refused(time: Time, r: Refusal, n: usize) -> Ended
-    ensures { result ≡ lineRefusedOf time r n }
+    ensures { result ≡ line_refused_of time r n }
 {
     match time {
         Time::First => Ended::Line(r, n),
@@ -35,7 +37,7 @@ pub fn refused(time: Time, r: Refusal, n: usize) -> Ended
 
 // How a run ends where a read fails.
 pub fn failed(time: Time) -> Ended
-    ensures { result ≡ lineFailedOf time }
+    ensures { result ≡ line_failed_of time }
 {
     match time {
         Time::First => Ended::As(Ending::Unread),
@@ -45,7 +47,7 @@ pub fn failed(time: Time) -> Ended
 
 // Whether records are written.
 fn writes(time: Time) -> bool
-    ensures { result ≡ writesRecords time }
+    ensures { result ≡ writes_records time }
 {
     match time {
         Time::First => false,
@@ -65,9 +67,9 @@ pub fn hand_on(time: Time, records: &[u8]) -> bool
 
 // What is said of how a run ended, at the beginning of the buffer, and its length.
 pub fn say_ended(e: Ended, buf: &mut [u8]) -> usize
-    requires { endedRoom ≤ length buf.old }
-    ensures placed { Placed buf.old 0 (endedText e) result buf.new }
-    ensures upper_bound { result ≤ endedRoom }
+    requires { ended_room ≤ length buf.old }
+    ensures placed { Placed buf.old 0 (ended_text e) result buf.new }
+    ensures upper_bound { result ≤ ended_room }
 {
     match e {
         Ended::Line(r, n) => program_refusal_inner::place_refused_line(r, n, buf),

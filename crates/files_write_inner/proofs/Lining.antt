@@ -10,8 +10,8 @@ use Rattle.record_spec.specs.declared.Kind.{Kind}
 use Rattle.stream_spec.specs.Lines.{ended, under}
 use Rattle.stream_spec.proofs.Bytes.{ended-newline, ended-other, ended-none, ended-append}
 use Rattle.stream_spec.proofs.Taking.{Taking}
-use Rattle.files_text_inner.specs.Room.{recordRoom}
-use Rattle.files_write_spec.specs.RingLines.{mostKept, LineWrites, LineRefused}
+use Rattle.files_text_inner.specs.Room.{record_room}
+use Rattle.files_write_spec.specs.RingLines.{most_kept, LineWrites, LineRefused}
 use Rattle.files_write_spec.proofs.Cut.{ended-many}
 use Rattle.files_write_inner.specs.Says.{RefusedIn}
 
@@ -45,7 +45,7 @@ count-few c m k i n e l =
 
 -- ---- the first refused line
 
-module _ (x : Kind) (u s b₀ : List ℕ) (i : ℕ) (v : List ℕ) (at : ℕ) (b : List ℕ) (t : Taking (LineWrites x) mostKept recordRoom u s b₀ i v at b) where
+module _ (x : Kind) (u s b₀ : List ℕ) (i : ℕ) (v : List ℕ) (at : ℕ) (b : List ℕ) (t : Taking (LineWrites x) most_kept record_room u s b₀ i v at b) where
   pub block_refused : i < length s → (n m : ℕ) → m ≡ n + length (ended u (take i s)) → (r : Refusal) (k : ℕ) → (get_or s i 0 ≡ newline) × LineRefused v r × (k ≡ m + 1) →
       (j : ℕ) × (j < length s) × (get_or s j 0 ≡ newline) × RefusedIn x u (take j s) n r k
   block_refused l n m e r k h =

@@ -9,16 +9,16 @@ use Rattle.record_spec.specs.declared.Kind.{Kind}
 use Rattle.stream_spec.specs.Lines.{ended, under}
 use Rattle.stream_spec.specs.Texts.{Texts}
 use Rattle.stream_spec.specs.Blocks.{BlockSays}
-use Rattle.files_write_spec.specs.RingLines.{mostKept, LineWrites, LineRefused}
+use Rattle.files_write_spec.specs.RingLines.{most_kept, LineWrites, LineRefused}
 use Rattle.files_write_byte_inner.specs.declared.Lined.{Lined}
 use Rattle.files_write_byte_inner.specs.declared.Lined.TheVariants.{On, Refused}
 
 pub record RefusedIn (x : Kind) (u s : List ℕ) (n : ℕ) (r : Refusal) (m : ℕ) : Type 0 where
   pub text : List ℕ
   pub writes : Texts (LineWrites x) (ended u s) text
-  pub refused : LineRefused (take mostKept (under u s)) r
+  pub refused : LineRefused (take most_kept (under u s)) r
   pub number : m ≡ n + length (ended u s) + 1
 
 abbrev pub LinedSays : Kind → List ℕ → List ℕ → List ℕ → ℕ → Lined → List ℕ → List ℕ → Type 0
-LinedSays x u s b n (On m e k) l' b' = (m ≤ length l') × BlockSays (LineWrites x) mostKept u s b (take m l') e b' × (k ≡ n + length (ended u s))
+LinedSays x u s b n (On m e k) l' b' = (m ≤ length l') × BlockSays (LineWrites x) most_kept u s b (take m l') e b' × (k ≡ n + length (ended u s))
 LinedSays x u s b n (Refused r k) l' b' = (i : ℕ) × (i < length s) × (get_or s i 0 ≡ newline) × RefusedIn x u (take i s) n r k

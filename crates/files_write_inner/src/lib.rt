@@ -1,9 +1,11 @@
 // The bytes of a block of lines that write a catalogue, one after another. No public calls.
 
+#![tactic(auto)]
+
 ghost use Rattle.std.specs.Prelude.{◌+◌, ◌*◌, ◌<◌, ◌≤◌, ◌≡◌, length, take};
-ghost use Rattle.files_text_inner.specs.Room.{recordRoom};
-ghost use Rattle.files_write_spec.specs.RingLines.{mostKept};
-ghost use Rattle.files_write_byte_inner.specs.Says.{mostEnded};
+ghost use Rattle.files_text_inner.specs.Room.{record_room};
+ghost use Rattle.files_write_spec.specs.RingLines.{most_kept};
+ghost use Rattle.files_write_byte_inner.specs.Says.{most_ended};
 ghost use Rattle.files_write_inner.specs.Says.{LinedSays};
 
 use files_write_byte_inner::Lined;
@@ -18,10 +20,10 @@ pub fn take_bytes(
     buf: &mut [u8],
     lines: usize,
 ) -> Lined
-    requires line_len { length line.old ≡ mostKept }
+    requires line_len { length line.old ≡ most_kept }
     requires len_in_bounds { len ≤ length line.old }
-    requires record_room_in_bounds { length block.now * recordRoom ≤ length buf.old }
-    requires block_bound { lines + length block.now < mostEnded }
+    requires record_room_in_bounds { length block.now * record_room ≤ length buf.old }
+    requires block_bound { lines + length block.now < most_ended }
     ensures { LinedSays kind (take len line.old) block.now buf.old lines result line.new buf.new }
 {
     let mut m = len;

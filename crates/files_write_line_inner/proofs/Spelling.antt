@@ -2,7 +2,7 @@
 --     no-spelt, spelt-answer                   by what the writer answered of a spelt reading
 --     line-long, line-headless, line-spelt     by what stands behind the number of shades
 use Rattle.words.proofs.Plain.{ℕ, ◌+◌, ◌-◌, ◌<◌, ◌≤◌, arith, ◌≡◌, refl, ap, ◌∙◌, inl, inr, List, [], ◌∷◌, map, length, take, drop, length-drop}
-use Rattle.text_spec.specs.{Decimal.decimal, Text.hexOf}
+use Rattle.text_spec.specs.{Decimal.decimal, Text.hex_of}
 use Rattle.text_words_spec.specs.Words.{Spelt}
 use Rattle.text_words_spec.proofs.{Pieces.pieces-single, Spelling.spelt-plain}
 use Rattle.refusal.specs.declared.Refusal.TheVariants.{Line}
@@ -10,7 +10,7 @@ use Rattle.record_spec.specs.{declared.Kind.Kind, declared.Written.Written, Writ
 use Rattle.record_spec.specs.declared.Written.TheVariants as W
 use Rattle.desk_words_inner.specs.{declared.Head.TheVariants.Number, declared.Head.TheVariants.Malformed, Says.HeadSays}
 use Rattle.desk_words_inner.proofs.{Heads.rest-words, Shapes.rest_all, Shapes.no-reading}
-use Rattle.files_text_inner.specs.Room.{recordRoom}
+use Rattle.files_text_inner.specs.Room.{record_room}
 use Rattle.files_text_inner.proofs.Placing.{record-short, wrote-puts}
 use Rattle.files_write_spec.specs.RingLines.{RingLine, unread, given}
 use Rattle.files_write_line_inner.specs.Says.{unspelt, refused, RingSpelt, LineSays}
@@ -23,7 +23,7 @@ module _ (x : Kind) (k : ℕ) (t b : List ℕ) (at : ℕ) where
   no-spelt n = (unspelt n refl, refl)
 
   -- what the writer answered
-  pub spelt-answer : (w : List ℕ) → Spelt t w → at + recordRoom ≤ length b → (r : Written) (d : List ℕ) → WriteSays w k x b at r d → RingSpelt x k t b at r d
+  pub spelt-answer : (w : List ℕ) → Spelt t w → at + record_room ≤ length b → (r : Written) (d : List ℕ) → WriteSays w k x b at r d → RingSpelt x k t b at r d
   spelt-answer w s l (W.After e) d h = (w, s, wrote-puts w k x h.passed b at e d l h)
   spelt-answer w s l (W.Refused r) d (inl g, e) = (refused w s g, e)
   spelt-answer w s l (W.Refused r) d (inr g, e) = absurd (g.1.1 (omega (arith, record-short w k x g.0, length-drop at b, l)))
@@ -51,7 +51,7 @@ module _ (x : Kind) (s b : List ℕ) (at : ℕ) where
         }
 
     ring-back : (q : ℕ × List ℕ) → RingLine s q → Spelt (drop e s) q.1
-    ring-back q a = record { digits = pieces-single 32 (drop e s) _ (rest-words s k e h q.0 (map hexOf q.1 ∷ []) a.reads.words); below = a.reads.sectors }
+    ring-back q a = record { digits = pieces-single 32 (drop e s) _ (rest-words s k e h q.0 (map hex_of q.1 ∷ []) a.reads.words); below = a.reads.sectors }
 
     -- what was answered of what stands behind the number
     pub line-spelt : length s ≤ 4095 → (r : Written) (d : List ℕ) → RingSpelt x k (take (length s - e) (drop e s)) b at r d → LineSays x s b at r d

@@ -14,9 +14,9 @@ use Rattle.record_spec.specs.declared.Kind.{Kind}
 use Rattle.stream_spec.specs.Lines.{ended}
 use Rattle.program_ending_inner.specs.declared.Ending.{Ending}
 use Rattle.program_ending_inner.specs.declared.Ending.TheVariants as E
-use Rattle.program_passes_inner.specs.Passes.{sameEnd}
-use Rattle.files_text_inner.specs.Room.{recordRoom}
-use Rattle.files_write_spec.specs.{Inputs.LinesWrite, Inputs.FirstRefused, RingLines.mostKept}
+use Rattle.program_passes_inner.specs.Passes.{same_end}
+use Rattle.files_text_inner.specs.Room.{record_room}
+use Rattle.files_write_spec.specs.{Inputs.LinesWrite, Inputs.FirstRefused, RingLines.most_kept}
 use Rattle.files_write_spec.proofs.Cut.{Gone, gone-none, gone-on, gone-last, gone-refused, last-refused, gone-few}
 use Rattle.files_write_byte_inner.specs.declared.Lined.TheVariants as L
 use Rattle.files_write_byte_inner.specs.Says.{LinedEnd}
@@ -24,7 +24,7 @@ use Rattle.files_write_inner.specs.Says.{LinedSays}
 use Rattle.files_write_ending_inner.specs.declared.Time.{Time}
 use Rattle.files_write_ending_inner.specs.declared.Time.TheVariants.{First, Second}
 use Rattle.files_write_ending_inner.specs.{declared.Ended.Ended, declared.Ended.TheVariants.Line, declared.Ended.TheVariants.As}
-use Rattle.files_write_ending_inner.specs.Endings.{lineRefusedOf, lineFailedOf, HandedOn}
+use Rattle.files_write_ending_inner.specs.Endings.{line_refused_of, line_failed_of, HandedOn}
 use Rattle.files_write_program_inner.specs.{declared.Turn.Turn, declared.Pass.Pass}
 use Rattle.files_write_program_inner.specs.declared.Turn.TheVariants.{On, Done, Stopped}
 use Rattle.files_write_program_inner.specs.declared.Pass.TheVariants as P
@@ -36,8 +36,8 @@ pub lines-roomy : (b l d f g h : List ℕ) → RoomyLines b l d → length f ≡
 lines-roomy b l d f g h r i j k = record { some = omega (arith, r.some); short = omega (arith, r.short); kept = j ∙ r.kept; room = rw (i, k) r.room }
 
 -- a part of a block has room too, and so has a line
-pub part_room : (n m d : ℕ) → n ≤ m → m * recordRoom ≤ d → n * recordRoom ≤ d
-part_room n m d l h = omega (arith, mul-le-mul_right {m = n} {n = m} recordRoom l)
+pub part_room : (n m d : ℕ) → n ≤ m → m * record_room ≤ d → n * record_room ≤ d
+part_room n m d l h = omega (arith, mul-le-mul_right {m = n} {n = m} record_room l)
 
 -- only the second time a write can fail
 pub handed-second : (w : Time) (r : Bool) → HandedOn w r → r ≡ false → w ≡ Second
@@ -51,10 +51,10 @@ which (On a m n) = 0
 which Done = 1
 which (Stopped t) = 2
 
-abbrev usedOf : Turn → ℕ
-usedOf (On a m n) = a
-usedOf Done = 0
-usedOf (Stopped t) = 0
+abbrev used_of : Turn → ℕ
+used_of (On a m n) = a
+used_of Done = 0
+used_of (Stopped t) = 0
 
 abbrev held_of : Turn → ℕ
 held_of (On a m n) = m
@@ -66,10 +66,10 @@ lines_of (On a m n) = n
 lines_of Done = 0
 lines_of (Stopped t) = 0
 
-abbrev whyOf : Turn → Ended
-whyOf (On a m n) = As E.Whole
-whyOf Done = As E.Whole
-whyOf (Stopped t) = t
+abbrev why_of : Turn → Ended
+why_of (On a m n) = As E.Whole
+why_of Done = As E.Whole
+why_of (Stopped t) = t
 
 other : (a b : Turn) (x y : ℕ) → a ≡ b → which a ≡ x → which b ≡ y → (x ≡ y → ⊥) → ⊥
 other a b x y e f g n = n (sym f ∙ ap which e ∙ g)
@@ -86,11 +86,11 @@ reached-none x l = ([], refl, gone-none x)
 pub reached-few : (x : Kind) (at : ℕ) (u : List ℕ) (n : ℕ) → Reached x at u n → n ≤ at
 reached-few x at u n (c, l, g) = omega (arith, l, gone-few x c u n g)
 
-refused-stops : (x : Kind) (w : Time) (c : List ℕ) (r : Refusal) (n : ℕ) → FirstRefused x c n r → LineStopSays x w (lineRefusedOf w r n)
+refused-stops : (x : Kind) (w : Time) (c : List ℕ) (r : Refusal) (n : ℕ) → FirstRefused x c n r → LineStopSays x w (line_refused_of w r n)
 refused-stops x First c r n h = (refl, (c, h))
 refused-stops x Second c r n h = refl
 
-failed-stops : (x : Kind) (w : Time) → LineStopSays x w (lineFailedOf w)
+failed-stops : (x : Kind) (w : Time) → LineStopSays x w (line_failed_of w)
 failed-stops x First = refl
 failed-stops x Second = refl
 
@@ -100,7 +100,7 @@ module _ (x : Kind) (w : Time) (at : ℕ) (u : List ℕ) (n : ℕ) (q : Reached 
   turn_on s o l d a m k e (unwritten f g) = absurd (other _ _ 0 2 (sym e ∙ g) refl refl (λ z. omega arith))
   turn_on s o l d a m k e (gone i j p h g) =
       let z = sym e ∙ g in
-      let used : a ≡ length s = ap usedOf z in
+      let used : a ≡ length s = ap used_of z in
       let held : m ≡ i = ap held_of z in
       let ends : k ≡ p = ap lines_of z in
       let on = gone-on x q.0 u n q.2 s h.1.text (take m l) k h.1.says (rw held h.1.line) (ends ∙ h.2) in
@@ -113,12 +113,12 @@ module _ (x : Kind) (w : Time) (at : ℕ) (u : List ℕ) (n : ℕ) (q : Reached 
 
   turn_stopped : (s o l d : List ℕ) (t : Ended) → v ≡ Stopped t → LineTurnSays x w u s n o v l d → LineStopSays x w t
   turn_stopped s o l d t e (gone i j p h g) = absurd (other _ _ 2 0 (sym e ∙ g) refl refl (λ z. omega arith))
-  turn_stopped s o l d t e (unwritten f g) = let k : t ≡ As E.Unwritten = ap whyOf (sym e ∙ g) in rw k f
+  turn_stopped s o l d t e (unwritten f g) = let k : t ≡ As E.Unwritten = ap why_of (sym e ∙ g) in rw k f
   turn_stopped s o l d t e (bad r k (i, a, b, h) g) =
       let c = take i s in
-      let on = gone-on x q.0 u n q.2 c h.text (take mostKept (Rattle.stream_spec.specs.Lines.under u c)) (n + length (ended u c)) h.writes refl refl in
+      let on = gone-on x q.0 u n q.2 c h.text (take most_kept (Rattle.stream_spec.specs.Lines.under u c)) (n + length (ended u c)) h.writes refl refl in
       let f = gone-refused x (q.0 ++ c) _ _ on r h.refused in
-      let y : t ≡ lineRefusedOf w r k = ap whyOf (sym e ∙ g) in
+      let y : t ≡ line_refused_of w r k = ap why_of (sym e ∙ g) in
       rw (y, h.number) (refused-stops x w _ r _ f)
 
   last_on : (o d : List ℕ) (a m k : ℕ) → v ≡ On a m k → LineLastSays x w u n o v d → ⊥
@@ -133,9 +133,9 @@ module _ (x : Kind) (w : Time) (at : ℕ) (u : List ℕ) (n : ℕ) (q : Reached 
 
   last-stopped : (o d : List ℕ) (t : Ended) → v ≡ Stopped t → LineLastSays x w u n o v d → LineStopSays x w t
   last-stopped o d t e (over i j p h g) = absurd (other _ _ 2 1 (sym e ∙ g) refl refl (λ z. omega arith))
-  last-stopped o d t e (unsaid f g) = let k : t ≡ As E.Unwritten = ap whyOf (sym e ∙ g) in rw k f
+  last-stopped o d t e (unsaid f g) = let k : t ≡ As E.Unwritten = ap why_of (sym e ∙ g) in rw k f
   last-stopped o d t e (worse r k (a, h, f) g) =
-      let y : t ≡ lineRefusedOf w r k = ap whyOf (sym e ∙ g) in
+      let y : t ≡ line_refused_of w r k = ap why_of (sym e ∙ g) in
       rw (y, f) (refused-stops x w q.0 r (n + 1) (last-refused x q.0 u n q.2 r a h))
 
   pub line_on : (b o l d : List ℕ) (a m k : ℕ) → 0 < length b → v ≡ On a m k → LineAtSays x w u b n o v l d → (0 < a) × (a ≤ length b) × (m ≤ length l) × Reached x (at + a) (take m l) k
@@ -151,7 +151,7 @@ module _ (x : Kind) (w : Time) (at : ℕ) (u : List ℕ) (n : ℕ) (q : Reached 
   line-done b o l d e (last h) = last_done o d e h
 
   pub line-stopped : (b o l d : List ℕ) (t : Ended) → v ≡ Stopped t → LineAtSays x w u b n o v l d → LineStopSays x w t
-  line-stopped b o l d t e (unread f) = let k : t ≡ lineFailedOf w = ap whyOf (sym e ∙ f) in rw k (failed-stops x w)
+  line-stopped b o l d t e (unread f) = let k : t ≡ line_failed_of w = ap why_of (sym e ∙ f) in rw k (failed-stops x w)
   line-stopped b o l d t e (full h) = turn_stopped b o l d t e h
   line-stopped b o l d t e (some j y f h) = turn_stopped (take j b) o l d t e h
   line-stopped b o l d t e (last h) = last-stopped o d t e h
@@ -169,12 +169,12 @@ pub too_long : (x : Kind) (w : Time) (at : ℕ) (u : List ℕ) (n : ℕ) → Rat
 too_long x w at u n h (c, l, g) = (c, g.text, omega (arith, l, h), g.writes)
 
 -- the two ends compared
-pub written-through : (x : Kind) (e a : ℕ) (t : Ending) → LinesThrough x a → t ≡ sameEnd e a → LineWrittenSays x e (As t)
-unfolding sameEnd
+pub written-through : (x : Kind) (e a : ℕ) (t : Ending) → LinesThrough x a → t ≡ same_end e a → LineWrittenSays x e (As t)
+unfolding same_end
 written-through x e a t h f =
     elim (test (eqb e a)) [
-      | passes g ↦ let q : LinesThrough x e = rw (eqb-true e a g) h in inl (q, ap As (rw (g, sameEnd) at f))
-      | fails g ↦ let q : t ≡ E.Changed = rw (g, sameEnd) at f in inr (rw q refl)
+      | passes g ↦ let q : LinesThrough x e = rw (eqb-true e a g) h in inl (q, ap As (rw (g, same_end) at f))
+      | fails g ↦ let q : t ≡ E.Changed = rw (g, same_end) at f in inr (rw q refl)
     ]
 
 pub both-through : (x : Kind) (e : ℕ) (t : Ended) → LineWrittenSays x e t → LineThroughSays x t

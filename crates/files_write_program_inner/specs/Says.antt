@@ -15,8 +15,8 @@ use Rattle.stream_spec.specs.Lines.{ended}
 use Rattle.stream_spec.specs.Texts.{Texts}
 use Rattle.program_ending_inner.specs.declared.Ending.TheVariants as E
 use Rattle.program_passes_inner.specs.Passes.{limit}
-use Rattle.files_text_inner.specs.Room.{recordRoom}
-use Rattle.files_write_spec.specs.RingLines.{mostKept, LineWrites}
+use Rattle.files_text_inner.specs.Room.{record_room}
+use Rattle.files_write_spec.specs.RingLines.{most_kept, LineWrites}
 use Rattle.files_write_spec.specs.Inputs.{LinesWrite, FirstRefused}
 use Rattle.files_write_byte_inner.specs.declared.Lined.TheVariants as L
 use Rattle.files_write_byte_inner.specs.Says.{LinedEnd}
@@ -25,7 +25,7 @@ use Rattle.files_write_ending_inner.specs.declared.Time.{Time}
 use Rattle.files_write_ending_inner.specs.declared.Time.TheVariants.{First, Second}
 use Rattle.files_write_ending_inner.specs.declared.Ended.{Ended}
 use Rattle.files_write_ending_inner.specs.declared.Ended.TheVariants.{Line, As}
-use Rattle.files_write_ending_inner.specs.Endings.{lineRefusedOf, lineFailedOf}
+use Rattle.files_write_ending_inner.specs.Endings.{line_refused_of, line_failed_of}
 use Rattle.files_write_program_inner.specs.declared.Turn.{Turn}
 use Rattle.files_write_program_inner.specs.declared.Turn.TheVariants.{On, Done, Stopped}
 use Rattle.files_write_program_inner.specs.declared.Pass.{Pass}
@@ -34,24 +34,24 @@ use Rattle.files_write_program_inner.specs.declared.Pass.TheVariants as P
 pub record RoomyLines (b l d : List ℕ) : Type 0 where
   pub some : 0 < length b
   pub short : length b ≤ 65536
-  pub kept : length l ≡ mostKept
-  pub room : length b * recordRoom ≤ length d
+  pub kept : length l ≡ most_kept
+  pub room : length b * record_room ≤ length d
 
 -- ---- a block
 
 pub data LineTurnSays (x : Kind) (w : Time) (u s : List ℕ) (n : ℕ) (o : List ℕ) (v : Turn) (l d : List ℕ) : Type 0 where
   gone : (m e k : ℕ) → LinedSays x u s o n (L.On m e k) l d → v ≡ On (length s) m k → LineTurnSays x w u s n o v l d
-  bad : (r : Refusal) (k : ℕ) → LinedSays x u s o n (L.Refused r k) l d → v ≡ Stopped (lineRefusedOf w r k) → LineTurnSays x w u s n o v l d
+  bad : (r : Refusal) (k : ℕ) → LinedSays x u s o n (L.Refused r k) l d → v ≡ Stopped (line_refused_of w r k) → LineTurnSays x w u s n o v l d
   unwritten : w ≡ Second → v ≡ Stopped (As E.Unwritten) → LineTurnSays x w u s n o v l d
 
 pub data LineLastSays (x : Kind) (w : Time) (u : List ℕ) (n : ℕ) (o : List ℕ) (v : Turn) (d : List ℕ) : Type 0 where
   over : (m e k : ℕ) → LinedEnd x u o n (L.On m e k) d → v ≡ Done → LineLastSays x w u n o v d
-  worse : (r : Refusal) (k : ℕ) → LinedEnd x u o n (L.Refused r k) d → v ≡ Stopped (lineRefusedOf w r k) → LineLastSays x w u n o v d
+  worse : (r : Refusal) (k : ℕ) → LinedEnd x u o n (L.Refused r k) d → v ≡ Stopped (line_refused_of w r k) → LineLastSays x w u n o v d
   unsaid : w ≡ Second → v ≡ Stopped (As E.Unwritten) → LineLastSays x w u n o v d
 
 -- what stands in the lent block afterwards was read: all of it, or its first m bytes; or nothing, and the input is over
 pub data LineAtSays (x : Kind) (w : Time) (u b : List ℕ) (n : ℕ) (o : List ℕ) (v : Turn) (l d : List ℕ) : Type 0 where
-  unread : v ≡ Stopped (lineFailedOf w) → LineAtSays x w u b n o v l d
+  unread : v ≡ Stopped (line_failed_of w) → LineAtSays x w u b n o v l d
   full : LineTurnSays x w u b n o v l d → LineAtSays x w u b n o v l d
   some : (m : ℕ) → 0 < m → m < length b → LineTurnSays x w u (take m b) n o v l d → LineAtSays x w u b n o v l d
   last : LineLastSays x w u n o v d → LineAtSays x w u b n o v l d

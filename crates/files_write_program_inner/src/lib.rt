@@ -1,11 +1,13 @@
 // The programs that write a catalogue from lines, a ring each. No public calls: no contract can say what is read and written.
 // They go through the lines on standard input twice: the first time each is checked, and nothing is written; the second time the records are written, block after block.
 
+#![tactic(auto)]
+
 ghost use Rattle.std.specs.Prelude.{◌+◌, ◌*◌, ◌<◌, ◌≤◌, ◌≡◌, length, take};
 ghost use Rattle.program_passes_inner.specs.Passes.{limit};
-ghost use Rattle.files_text_inner.specs.Room.{recordRoom};
-ghost use Rattle.files_write_spec.specs.RingLines.{mostKept};
-ghost use Rattle.files_write_byte_inner.specs.Says.{mostEnded};
+ghost use Rattle.files_text_inner.specs.Room.{record_room};
+ghost use Rattle.files_write_spec.specs.RingLines.{most_kept};
+ghost use Rattle.files_write_byte_inner.specs.Says.{most_ended};
 ghost use Rattle.files_write_program_inner.specs.Says.{RoomyLines, LineTurnSays, LineLastSays, LineAtSays, LinePassSays, LineWrittenSays, LineThroughSays};
 
 use files_write_byte_inner::Lined;
@@ -41,10 +43,10 @@ fn take_block(
     lines: usize,
     out: &mut [u8],
 ) -> Turn
-    requires line_len { length line.old ≡ mostKept }
+    requires line_len { length line.old ≡ most_kept }
     requires len_in_bounds { len ≤ length line.old }
-    requires record_room_in_bounds { length block.now * recordRoom ≤ length out.old }
-    requires block_bound { lines + length block.now < mostEnded }
+    requires record_room_in_bounds { length block.now * record_room ≤ length out.old }
+    requires block_bound { lines + length block.now < most_ended }
     ensures { LineTurnSays kind time (take len line.old) block.now lines out.old result line.new out.new }
 {
     match files_write_inner::take_bytes(kind, line, len, block, out, lines) {
@@ -60,8 +62,8 @@ fn take_block(
 
 // The end of the input.
 fn take_end(kind: Kind, time: Time, line: &[u8], lines: usize, out: &mut [u8]) -> Turn
-    requires record_room_in_bounds { recordRoom ≤ length out.old }
-    requires lines_lt_most_ended { lines < mostEnded }
+    requires record_room_in_bounds { record_room ≤ length out.old }
+    requires lines_lt_most_ended { lines < most_ended }
     ensures { LineLastSays kind time line.now lines out.old result out.new }
 {
     match files_write_byte_inner::take_last(kind, line, out, lines) {

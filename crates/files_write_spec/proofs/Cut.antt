@@ -17,38 +17,38 @@ use Rattle.stream_spec.specs.Texts.{Texts, done, more, Tells, BlockRun}
 use Rattle.stream_spec.proofs.Bytes.{ended-newline, ended-other, under-newline, under-other, ended-none, under_none, ended-append, under-append, ended-on, under-on, last_some, last_none}
 use Rattle.stream_spec.proofs.Unique.{texts-append}
 use Rattle.stream_spec.proofs.Cut.{kept_on, tells-same, lines-kept, run-prints, cut-anyhow}
-use Rattle.files_write_spec.specs.RingLines.{mostKept, RingLine, LineWrites, LineRefused, unread, given}
+use Rattle.files_write_spec.specs.RingLines.{most_kept, RingLine, LineWrites, LineRefused, unread, given}
 use Rattle.files_write_spec.specs.Inputs.{LinesWrite, FirstRefused}
 use Rattle.files_write_spec.proofs.Unique.{one-record}
 
-first-long : (s : List ℕ) → 4095 < length s → 4095 < length (take mostKept s)
+first-long : (s : List ℕ) → 4095 < length s → 4095 < length (take most_kept s)
 first-long s h = simp length-take (omega arith)
 
 -- ---- the first bytes tell
 
-pub writes-tells : (x : Kind) → Tells (LineWrites x) mostKept
+pub writes-tells : (x : Kind) → Tells (LineWrites x) most_kept
 writes-tells x =
     record {
       some = omega arith;
       one = λ s. one-record s x;
-      first = λ s t p. elim (dec_lt 4095 (length s)) [ yes h ↦ absurd (omega (arith, p.reads.within, first-long s h)) | no h ↦ rw (take_all mostKept s (omega arith)) at p ];
-      kept = λ s t p. rw (take_all mostKept s (omega (arith, p.reads.within))) p;
+      first = λ s t p. elim (dec_lt 4095 (length s)) [ yes h ↦ absurd (omega (arith, p.reads.within, first-long s h)) | no h ↦ rw (take_all most_kept s (omega arith)) at p ];
+      kept = λ s t p. rw (take_all most_kept s (omega (arith, p.reads.within))) p;
     }
 
-pub refused-first : (s : List ℕ) (r : Refusal) → LineRefused (take mostKept s) r → LineRefused s r
-refused-first s r h = elim (dec_lt 4095 (length s)) [ yes l ↦ long l h | no l ↦ rw (take_all mostKept s (omega arith)) at h ]
+pub refused-first : (s : List ℕ) (r : Refusal) → LineRefused (take most_kept s) r → LineRefused s r
+refused-first s r h = elim (dec_lt 4095 (length s)) [ yes l ↦ long l h | no l ↦ rw (take_all most_kept s (omega arith)) at h ]
   where
-    long : 4095 < length s → LineRefused (take mostKept s) r → LineRefused s r
+    long : 4095 < length s → LineRefused (take most_kept s) r → LineRefused s r
     long l (unread n e) = unread (λ q a. omega (arith, l, a.within)) e
     long l (given q a g) = absurd (omega (arith, a.within, first-long s l))
 
 -- ---- however it was cut
 
-pub run-writes : (x : Kind) (s text : List ℕ) → BlockRun (LineWrites x) mostKept [] s text → LinesWrite x s text
-run-writes x s text r = run-prints (LineWrites x) mostKept (writes-tells x) s text r
+pub run-writes : (x : Kind) (s text : List ℕ) → BlockRun (LineWrites x) most_kept [] s text → LinesWrite x s text
+run-writes x s text r = run-prints (LineWrites x) most_kept (writes-tells x) s text r
 
-pub write-anyhow : (x : Kind) (s t u : List ℕ) → BlockRun (LineWrites x) mostKept [] s t → BlockRun (LineWrites x) mostKept [] s u → t ≡ u
-write-anyhow x s t u p q = cut-anyhow (LineWrites x) mostKept (writes-tells x) s t u p q
+pub write-anyhow : (x : Kind) (s t u : List ℕ) → BlockRun (LineWrites x) most_kept [] s t → BlockRun (LineWrites x) most_kept [] s u → t ≡ u
+write-anyhow x s t u p q = cut-anyhow (LineWrites x) most_kept (writes-tells x) s t u p q
 
 -- ---- behind the beginning of a line
 
@@ -72,31 +72,31 @@ ended-many u v (b ∷ s) =
 
 module _ (x : Kind) where
   -- and the lines that end write the same
-  pub ended-kept : (u v s t : List ℕ) → take mostKept u ≡ take mostKept v → Texts (LineWrites x) (ended u s) t → Texts (LineWrites x) (ended v s) t
+  pub ended-kept : (u v s t : List ℕ) → take most_kept u ≡ take most_kept v → Texts (LineWrites x) (ended u s) t → Texts (LineWrites x) (ended v s) t
   ended-kept u v [] t e p = rw (ended-none v) (rw (ended-none u) at p)
   ended-kept u v (b ∷ s) t e p =
       elim (test (eqb b newline)) [
         | passes f ↦ rw (ended-newline v b s f) (first t (rw (ended-newline u b s f) at p))
-        | fails f ↦ rw (ended-other v b s f) (ended-kept (u ++ (b ∷ [])) (v ++ (b ∷ [])) s t (kept_on mostKept u v b e) (rw (ended-other u b s f) at p))
+        | fails f ↦ rw (ended-other v b s f) (ended-kept (u ++ (b ∷ [])) (v ++ (b ∷ [])) s t (kept_on most_kept u v b e) (rw (ended-other u b s f) at p))
       ]
     where
       first : (y : List ℕ) → Texts (LineWrites x) (u ∷ ended [] s) y → Texts (LineWrites x) (v ∷ ended [] s) y
-      first y (more {t = z} q r) = more (tells-same (LineWrites x) mostKept (writes-tells x) u v z e q) r
+      first y (more {t = z} q r) = more (tells-same (LineWrites x) most_kept (writes-tells x) u v z e q) r
 
   from-none : (u : List ℕ) → lines_from u [] ≡ last_of u
   unfolding lines_from
   from-none u = rw (ended-none u, under_none u)
 
   -- a last line writes the same
-  last-kept : (u v t : List ℕ) → take mostKept u ≡ take mostKept v → Texts (LineWrites x) (last_of u) t → Texts (LineWrites x) (last_of v) t
-  last-kept u v t e p = rw (from-none v) at (lines-kept (LineWrites x) mostKept (writes-tells x) u v [] t e (rw (from-none u) p))
+  last-kept : (u v t : List ℕ) → take most_kept u ≡ take most_kept v → Texts (LineWrites x) (last_of u) t → Texts (LineWrites x) (last_of v) t
+  last-kept u v t e p = rw (from-none v) at (lines-kept (LineWrites x) most_kept (writes-tells x) u v [] t e (rw (from-none u) p))
 
 -- ---- block after block
 
 pub record Gone (x : Kind) (c u : List ℕ) (n : ℕ) : Type 0 where
   pub text : List ℕ
   pub writes : Texts (LineWrites x) (ended [] c) text
-  pub line : u ≡ take mostKept (under [] c)
+  pub line : u ≡ take most_kept (under [] c)
   pub count : n ≡ length (ended [] c)
 
 pub gone-none : (x : Kind) → Gone x [] [] 0
@@ -116,16 +116,16 @@ gone-few x c u n g = omega (arith, g.count, ended-few [] c)
 
 module _ (x : Kind) (c u : List ℕ) (n : ℕ) (g : Gone x c u n) where
   -- what is kept of the line under way is its beginning
-  begun : take mostKept u ≡ take mostKept (under [] c)
-  begun = ap (take mostKept) g.line ∙ take-take mostKept mostKept (under [] c) (omega arith)
+  begun : take most_kept u ≡ take most_kept (under [] c)
+  begun = ap (take most_kept) g.line ∙ take-take most_kept most_kept (under [] c) (omega arith)
 
   -- a block more
-  pub gone-on : (s t v : List ℕ) (m : ℕ) → Texts (LineWrites x) (ended u s) t → v ≡ take mostKept (under u s) → m ≡ n + length (ended u s) → Gone x (c ++ s) v m
+  pub gone-on : (s t v : List ℕ) (m : ℕ) → Texts (LineWrites x) (ended u s) t → v ≡ take most_kept (under u s) → m ≡ n + length (ended u s) → Gone x (c ++ s) v m
   gone-on s t v m p e f =
       record {
         text = g.text ++ t;
         writes = rw (ended-append [] c s) (texts-append (LineWrites x) (ended [] c) (ended (under [] c) s) g.text t g.writes (ended-kept x u (under [] c) s t begun p));
-        line = e ∙ under-kept mostKept u (under [] c) s begun ∙ sym (ap (take mostKept) (under-append [] c s));
+        line = e ∙ under-kept most_kept u (under [] c) s begun ∙ sym (ap (take most_kept) (under-append [] c s));
         count = rw (ended-append [] c s) (f ∙ omega (arith, g.count, ended-many u (under [] c) s, length-append (ended [] c) (ended (under [] c) s)));
       }
 
@@ -154,7 +154,7 @@ module _ (x : Kind) (c u : List ℕ) (n : ℕ) (g : Gone x c u n) where
   pub last-refused : (r : Refusal) → 0 < length u → LineRefused u r → FirstRefused x c (n + 1) r
   unfolding lines lines_from
   last-refused r l h =
-      let some : 0 < length (under [] c) = omega (arith, ap length g.line, l, length-take mostKept (under [] c)) in
+      let some : 0 < length (under [] c) = omega (arith, ap length g.line, l, length-take most_kept (under [] c)) in
       record {
         before = ended [] c;
         line = under [] c;

@@ -8,10 +8,10 @@
 --     never-both-input       and never both
 use Rattle.words.proofs.Plain.{ℕ, suc, arith, ◌≡◌, refl, sym, ap, subst, ◌∙◌, List, [], ◌∷◌, ◌++◌, length}
 use Rattle.text_words_spec.proofs.Pieces.{first-same, behind-same}
-use Rattle.refusal.specs.{declared.Refusal.Refusal, Order.Given, Order.Passed, Calls.oneReading}
+use Rattle.refusal.specs.{declared.Refusal.Refusal, Order.Given, Order.Passed, Calls.one_reading}
 use Rattle.refusal.proofs.Unique.{never_both, one-refusal}
 use Rattle.record_spec.specs.declared.Kind.{Kind}
-use Rattle.record_spec.proofs.Wrote.{recordBytes}
+use Rattle.record_spec.proofs.Wrote.{record_bytes}
 use Rattle.stream_spec.specs.Lines.{lines}
 use Rattle.stream_spec.specs.Texts.{Texts, done, more}
 use Rattle.stream_spec.proofs.Unique.{one-prints}
@@ -27,24 +27,24 @@ module _ (s : List ℕ) where
   one-ring p q a b = one-reading s p q a.reads b.reads
 
   -- what it writes are the bytes of the record of the kind that was asked for
-  pub line-bytes : (x : Kind) (t : List ℕ) (a : LineWrites x s t) → t ≡ recordBytes x a.asked.0 a.asked.1
+  pub line-bytes : (x : Kind) (t : List ℕ) (a : LineWrites x s t) → t ≡ record_bytes x a.asked.0 a.asked.1
   line-bytes x t a = filled-bytes a.asked.1 a.asked.0 x t a.writes
 
   pub one-record : (x : Kind) (t u : List ℕ) → LineWrites x s t → LineWrites x s u → t ≡ u
   one-record x t u a b =
       let e = one-ring a.asked b.asked a.reads b.reads in
-      line-bytes x t a ∙ ap (λ (q : ℕ × List ℕ). recordBytes x q.0 q.1) e ∙ sym (line-bytes x u b)
+      line-bytes x t a ∙ ap (λ (q : ℕ × List ℕ). record_bytes x q.0 q.1) e ∙ sym (line-bytes x u b)
 
   pub one-bad : (r q : Refusal) → LineRefused s r → LineRefused s q → r ≡ q
   one-bad r q (unread n e) (unread m f) = e ∙ sym f
   one-bad r q (unread n e) (given a h g) = absurd (n a h)
   one-bad r q (given a h g) (unread n e) = absurd (n a h)
-  one-bad r q (given a h g) (given b i k) = one-refusal (oneReading b.1 b.0) r q (rw (one-ring a b h i) at g) k
+  one-bad r q (given a h g) (given b i k) = one-refusal (one_reading b.1 b.0) r q (rw (one-ring a b h i) at g) k
 
   pub never-both-line : (x : Kind) (t : List ℕ) (r : Refusal) → LineWrites x s t → LineRefused s r → ⊥
   never-both-line x t r a (unread n e) = n a.asked a.reads
   never-both-line x t r a (given q h g) =
-      never_both (oneReading q.1 q.0) r g (subst (λ (p : ℕ × List ℕ). Passed (oneReading p.1 p.0)) (one-ring a.asked q a.reads h) a.writes.written.passed)
+      never_both (one_reading q.1 q.0) r g (subst (λ (p : ℕ × List ℕ). Passed (one_reading p.1 p.0)) (one-ring a.asked q a.reads h) a.writes.written.passed)
 
 -- ---- an input
 

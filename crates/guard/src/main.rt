@@ -1,5 +1,7 @@
 // The command for guarded sets.
 
+#![tactic(auto)]
+
 use set_program_inner::Rule;
 
 fn main() {

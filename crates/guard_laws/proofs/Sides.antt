@@ -8,9 +8,9 @@
 --     alone                              of readings at least d apart, one that is seen with at most x sectors misread is further than e from all others, where x + e is below d
 --     front-seen, back-seen              so a ring of a guarded set, seen from either side with at most e misread, is told from all others and their other sides, where 2 e is below d
 use Rattle.words.proofs.Plain.{ℕ, zero, suc, ◌+◌, ◌-◌, ◌*◌, ◌<◌, ◌≤◌, arith, ◌≡◌, refl, sym, ap, ◌∙◌, true, false, List, [], ◌∷◌, map, length, get_or}
-use Rattle.words.proofs.Plain.{length-append, length-map, List·getD-append, get_or-append-add}
+use Rattle.words.proofs.Plain.{length-append, length-map, List·get_d-append, get_or-append-add}
 use Rattle.words.proofs.Split.{lt, eq, gt, tri, refuted}
-use Rattle.rings.specs.Alike.{evenHanded, sameRing, apart, mirrored}
+use Rattle.rings.specs.Alike.{even_handed, same_ring, apart, mirrored}
 use Rattle.ring_home_laws.proofs.Alike.{same-ring-refl, apart-sym, apart-triangle, zero-apart, length-mirrored, even-mirrored}
 use Rattle.set_spec.specs.Worth.{Spread}
 use Rattle.guard_spec.specs.Sides.{sides}
@@ -33,7 +33,7 @@ mirrors-at (t ∷ ts) (suc j) h = mirrors-at ts j (omega arith)
 
 pub front_at : (ts : List (List ℕ)) (j : ℕ) → j < length ts → get_or (sides ts) j [] ≡ get_or ts j []
 unfolding sides
-front_at ts j h = List·getD-append ts (map mirrored ts) [] j h
+front_at ts j h = List·get_d-append ts (map mirrored ts) [] j h
 
 pub back_at : (ts : List (List ℕ)) (j : ℕ) → j < length ts → get_or (sides ts) (length ts + j) [] ≡ mirrored (get_or ts j [])
 unfolding sides
@@ -100,16 +100,16 @@ module _ (n d : ℕ) (ts : List (List ℕ)) (z : 0 < n) (long : Long n ts) where
               rw (f, e, back_at ts x q, back_at ts y l, apart-mirrored (get_or ts x []) (get_or ts y []) (omega (arith, long x q)) (long x q ∙ sym (long y l))) (s x y (omega arith) l)
 
   -- no ring of a guarded set is the other side of one, its own or another: a sheet that is turned over shows none of its rings
-  pub none-mirrored : Spread d (sides ts) → 1 ≤ d → (i j : ℕ) → i < length ts → j < length ts → sameRing (get_or ts i []) (mirrored (get_or ts j [])) ≡ false
+  pub none-mirrored : Spread d (sides ts) → 1 ≤ d → (i j : ℕ) → i < length ts → j < length ts → same_ring (get_or ts i []) (mirrored (get_or ts j [])) ≡ false
   none-mirrored g p i j h l =
-      refuted (sameRing (get_or ts i []) (mirrored (get_or ts j [])))
+      refuted (same_ring (get_or ts i []) (mirrored (get_or ts j [])))
       (λ e. omega (arith, guarded-cross g i j h l, zero-apart (get_or ts i []) (mirrored (get_or ts j [])) (long i h ∙ sym (length-mirrored (get_or ts j []) (omega (arith, long j l)) ∙ long j l)) e))
 
   -- no ring of a guarded set is even-handed
-  pub none-even : Spread d (sides ts) → 1 ≤ d → (j : ℕ) → j < length ts → evenHanded (get_or ts j []) ≡ false
-  none-even g p j h = refuted (evenHanded (get_or ts j [])) (λ e. no_distance (get_or ts j []) (omega (arith, long j h)) e (guarded-cross g j j h h))
+  pub none-even : Spread d (sides ts) → 1 ≤ d → (j : ℕ) → j < length ts → even_handed (get_or ts j []) ≡ false
+  none-even g p j h = refuted (even_handed (get_or ts j [])) (λ e. no_distance (get_or ts j []) (omega (arith, long j h)) e (guarded-cross g j j h h))
     where
-      no_distance : (w : List ℕ) → 0 < length w → evenHanded w ≡ true → d ≤ apart w (mirrored w) → ⊥
+      no_distance : (w : List ℕ) → 0 < length w → even_handed w ≡ true → d ≤ apart w (mirrored w) → ⊥
       no_distance w q e l =
           let f = ap (apart w) (even-mirrored w q e) in
           omega (arith, f, apart-home-right w w q refl, zero-apart w w refl (same-ring-refl w))

@@ -6,7 +6,7 @@ use Rattle.set_spec.specs.Worth.{Spread}
 use Rattle.set_laws.proofs.{Choice.Extends, Choice.Settling, Worth.near-stays}
 use Rattle.set_laws.proofs.Chosen.{chosen-most, chosen-members, chosen-rising, chosen-looked, chosen_last, chosen-keeps, chosen-fewer, chosen-settled, chosen-all}
 use Rattle.guard_spec.specs.Sides.{sides, Guarded}
-use Rattle.guard_spec.specs.Choice.{joins, guarded, guardedLooked}
+use Rattle.guard_spec.specs.Choice.{joins, guarded, guarded_looked}
 use Rattle.guard_spec.specs.Worth.{Crossed, near, behind, sided, unsteady, Decided, took, left_out, GuardedWorth}
 use Rattle.guard_laws.proofs.{Sides.Long, Joins.joins-more, Joins.joins-not}
 
@@ -41,8 +41,8 @@ module _ (n k d want : ℕ) where
       (chosen-keeps (joins d) n k want (λ ts. Long n ts × Guarded d ts) (λ ts w p l e. joins-more d ts w n z p.0 l.reading.long p.1 e)
       (λ j h. absurd (omega arith), none-guarded d)).1
 
-  pub guarded-worth : 0 < n → (full : Bool) → full ≡ eqb (length (guarded n k d want)) want → GuardedWorth n k d want (guarded n k d want) (guardedLooked n k d want) full
-  unfolding guarded guardedLooked
+  pub guarded-worth : 0 < n → (full : Bool) → full ≡ eqb (length (guarded n k d want)) want → GuardedWorth n k d want (guarded n k d want) (guarded_looked n k d want) full
+  unfolding guarded guarded_looked
   guarded-worth z full e =
       let fewer = chosen-fewer (joins d) n k want full e in
       record {

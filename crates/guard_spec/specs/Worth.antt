@@ -8,7 +8,7 @@ use Rattle.std.specs.Prelude.{ℕ, ◌<◌, ◌≡◌, Bool, true, false, List, 
 use Rattle.words.specs.Order.{before, up_to}
 use Rattle.words.specs.Turn.{turn}
 use Rattle.rings.specs.Alike.{differing, apart, mirrored}
-use Rattle.set_spec.specs.Worth.{OneOf, lastTaken, LyndonOf, LyndonWords, Rising, Near}
+use Rattle.set_spec.specs.Worth.{OneOf, last_taken, LyndonOf, LyndonWords, Rising, Near}
 use Rattle.guard_spec.specs.Sides.{Guarded}
 
 -- a turn of u but itself is nearer to it than d
@@ -41,7 +41,7 @@ pub record GuardedWorth (n k d want : ℕ) (ts seen : List (List ℕ)) (full : B
   -- each one taken is one of those looked at
   pub looked-at : (i : ℕ) → i < length ts → OneOf seen (get_or ts i [])
   -- where the set is full, the last one taken is the last one looked at
-  pub last-looked : full ≡ true → lastTaken ts ≡ lastTaken seen
+  pub last-looked : full ≡ true → last_taken ts ≡ last_taken seen
   -- each Lyndon word up to one that was looked at is taken, or there is a reason against it
   pub decided : (u v : List ℕ) → LyndonOf n k u → OneOf seen v → up_to u v ≡ true → Decided d ts u
   -- full is exactly the wanted number

@@ -5,10 +5,10 @@
 --     home-back                                      the output, turned back by the shift that is answered, is the reading
 use Rattle.words.proofs.Plain.{ℕ, ◌-◌, ◌<◌, ◌≤◌, arith, ◌≡◌, sym, List, length}
 use Rattle.words.specs.{Order.same, Turn.turn}
-use Rattle.rings.specs.{Home.home, Home.shift, Alike.sameRing}
+use Rattle.rings.specs.{Home.home, Home.shift, Alike.same_ring}
 use Rattle.ring_home_laws.proofs.Home.{shift-lt, turn-back-home}
 use Rattle.refusal.specs.Order.{Passed}
-use Rattle.refusal.specs.Calls.{Asked, general, askRoom, twoReadings, withRoom}
+use Rattle.refusal.specs.Calls.{Asked, general, ask_room, two_readings, with_room}
 use Rattle.home_spec.specs.declared.Homed.TheVariants as H
 use Rattle.home_spec.specs.declared.Told.TheVariants as T
 use Rattle.home_spec.specs.Says.{HomeSays}
@@ -20,11 +20,11 @@ pub passed-pos : (a : Asked) → Passed (general a) → 0 < a.n
 passed-pos a p = p.0.0.0.0.0.0.0
 
 -- two readings that passed are of one length
-pub passed-pair : (v w : List ℕ) (k : ℕ) → Passed (twoReadings v w k) → length v ≡ length w
+pub passed-pair : (v w : List ℕ) (k : ℕ) → Passed (two_readings v w k) → length v ≡ length w
 passed-pair v w k p = sym p.0.0.0.0.0.1
 
 -- an output that passed is as long as the reading
-pub passed-room : (w : List ℕ) (k m : ℕ) → Passed (withRoom w k m) → m ≡ length w
+pub passed-room : (w : List ℕ) (k m : ℕ) → Passed (with_room w k m) → m ≡ length w
 passed-room w k m p = p.0.0.1
 
 -- ---- turned by their shifts
@@ -39,12 +39,12 @@ unfolding home
 turned-home w i e = rw e
 
 -- readings turned by their shifts are the same exactly where the ring is
-pub same-turned : (v w : List ℕ) (i j : ℕ) → i ≡ shift v → j ≡ shift w → same (turn i v) (turn j w) ≡ sameRing v w
-unfolding sameRing
+pub same-turned : (v w : List ℕ) (i j : ℕ) → i ≡ shift v → j ≡ shift w → same (turn i v) (turn j w) ≡ same_ring v w
+unfolding same_ring
 same-turned v w i j p q = rw (turned-home v i p, turned-home w j q)
 
 -- ---- the answer of bringing home
 
 -- turned on from the shift to the length, what bringing home writes is the reading again
 pub home-back : (w : List ℕ) (k : ℕ) (b c : List ℕ) (i p : ℕ) → HomeSays w k b (H.Home i p) c → turn (length w - i) c ≡ w
-home-back w k b c i p h = rw (h.ring, h.turns) (turn-back-home w (passed-pos (askRoom w k (length b)) h.passed))
+home-back w k b c i p h = rw (h.ring, h.turns) (turn-back-home w (passed-pos (ask_room w k (length b)) h.passed))

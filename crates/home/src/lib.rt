@@ -1,8 +1,10 @@
 // Bringing a reading home, and comparing readings (01, 'Rules the work stands on').
 
+#![tactic(auto)]
+
 ghost use Rattle.std.specs.Prelude.{ltb};
-ghost use Rattle.refusal.specs.Calls.{oneReading, twoReadings};
-ghost use Rattle.rings.specs.Alike.{evenHanded, sameRing, apart};
+ghost use Rattle.refusal.specs.Calls.{one_reading, two_readings};
+ghost use Rattle.rings.specs.Alike.{even_handed, same_ring, apart};
 ghost use Rattle.home_spec.specs.Turns.{steady};
 ghost use Rattle.home_spec.specs.Says.{HomeSays, ToldSays, DistanceSays, ClosestSays};
 
@@ -29,7 +31,7 @@ pub fn bring_home(s: &[u8], k: usize, out: &mut [u8]) -> Homed
 
 // Whether two readings are of the same ring, or refusal 1, 10, 2 or 3.
 pub fn same_ring(a: &[u8], b: &[u8], k: usize) -> Told
-    ensures { ToldSays (twoReadings a.now b.now k) (sameRing a.now b.now) result }
+    ensures { ToldSays (two_readings a.now b.now k) (same_ring a.now b.now) result }
 {
     match check_readings_inner::check_pair(a, b, k) {
         Checked::Refused(r) => Told::Refused(r),
@@ -46,7 +48,7 @@ pub fn same_ring(a: &[u8], b: &[u8], k: usize) -> Told
 
 // Whether some turn of the reversed reading equals the reading, or refusal 1, 2 or 3.
 pub fn even_handed(s: &[u8], k: usize) -> Told
-    ensures { ToldSays (oneReading s.now k) (evenHanded s.now) result }
+    ensures { ToldSays (one_reading s.now k) (even_handed s.now) result }
 {
     match check_readings_inner::check_reading(s, k) {
         Checked::Refused(r) => Told::Refused(r),
@@ -71,7 +73,7 @@ pub fn apart(a: &[u8], b: &[u8], k: usize) -> Distance
 
 // Whether a turn of one reading differs from the other at fewer than d places, that is, whether they are less than d apart; or refusal 1, 10, 2 or 3.
 pub fn nearer(a: &[u8], b: &[u8], k: usize, d: usize) -> Told
-    ensures { ToldSays (twoReadings a.now b.now k) (ltb (apart a.now b.now) d) result }
+    ensures { ToldSays (two_readings a.now b.now k) (ltb (apart a.now b.now) d) result }
 {
     match check_readings_inner::check_pair(a, b, k) {
         Checked::Refused(r) => Told::Refused(r),
@@ -103,7 +105,7 @@ pub fn nearest(a: &[u8], b: &[u8], k: usize) -> Closest
 
 // Whether each turn of a reading but itself differs from it at d places at least, or refusal 1, 2 or 3.
 pub fn steady(s: &[u8], k: usize, d: usize) -> Told
-    ensures { ToldSays (oneReading s.now k) (steady d s.now) result }
+    ensures { ToldSays (one_reading s.now k) (steady d s.now) result }
 {
     match check_readings_inner::check_reading(s, k) {
         Checked::Refused(r) => Told::Refused(r),

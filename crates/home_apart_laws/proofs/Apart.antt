@@ -8,10 +8,10 @@
 use Rattle.words.proofs.Plain.{ℕ, zero, suc, ◌-◌, ◌≤◌, ◌<◌, arith, ◌≡◌, refl, sym, subst, ◌∙◌, true, List, length}
 use Rattle.words.specs.Turn.{turn}
 use Rattle.words.proofs.{Split.clash, Turn.length-turn, Turn.turn-back}
-use Rattle.rings.specs.Alike.{apart, sameRing}
+use Rattle.rings.specs.Alike.{apart, same_ring}
 use Rattle.ring_home_laws.proofs.Alike.{apart-le, apart-sym, apart-of-turn, apart-of-turn-right, apart-triangle, apart-zero, zero-apart, same-ring-sym}
 use Rattle.ring_home_laws.proofs.Home.{home-of-turn}
-use Rattle.refusal.specs.{declared.Refusal.Refusal, Order.Passed, Calls.twoReadings}
+use Rattle.refusal.specs.{declared.Refusal.Refusal, Order.Passed, Calls.two_readings}
 use Rattle.refusal.proofs.Unique.{one-refusal, never_both}
 use Rattle.home_spec.specs.{declared.Told.Told, declared.Distance.Distance, Says.ToldSays, Says.DistanceSays}
 use Rattle.home_spec.specs.declared.Told.TheVariants as T
@@ -22,29 +22,29 @@ use Rattle.home_apart_laws.proofs.Pairs.{passed-long, passed-pair, pair-passed, 
 -- ---- two questions
 
 -- two questions that pass together, and of which the definitions say the same
-module _ (k : ℕ) (v w x y : List ℕ) (to : Passed (twoReadings v w k) → Passed (twoReadings x y k)) (back : Passed (twoReadings x y k) → Passed (twoReadings v w k)) where
+module _ (k : ℕ) (v w x y : List ℕ) (to : Passed (two_readings v w k) → Passed (two_readings x y k)) (back : Passed (two_readings x y k) → Passed (two_readings v w k)) where
   -- have answers of `apart` that are alike
-  answers : (Passed (twoReadings v w k) → apart v w ≡ apart x y) → (a b : Distance) → DistanceSays v w k a → DistanceSays x y k b → Alike a b
+  answers : (Passed (two_readings v w k) → apart v w ≡ apart x y) → (a b : Distance) → DistanceSays v w k a → DistanceSays x y k b → Alike a b
   answers e (D.Apart d) (D.Apart f) s t = subst (λ (z : ℕ). Alike (D.Apart d) (D.Apart z)) (s.1 ∙ e s.0 ∙ sym t.1) (distance d)
-  answers e (D.Apart d) (D.Refused r) s t = absurd (never_both (twoReadings x y k) r t (to s.0))
-  answers e (D.Refused r) (D.Apart f) s t = absurd (never_both (twoReadings v w k) r s (back t.0))
+  answers e (D.Apart d) (D.Refused r) s t = absurd (never_both (two_readings x y k) r t (to s.0))
+  answers e (D.Refused r) (D.Apart f) s t = absurd (never_both (two_readings v w k) r s (back t.0))
   answers e (D.Refused r) (D.Refused o) s t = both-refused r o
 
   -- and answers of `same_ring` that are alike
-  told : (Passed (twoReadings v w k) → sameRing v w ≡ sameRing x y) → (a b : Told) → SameSays v w k a → SameSays x y k b → AlikeTold a b
+  told : (Passed (two_readings v w k) → same_ring v w ≡ same_ring x y) → (a b : Told) → SameSays v w k a → SameSays x y k b → AlikeTold a b
   told e T.Yes T.Yes s t = both_yes
-  told e T.Yes T.No s t = clash (sameRing x y) (sym (e s.0) ∙ s.1) t.1
-  told e T.Yes (T.Refused r) s t = absurd (never_both (twoReadings x y k) r t (to s.0))
-  told e T.No T.Yes s t = clash (sameRing x y) t.1 (sym (e s.0) ∙ s.1)
+  told e T.Yes T.No s t = clash (same_ring x y) (sym (e s.0) ∙ s.1) t.1
+  told e T.Yes (T.Refused r) s t = absurd (never_both (two_readings x y k) r t (to s.0))
+  told e T.No T.Yes s t = clash (same_ring x y) t.1 (sym (e s.0) ∙ s.1)
   told e T.No T.No s t = both-no
-  told e T.No (T.Refused r) s t = absurd (never_both (twoReadings x y k) r t (to s.0))
-  told e (T.Refused r) T.Yes s t = absurd (never_both (twoReadings v w k) r s (back t.0))
-  told e (T.Refused r) T.No s t = absurd (never_both (twoReadings v w k) r s (back t.0))
+  told e T.No (T.Refused r) s t = absurd (never_both (two_readings x y k) r t (to s.0))
+  told e (T.Refused r) T.Yes s t = absurd (never_both (two_readings v w k) r s (back t.0))
+  told e (T.Refused r) T.No s t = absurd (never_both (two_readings v w k) r s (back t.0))
   told e (T.Refused r) (T.Refused o) s t = neither-told r o
 
 -- ---- whichever is given first
 
-swapped : (k : ℕ) (v w : List ℕ) → Passed (twoReadings v w k) → Passed (twoReadings w v k)
+swapped : (k : ℕ) (v w : List ℕ) → Passed (two_readings v w k) → Passed (two_readings w v k)
 swapped k v w p = pair-passed w v k (length v) (pair-swap (passed-pair v w k p))
 
 pub either_way : (k : ℕ) (v w : List ℕ) (a b : Distance) → DistanceSays v w k a → DistanceSays w v k b → Alike a b
@@ -56,15 +56,15 @@ either-way-told k v w = told k v w w v (swapped k v w) (swapped k w v) (λ p. sa
 -- ---- turned
 
 -- turning a reading does not change whose ring it is
-same-turned : (v w : List ℕ) (i : ℕ) → 0 < length v → i ≤ length v → sameRing (turn i v) w ≡ sameRing v w
-unfolding sameRing
+same-turned : (v w : List ℕ) (i : ℕ) → 0 < length v → i ≤ length v → same_ring (turn i v) w ≡ same_ring v w
+unfolding same_ring
 same-turned v w i z h = rw (home-of-turn v i z h)
 
 module _ (k : ℕ) (v w : List ℕ) (i : ℕ) (h : i ≤ length v) where
-  forth : Passed (twoReadings v w k) → Passed (twoReadings (turn i v) w k)
+  forth : Passed (two_readings v w k) → Passed (two_readings (turn i v) w k)
   forth p = pair-passed (turn i v) w k (length v) (pair_turn i h (passed-pair v w k p))
 
-  back : Passed (twoReadings (turn i v) w k) → Passed (twoReadings v w k)
+  back : Passed (two_readings (turn i v) w k) → Passed (two_readings v w k)
   back p =
       let q = rw (length-turn i v h) at (passed-pair (turn i v) w k p) in
       pair-passed v w k (length v) (rw (turn-back i v h) at (pair_turn (length v - i) (omega arith) q))
@@ -76,10 +76,10 @@ module _ (k : ℕ) (v w : List ℕ) (i : ℕ) (h : i ≤ length v) where
   turned-first-told = told k v w (turn i v) w forth back (λ p. sym (same-turned v w i (passed-pair v w k p).sized.0 h))
 
 module _ (k : ℕ) (v w : List ℕ) (i : ℕ) (h : i ≤ length w) where
-  forth-second : Passed (twoReadings v w k) → Passed (twoReadings v (turn i w) k)
+  forth-second : Passed (two_readings v w k) → Passed (two_readings v (turn i w) k)
   forth-second p = swapped k (turn i w) v (forth k w v i h (swapped k v w p))
 
-  back-second : Passed (twoReadings v (turn i w) k) → Passed (twoReadings v w k)
+  back-second : Passed (two_readings v (turn i w) k) → Passed (two_readings v w k)
   back-second p = swapped k w v (back k w v i h (swapped k v (turn i w) p))
 
   pub turned-second : (a b : Distance) → DistanceSays v w k a → DistanceSays v (turn i w) k b → Alike a b
@@ -96,13 +96,13 @@ module _ (k : ℕ) (v w : List ℕ) (i : ℕ) (h : i ≤ length w) where
 pub zero_same : (k : ℕ) (v w : List ℕ) (a : Distance) (t : Told) → DistanceSays v w k a → SameSays v w k t → Zero a t
 zero_same k v w (D.Apart d) T.Yes s t =
     subst (λ (z : ℕ). Zero (D.Apart z) T.Yes) (sym (s.1 ∙ zero-apart v w (passed-long v w k s.0) t.1)) same
-zero_same k v w (D.Apart zero) T.No s t = clash (sameRing v w) (apart-zero v w (passed-long v w k s.0) (sym s.1)) t.1
+zero_same k v w (D.Apart zero) T.No s t = clash (same_ring v w) (apart-zero v w (passed-long v w k s.0) (sym s.1)) t.1
 zero_same k v w (D.Apart (suc d)) T.No s t = other (suc d) (omega arith)
-zero_same k v w (D.Apart d) (T.Refused r) s t = absurd (never_both (twoReadings v w k) r t s.0)
-zero_same k v w (D.Refused r) T.Yes s t = absurd (never_both (twoReadings v w k) r s t.0)
-zero_same k v w (D.Refused r) T.No s t = absurd (never_both (twoReadings v w k) r s t.0)
+zero_same k v w (D.Apart d) (T.Refused r) s t = absurd (never_both (two_readings v w k) r t s.0)
+zero_same k v w (D.Refused r) T.Yes s t = absurd (never_both (two_readings v w k) r s t.0)
+zero_same k v w (D.Refused r) T.No s t = absurd (never_both (two_readings v w k) r s t.0)
 zero_same k v w (D.Refused r) (T.Refused o) s t =
-    subst (λ (z : Refusal). Zero (D.Refused r) (T.Refused z)) (one-refusal (twoReadings v w k) r o s t) (refused r)
+    subst (λ (z : Refusal). Zero (D.Refused r) (T.Refused z)) (one-refusal (two_readings v w k) r o s t) (refused r)
 
 -- ---- the triangle
 
@@ -110,7 +110,7 @@ pub triangle : (k : ℕ) (u v w : List ℕ) (a b : ℕ) (z : Distance) → Dista
 triangle k u v w a b (D.Apart c) s t x =
     within c (omega (arith, s.1, t.1, x.1, apart-triangle u v w (passed-long u v k s.0) (passed-long v w k t.0)))
 triangle k u v w a b (D.Refused r) s t x =
-    absurd (never_both (twoReadings u w k) r x (pair-passed u w k (length u) (pair_ends (passed-pair u v k s.0) (passed-pair v w k t.0) (passed-long u v k s.0))))
+    absurd (never_both (two_readings u w k) r x (pair-passed u w k (length u) (pair_ends (passed-pair u v k s.0) (passed-pair v w k t.0) (passed-long u v k s.0))))
 
 -- no answer is more than n
 pub apart-most : (k : ℕ) (v w : List ℕ) (d : ℕ) → DistanceSays v w k (D.Apart d) → d ≤ length v

@@ -3,12 +3,12 @@
 --     passed-pair, pair-passed    that is what the checks ask, no less and no more
 --     passed-long                 they are of one length
 --     pair-swap, pair_turn, pair-turn-right, pair_ends    exchanged, one of them turned, or from two pairs with one in common: still such a pair
-use Rattle.words.proofs.Plain.{ℕ, ◌+◌, ◌-◌, ◌<◌, ◌≤◌, arith, ◌≡◌, refl, sym, ap, ◌∙◌, List, ◌++◌, length, get_or, length-append, List·getD-append}
+use Rattle.words.proofs.Plain.{ℕ, ◌+◌, ◌-◌, ◌<◌, ◌≤◌, arith, ◌≡◌, refl, sym, ap, ◌∙◌, List, ◌++◌, length, get_or, length-append, List·get_d-append}
 use Rattle.words.proofs.{Plain.get_or-append-add, Turn.reading-turn}
 use Rattle.words.specs.Turn.{turn}
 use Rattle.words.specs.Readings.{Sized, Shaded, Reading}
 use Rattle.words.proofs.Split.{lt, eq, gt, tri}
-use Rattle.refusal.specs.{Order.Passed, Calls.twoReadings}
+use Rattle.refusal.specs.{Order.Passed, Calls.two_readings}
 
 pub record Pair (n k : ℕ) (v w : List ℕ) : Type 0 where
   pub sized : Sized n
@@ -18,28 +18,28 @@ pub record Pair (n k : ℕ) (v w : List ℕ) : Type 0 where
 
 module _ (v w : List ℕ) (k : ℕ) where
   -- they are of one length
-  pub passed-long : Passed (twoReadings v w k) → length v ≡ length w
+  pub passed-long : Passed (two_readings v w k) → length v ≡ length w
   passed-long p = sym p.0.0.0.0.0.1
 
   -- what the checks ask is no less
-  pub passed-pair : Passed (twoReadings v w k) → Pair (length v) k v w
+  pub passed-pair : Passed (two_readings v w k) → Pair (length v) k v w
   passed-pair p =
       let low = p.0.0.0.1 in
       record {
         sized = p.0.0.0.0.0.0;
         shaded = p.0.0.0.0.1;
-        first = record { long = refl; shades = λ i h. rw (List·getD-append v w 0 i h) at (low i (rw length-append (omega arith))) };
+        first = record { long = refl; shades = λ i h. rw (List·get_d-append v w 0 i h) at (low i (rw length-append (omega arith))) };
         second = record { long = sym (passed-long p); shades = λ i h. rw (get_or-append-add v w i 0) at (low (length v + i) (rw length-append (omega (arith, passed-long p)))) };
       }
 
   -- and no more
-  pub pair-passed : (n : ℕ) → Pair n k v w → Passed (twoReadings v w k)
+  pub pair-passed : (n : ℕ) → Pair n k v w → Passed (two_readings v w k)
   pair-passed n p = ((((((rw p.first.long p.sized, p.second.long ∙ sym p.first.long), p.shaded), low), tt), tt), refl)
     where
       low : (i : ℕ) → i < length (v ++ w) → get_or (v ++ w) i 0 < k
       low i h =
           elim (tri i (length v)) [
-            | lt l ↦ rw (List·getD-append v w 0 i l) (p.first.shades i (omega (arith, p.first.long)))
+            | lt l ↦ rw (List·get_d-append v w 0 i l) (p.first.shades i (omega (arith, p.first.long)))
             | eq l ↦ behind (omega arith)
             | gt l ↦ behind (omega arith)
           ]

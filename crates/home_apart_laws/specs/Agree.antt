@@ -7,9 +7,9 @@
 --     Within a b z         an answer of `apart` beside two distances a and b: it is a distance too, and no more than the two together
 -- That they hold: proofs/Apart.
 use Rattle.std.specs.Prelude.{ℕ, ◌+◌, ◌<◌, ◌≤◌, List}
-use Rattle.rings.specs.Alike.{sameRing}
+use Rattle.rings.specs.Alike.{same_ring}
 use Rattle.refusal.specs.declared.Refusal.{Refusal}
-use Rattle.refusal.specs.Calls.{twoReadings}
+use Rattle.refusal.specs.Calls.{two_readings}
 use Rattle.home_spec.specs.declared.Told.{Told}
 use Rattle.home_spec.specs.declared.Told.TheVariants as T
 use Rattle.home_spec.specs.declared.Distance.{Distance}
@@ -17,7 +17,7 @@ use Rattle.home_spec.specs.declared.Distance.TheVariants as D
 use Rattle.home_spec.specs.Says.{ToldSays}
 
 abbrev pub SameSays : List ℕ → List ℕ → ℕ → Told → Type 0
-SameSays v w k t = ToldSays (twoReadings v w k) (sameRing v w) t
+SameSays v w k t = ToldSays (two_readings v w k) (same_ring v w) t
 
 -- two answers of `apart`. Which refusal it is may differ: a first reading of no sectors is Length, as a second one it is Pair
 pub data Alike : Distance → Distance → Type 0 where

@@ -1,5 +1,7 @@
 // At how many places a turn of one lent reading and another differ. No public calls.
 
+#![tactic(auto)]
+
 ghost use Rattle.std.specs.Prelude.{◌≡◌, ◌≤◌, min, length};
 ghost use Rattle.words.specs.Turn.{turn};
 ghost use Rattle.rings.specs.Alike.{differing};

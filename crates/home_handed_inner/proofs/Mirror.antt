@@ -3,10 +3,10 @@
 --     mirrors-yes, mirrors-no                       in all of them: w is even-handed; in one not: it is not this turn
 --     Unmirrored w t, unmirrored-start, unmirrored-more, unmirrored-end    no turn by less than t is the reading
 use Rattle.words.proofs.Plain.{ℕ, ◌+◌, ◌-◌, ◌<◌, ◌≤◌, arith, ◌≡◌, sym, ap, ◌∙◌, true, false, List, reverse, length, get_or, length-reverse, ext_get_or}
-use Rattle.words.specs.{Search.someBelow, Order.same, Turn.turn}
+use Rattle.words.specs.{Search.some_below, Order.same, Turn.turn}
 use Rattle.words.proofs.Split.{lt, eq, gt, tri, clash, refuted}
 use Rattle.words.proofs.{Search.some_of, Search.some_at, Lex.true_same, Lex.same_false, Turn.length-turn, Turn.get_d_reverse}
-use Rattle.rings.specs.Alike.{evenHanded}
+use Rattle.rings.specs.Alike.{even_handed}
 use Rattle.home_turns_inner.specs.Around.{Around}
 use Rattle.home_turns_inner.proofs.Places.{sector-around}
 
@@ -34,8 +34,8 @@ module _ (w : List ℕ) (t : ℕ) where
       elim (tri x m) [ lt o ↦ f x o | eq o ↦ rw o (sym (sector-mirrored w t m r h l a) ∙ e) | gt o ↦ absurd (omega arith) ]
 
   -- a turn that matches in every sector
-  pub mirrors-yes : (m : ℕ) → t < length w → length w ≤ m → Mirrors w t m → true ≡ evenHanded w
-  unfolding evenHanded
+  pub mirrors-yes : (m : ℕ) → t < length w → length w ≤ m → Mirrors w t m → true ≡ even_handed w
+  unfolding even_handed
   mirrors-yes m h l f =
       sym (some_of (length w) (λ i. same (turn i (reverse w)) w) t h (true_same (turn t (reverse w)) w (ext_get_or 0 (turn t (reverse w)) w long (λ x k. f x (omega (arith, long))))))
     where
@@ -56,9 +56,9 @@ pub unmirrored-more : (w : List ℕ) (t : ℕ) → Unmirrored w t → same (turn
 unmirrored-more w t u f i h = elim (tri i t) [ lt e ↦ u i e | eq e ↦ rw e f | gt e ↦ absurd (omega arith) ]
 
 -- where no turn matches, the reading is not even-handed
-pub unmirrored-end : (w : List ℕ) (t : ℕ) → Unmirrored w t → length w ≤ t → false ≡ evenHanded w
-unfolding evenHanded
-unmirrored-end w t u h = sym (refuted (someBelow (length w) (λ i. same (turn i (reverse w)) w)) (λ e. found (some_at (length w) (λ i. same (turn i (reverse w)) w) e)))
+pub unmirrored-end : (w : List ℕ) (t : ℕ) → Unmirrored w t → length w ≤ t → false ≡ even_handed w
+unfolding even_handed
+unmirrored-end w t u h = sym (refuted (some_below (length w) (λ i. same (turn i (reverse w)) w)) (λ e. found (some_at (length w) (λ i. same (turn i (reverse w)) w) e)))
   where
     found : (i : ℕ) × (i < length w) × (same (turn i (reverse w)) w ≡ true) → ⊥
     found (i, l, s) = clash (same (turn i (reverse w)) w) s (u i (omega arith))

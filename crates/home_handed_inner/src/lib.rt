@@ -1,11 +1,13 @@
 // Even-handed readings. No public call: `home::even_handed` is.
 
+#![tactic(auto)]
+
 ghost use Rattle.std.specs.Prelude.{◌≡◌};
-ghost use Rattle.rings.specs.Alike.{evenHanded};
+ghost use Rattle.rings.specs.Alike.{even_handed};
 
 // Whether some turn of the reversed bytes equals the bytes. Yes at the first turn that matches in every sector.
 pub fn is_even_handed(s: &[u8]) -> bool
-    ensures { result ≡ evenHanded s.now }
+    ensures { result ≡ even_handed s.now }
 {
     let n = s.len();
     let mut found = false;

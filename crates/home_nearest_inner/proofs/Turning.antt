@@ -9,7 +9,7 @@ use Rattle.words.proofs.Split.{lt, eq, gt, tri, refuted}
 use Rattle.words.proofs.Search.{least-is}
 use Rattle.rings.specs.Alike.{differing, apart}
 use Rattle.ring_home_laws.proofs.Alike.{apart-at}
-use Rattle.home_spec.specs.Turns.{asNear, nearestTurn, steady}
+use Rattle.home_spec.specs.Turns.{as_near, nearest_turn, steady}
 use Rattle.home_turns_laws.proofs.Steady.{steady-each, each-steady, half-steady}
 
 -- ---- the nearest turn
@@ -32,10 +32,10 @@ module _ {v w : List ℕ} {i : ℕ} (f : NotYet v w i) {best d : ℕ} (b : best 
       }
 
   -- this one does
-  pub not-yet-found : d ≡ best → i ≡ nearestTurn v w
-  unfolding nearestTurn asNear
+  pub not-yet-found : d ≡ best → i ≡ nearest_turn v w
+  unfolding nearest_turn as_near
   not-yet-found e =
-      sym (least-is (length v) (asNear v w) i h (eq-eqb (differing (turn i v) w) (apart v w) (omega arith)) (λ j m. ne_eqb (differing (turn j v) w) (apart v w) (f.far j m)))
+      sym (least-is (length v) (as_near v w) i h (eq-eqb (differing (turn i v) w) (apart v w) (omega arith)) (λ j m. ne_eqb (differing (turn j v) w) (apart v w) (f.far j m)))
 
 -- one does
 pub not-yet-never : {v w : List ℕ} {i : ℕ} → 0 < length v → NotYet v w i → length v ≤ i → ⊥

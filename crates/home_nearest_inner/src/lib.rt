@@ -1,8 +1,10 @@
 // How far apart two lent readings are, and by which turn they come so near. No public call: the calls of `home` check what these ask for.
 
+#![tactic(auto)]
+
 ghost use Rattle.std.specs.Prelude.{◌≡◌, ◌<◌, length, ltb};
 ghost use Rattle.rings.specs.Alike.{apart};
-ghost use Rattle.home_spec.specs.Turns.{nearestTurn, steady};
+ghost use Rattle.home_spec.specs.Turns.{nearest_turn, steady};
 
 // The smallest number of places at which a turn of a differs from b. A turn is given up once it is no better than the best so far, and all of them where
 // that is 0.
@@ -41,7 +43,7 @@ pub fn is_nearer(a: &[u8], b: &[u8], d: usize) -> bool
 // The fewest left turns of a after which it differs from b at `best` places, which is as few as there can be.
 pub fn nearest_turn(a: &[u8], b: &[u8], best: usize) -> usize
     requires { (0 < length a.now) × (length a.now ≡ length b.now) × (best ≡ apart a.now b.now) }
-    ensures { result ≡ nearestTurn a.now b.now }
+    ensures { result ≡ nearest_turn a.now b.now }
 {
     let n = a.len();
     let limit = best + 1;

@@ -1,5 +1,7 @@
 // A lent reading reversed, as it is seen from the other side before it is brought home. No public calls: the callers check what this asks for.
 
+#![tactic(auto)]
+
 ghost use Rattle.std.specs.Prelude.{◌≡◌, reverse, length};
 
 // Writes the reversed sectors.

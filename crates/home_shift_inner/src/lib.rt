@@ -1,7 +1,9 @@
 // The shift and the period of a lent reading. No public call: the calls of `home` check what these ask for.
 
+#![tactic(auto)]
+
 ghost use Rattle.std.specs.Prelude.{◌≡◌, ◌<◌, ◌≤◌, length};
-ghost use Rattle.rings.specs.Necklace.{repeatsBy, period};
+ghost use Rattle.rings.specs.Necklace.{repeats_by, period};
 ghost use Rattle.rings.specs.Home.{shift};
 
 // The smallest number of left turns that gives the least turn. Two turns, by i and by a greater j, are compared sector by sector. At the first
@@ -44,7 +46,7 @@ pub fn least_shift(s: &[u8]) -> usize
 // Whether p divides the length and turning by p changes nothing.
 pub fn repeats_by(s: &[u8], p: usize) -> bool
     requires { (0 < p) × (p ≤ length s.now) }
-    ensures { result ≡ repeatsBy s.now p }
+    ensures { result ≡ repeats_by s.now p }
 {
     if s.len() % p != 0 {
         return false;

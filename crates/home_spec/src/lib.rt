@@ -1,5 +1,7 @@
 // What bringing home, same ring, even-handed, apart, nearest and steady answer and promise, and that they have one answer. No functions.
 
+#![tactic(auto)]
+
 use refusal::Refusal;
 
 // What bringing a reading home answers; the home reading itself is written to the output.

@@ -1,5 +1,7 @@
 // Turns of lent readings, place by place and with no second copy. No public call: the calls of `home` check what these ask for.
 
+#![tactic(auto)]
+
 ghost use Rattle.std.specs.Prelude.{◌≡◌, ◌<◌, ◌≤◌, length, get_or};
 ghost use Rattle.words.specs.Order.{same};
 ghost use Rattle.words.specs.Turn.{turn};

@@ -12,36 +12,36 @@ use Rattle.words.proofs.Search.{all-at, all_of, not-all}
 use Rattle.words.proofs.Turn.{length-turn, turn-back, turn-turn, turn-turn-past}
 use Rattle.rings.specs.Alike.{differing}
 use Rattle.ring_home_laws.proofs.Alike.{differing-sym, differing-turn, differing-triangle}
-use Rattle.home_spec.specs.Turns.{turnFar, steady, Steady}
+use Rattle.home_spec.specs.Turns.{turn_far, steady, Steady}
 
-far-le : (d : ℕ) (w : List ℕ) (j : ℕ) → turnFar d w j ≡ true → d ≤ differing (turn (suc j) w) w
-unfolding turnFar
+far-le : (d : ℕ) (w : List ℕ) (j : ℕ) → turn_far d w j ≡ true → d ≤ differing (turn (suc j) w) w
+unfolding turn_far
 far-le d w j h =
     let x = differing (turn (suc j) w) w in
     elim (test (ltb x d)) [ passes e ↦ clash (not (ltb x d)) h (rw e refl) | fails e ↦ ltb-false x d e ]
 
-le-far : (d : ℕ) (w : List ℕ) (j : ℕ) → d ≤ differing (turn (suc j) w) w → turnFar d w j ≡ true
-unfolding turnFar
+le-far : (d : ℕ) (w : List ℕ) (j : ℕ) → d ≤ differing (turn (suc j) w) w → turn_far d w j ≡ true
+unfolding turn_far
 le-far d w j h = rw (le-ltb (differing (turn (suc j) w) w) d h) refl
 
 pub steady-each : (d : ℕ) (w : List ℕ) → steady d w ≡ true → Steady d w
 unfolding steady
 steady-each d w s zero z h = absurd (omega arith)
-steady-each d w s (suc j) z h = far-le d w j (all-at (length w - 1) (turnFar d w) s j (omega arith))
+steady-each d w s (suc j) z h = far-le d w j (all-at (length w - 1) (turn_far d w) s j (omega arith))
 
 pub each-steady : (d : ℕ) (w : List ℕ) → Steady d w → steady d w ≡ true
 unfolding steady
-each-steady d w s = all_of (length w - 1) (turnFar d w) (λ j h. le-far d w j (s (suc j) (omega arith) (omega arith)))
+each-steady d w s = all_of (length w - 1) (turn_far d w) (λ j h. le-far d w j (s (suc j) (omega arith) (omega arith)))
 
 -- one that is not has a turn that comes near
 pub not-steady : (d : ℕ) (w : List ℕ) → steady d w ≡ false → (j : ℕ) × (0 < j) × (j < length w) × (differing (turn j w) w < d)
-unfolding steady turnFar
-not-steady d w h = found (not-all (length w - 1) (turnFar d w) h)
+unfolding steady turn_far
+not-steady d w h = found (not-all (length w - 1) (turn_far d w) h)
   where
-    found : (j : ℕ) × (j < length w - 1) × (turnFar d w j ≡ false) → (j : ℕ) × (0 < j) × (j < length w) × (differing (turn j w) w < d)
+    found : (j : ℕ) × (j < length w - 1) × (turn_far d w j ≡ false) → (j : ℕ) × (0 < j) × (j < length w) × (differing (turn j w) w < d)
     found (j, l, e) = (suc j, omega arith, omega arith, near-lt e)
       where
-        near-lt : turnFar d w j ≡ false → differing (turn (suc j) w) w < d
+        near-lt : turn_far d w j ≡ false → differing (turn (suc j) w) w < d
         near-lt q = let x = differing (turn (suc j) w) w in elim (test (ltb x d)) [ passes p ↦ ltb-true x d p | fails p ↦ clash (not (ltb x d)) (rw p refl) q ]
 
 -- turned the other way round

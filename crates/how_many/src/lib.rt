@@ -1,5 +1,7 @@
 // How many rings there are (02, request f): the exact numbers of necklaces and of Lyndon words, by the divisor formulas.
 
+#![tactic(auto)]
+
 ghost use Rattle.rings.specs.Necklace.{necklace, lyndon};
 ghost use Rattle.how_many_spec.specs.Says.{CountSays};
 

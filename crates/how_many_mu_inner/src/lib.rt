@@ -1,8 +1,11 @@
 // Moebius's mu, by trial division. No public calls: crate `how_many` sees to it that the numbers are small.
+
+#![tactic(auto)]
+
 ghost use Rattle.std.specs.Prelude.{◌%◌, ◌≤◌, ◌<◌, ◌≡◌, ◌&&◌, eqb};
 ghost use Rattle.words.specs.Readings.{bit};
 ghost use Rattle.how_many_number_spec.specs.Divisors.{divides};
-ghost use Rattle.how_many_number_spec.specs.Mu.{prime, squareFree, primesOf};
+ghost use Rattle.how_many_number_spec.specs.Mu.{prime, square_free, primes_of};
 
 // Whether p is a prime: no number from 2 to p - 1 divides it.
 fn is_prime(p: usize) -> bool
@@ -37,7 +40,7 @@ fn prime_divisor(p: usize, m: usize) -> usize
 
 // How many primes divide m.
 fn count_primes(m: usize) -> usize
-    ensures { result ≡ primesOf m }
+    ensures { result ≡ primes_of m }
 {
     let mut x: usize = 0;
     let mut i: usize = 0;
@@ -52,7 +55,7 @@ fn count_primes(m: usize) -> usize
 fn is_square_free(m: usize) -> bool
     requires m_nonzero { 0 < m }
     requires m_bound { m ≤ 64 }
-    ensures { result ≡ squareFree m }
+    ensures { result ≡ square_free m }
 {
     let mut d: usize = 2;
     while d <= m {
@@ -68,7 +71,7 @@ fn is_square_free(m: usize) -> bool
 pub fn mu_of(m: usize, rest: usize) -> usize
     requires m_nonzero { 0 < m }
     requires m_bound { m ≤ 64 }
-    ensures { (result ≡ bit (squareFree m && eqb (primesOf m % 2) rest)) × (result ≤ 1) }
+    ensures { (result ≡ bit (square_free m && eqb (primes_of m % 2) rest)) × (result ≤ 1) }
 {
     if !is_square_free(m) {
         return 0;

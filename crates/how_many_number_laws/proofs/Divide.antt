@@ -29,7 +29,7 @@ use native.Mathlib.Nat.{
   div-eq_of_eq-mul_left,
 }
 use Rattle.words.proofs.Split.{passes, fails, test, refuted, clash, agree, not_right, both_left, both_right}
-use Rattle.how_many_number_spec.specs.Divisors.{when, sum_to, divides, overDivisors}
+use Rattle.how_many_number_spec.specs.Divisors.{when, sum_to, divides, over_divisors}
 use Rattle.how_many_number_laws.proofs.Sums.{sum-cong, sum-zero, sum_one, sum-add, sum-scale, sum-swap, sum-append, sum-wider, scale-when}
 
 -- ---- the test and ∣
@@ -86,22 +86,22 @@ sum-multiples e (suc m) f z h =
 -- ---- sums over divisors
 
 -- sums over divisors of equal values
-pub over-cong : (n : ℕ) (f g : ℕ → ℕ) → ((d : ℕ) → 0 < d → d ≤ n → d ∣ n → f d ≡ g d) → overDivisors n f ≡ overDivisors n g
-unfolding overDivisors
+pub over-cong : (n : ℕ) (f g : ℕ → ℕ) → ((d : ℕ) → 0 < d → d ≤ n → d ∣ n → f d ≡ g d) → over_divisors n f ≡ over_divisors n g
+unfolding over_divisors
 over-cong n f g h =
     sum-cong n (λ d. when (divides d n) (f d)) (λ d. when (divides d n) (g d))
     (λ d p l. elim (test (divides d n)) [ passes e ↦ rw e (h d p l (of-divides d n e)) | fails e ↦ rw e ])
 
 -- a multiple of a sum over divisors
-pub over-scale : (n c : ℕ) (f : ℕ → ℕ) → overDivisors n (λ d. c * f d) ≡ c * overDivisors n f
-unfolding overDivisors
+pub over-scale : (n c : ℕ) (f : ℕ → ℕ) → over_divisors n (λ d. c * f d) ≡ c * over_divisors n f
+unfolding over_divisors
 over-scale n c f =
     sum-cong n (λ d. when (divides d n) (c * f d)) (λ d. c * when (divides d n) (f d)) (λ d a b. sym (scale-when c (divides d n) (f d)))
     ∙ sum-scale n c (λ d. when (divides d n) (f d))
 
 -- a sum over divisors of sums
-pub over_add : (n : ℕ) (f g : ℕ → ℕ) → overDivisors n (λ d. f d + g d) ≡ overDivisors n f + overDivisors n g
-unfolding overDivisors
+pub over_add : (n : ℕ) (f g : ℕ → ℕ) → over_divisors n (λ d. f d + g d) ≡ over_divisors n f + over_divisors n g
+unfolding over_divisors
 over_add n f g =
     sum-cong n (λ d. when (divides d n) (f d + g d)) (λ d. when (divides d n) (f d) + when (divides d n) (g d)) (λ d a b. at (divides d n) (f d) (g d))
     ∙ sum-add n (λ d. when (divides d n) (f d)) (λ d. when (divides d n) (g d))
@@ -124,8 +124,8 @@ factor j m x z p = elim (test (divides j m)) [ passes e ↦ rw e (one (of-divide
         ∙ rw (eq-eqb (j * (m / j)) m (quotient j m h))
 
 -- the sum of g (m / d) over the divisors d of m is that of g d
-pub reindex : (m : ℕ) (g : ℕ → ℕ) → 0 < m → overDivisors m (λ d. g (m / d)) ≡ overDivisors m g
-unfolding overDivisors
+pub reindex : (m : ℕ) (g : ℕ → ℕ) → 0 < m → over_divisors m (λ d. g (m / d)) ≡ over_divisors m g
+unfolding over_divisors
 reindex m g p =
     sum-cong m (λ d. when (divides d m) (g (m / d))) (λ d. sum_to m (λ c. when (eqb (d * c) m) (g c))) (λ d a b. sym (factor d m g a p))
     ∙ sum-swap m m (λ d c. when (eqb (d * c) m) (g c))
@@ -141,7 +141,7 @@ pub quotient-twice : (d n : ℕ) → 0 < n → d ∣ n → n / (n / d) ≡ d
 quotient-twice d n p h = div-eq_of_eq-mul_left (quotient-pos d n p h) (sym (quotient d n h))
 
 -- a product of values at d and at n / d may be summed either way round
-pub other_way : (n : ℕ) (g h : ℕ → ℕ) → 0 < n → overDivisors n (λ d. g d * h (n / d)) ≡ overDivisors n (λ d. g (n / d) * h d)
+pub other_way : (n : ℕ) (g h : ℕ → ℕ) → 0 < n → over_divisors n (λ d. g d * h (n / d)) ≡ over_divisors n (λ d. g (n / d) * h d)
 other_way n g h p =
     sym (reindex n (λ d. g d * h (n / d)) p)
     ∙ over-cong n (λ d. g (n / d) * h (n / (n / d))) (λ d. g (n / d) * h d) (λ d a b q. ap (λ (x : ℕ). g (n / d) * h x) (quotient-twice d n p q))
@@ -151,8 +151,8 @@ module _ (n : ℕ) (g h : ℕ → ℕ) (pos : 0 < n) where
   pair : ℕ → ℕ → ℕ
   pair d e = when (divides d n && divides e d) (g (n / d) * h e)
 
-  by-outer : (d : ℕ) → 0 < d → d ≤ n → when (divides d n) (g (n / d) * overDivisors d h) ≡ sum_to n (λ e. pair d e)
-  unfolding overDivisors pair
+  by-outer : (d : ℕ) → 0 < d → d ≤ n → when (divides d n) (g (n / d) * over_divisors d h) ≡ sum_to n (λ e. pair d e)
+  unfolding over_divisors pair
   by-outer d p l = elim (test (divides d n)) [ passes e ↦ rw e (inner e) | fails e ↦ rw e (sym (sum-zero n (λ x. 0) (λ i a b. refl))) ]
     where
       beyond : (i : ℕ) → d < i → divides i d ≡ false
@@ -164,8 +164,8 @@ module _ (n : ℕ) (g h : ℕ → ℕ) (pos : 0 < n) where
           ∙ sym (sum-scale n (g (n / d)) (λ e. when (divides e d) (h e)))
           ∙ sum-cong n (λ e. g (n / d) * when (divides e d) (h e)) (λ e. when (divides e d) (g (n / d) * h e)) (λ i a b. scale-when (g (n / d)) (divides i d) (h i))
 
-  by-inner : (e : ℕ) → 0 < e → sum_to n (λ d. pair d e) ≡ when (divides e n) (overDivisors (n / e) g * h e)
-  unfolding pair overDivisors
+  by-inner : (e : ℕ) → 0 < e → sum_to n (λ d. pair d e) ≡ when (divides e n) (over_divisors (n / e) g * h e)
+  unfolding pair over_divisors
   by-inner e z = elim (test (divides e n)) [ passes q ↦ rw q (along (n / e) (quotient e n (of-divides e n q)) (quotient-pos e n pos (of-divides e n q))) | fails q ↦ rw q (none q) ]
     where
       none : divides e n ≡ false → sum_to n (λ d. pair d e) ≡ 0
@@ -179,7 +179,7 @@ module _ (n : ℕ) (g h : ℕ → ℕ) (pos : 0 < n) where
           let u : n / (e * j) ≡ m / j = ap (λ (x : ℕ). x / (e * j)) (sym q) ∙ mul-div-mul_left m j z in
           rw (t, u, divides-of e (e * j) (dvd-mul_right e j)) (elim (test (divides j m)) [ passes y ↦ rw y (mul_comm (g (m / j)) (h e)) | fails y ↦ rw y (sym (mul-zero (h e))) ])
 
-      along : (m : ℕ) → e * m ≡ n → 0 < m → sum_to n (λ d. pair d e) ≡ overDivisors m g * h e
+      along : (m : ℕ) → e * m ≡ n → 0 < m → sum_to n (λ d. pair d e) ≡ over_divisors m g * h e
       along m q p =
           ap (λ (x : ℕ). sum_to x (λ d. pair d e)) (sym q)
           ∙ sum-multiples e m (λ d. pair d e) z (λ i a b y. rw (not_right (divides i n) (divides e i) y))
@@ -189,9 +189,9 @@ module _ (n : ℕ) (g h : ℕ → ℕ) (pos : 0 < n) where
           ∙ mul_comm (h e) (sum_to m (λ d. when (divides d m) (g d)))
 
   -- a sum over divisors of sums over divisors, in the other order
-  pub convolve : overDivisors n (λ d. g (n / d) * overDivisors d h) ≡ overDivisors n (λ e. overDivisors (n / e) g * h e)
-  unfolding overDivisors
+  pub convolve : over_divisors n (λ d. g (n / d) * over_divisors d h) ≡ over_divisors n (λ e. over_divisors (n / e) g * h e)
+  unfolding over_divisors
   convolve =
-      sum-cong n (λ d. when (divides d n) (g (n / d) * overDivisors d h)) (λ d. sum_to n (λ e. pair d e)) by-outer
+      sum-cong n (λ d. when (divides d n) (g (n / d) * over_divisors d h)) (λ d. sum_to n (λ e. pair d e)) by-outer
       ∙ sum-swap n n pair
-      ∙ sum-cong n (λ e. sum_to n (λ d. pair d e)) (λ e. when (divides e n) (overDivisors (n / e) g * h e)) (λ e p l. by-inner e p)
+      ∙ sum-cong n (λ e. sum_to n (λ d. pair d e)) (λ e. when (divides e n) (over_divisors (n / e) g * h e)) (λ e p l. by-inner e p)

@@ -22,7 +22,7 @@ use native.Mathlib.Nat.{
 }
 use Rattle.words.proofs.Split.{lt, eq, gt, tri, refuted, both, both_left, both_right}
 use Rattle.words.proofs.Search.{greatest-is}
-use Rattle.how_many_number_spec.specs.{Divisors.divides, Phi.dividesBoth, Phi.gcd}
+use Rattle.how_many_number_spec.specs.{Divisors.divides, Phi.divides_both, Phi.gcd}
 use Rattle.how_many_number_laws.proofs.Divide.{divides-of, of-divides, quotient}
 
 -- g divides a and b, and each number that does divides g
@@ -54,10 +54,10 @@ common a b p q = go (suc (a + b)) a b (omega arith) p q
 
 -- it is the greatest
 pub gcd-is : (a b g : ℕ) → 0 < b → Common a b g → gcd a b ≡ g
-unfolding gcd dividesBoth
+unfolding gcd divides_both
 gcd-is a b g q c =
-    greatest-is b (dividesBoth a b) g (pos_of_dvd_of_pos c.right q) (le_of_dvd q c.right) (both (divides g a) (divides g b) (divides-of g a c.left) (divides-of g b c.right))
-    (λ j l m. refuted (dividesBoth a b j) (λ h. omega (
+    greatest-is b (divides_both a b) g (pos_of_dvd_of_pos c.right q) (le_of_dvd q c.right) (both (divides g a) (divides g b) (divides-of g a c.left) (divides-of g b c.right))
+    (λ j l m. refuted (divides_both a b j) (λ h. omega (
       arith,
       le_of_dvd (pos_of_dvd_of_pos c.right q)
           (c.most j (of-divides j a (both_left (divides j a) (divides j b) h)) (of-divides j b (both_right (divides j a) (divides j b) h))),

@@ -13,17 +13,17 @@ use native.Mathlib.Nat.{mul-le-mul}
 use Rattle.words.specs.{Search.all_below, Search.greatest, Readings.bit}
 use Rattle.words.proofs.Split.{both, not_right, refuted, clash}
 use Rattle.words.proofs.Search.{all-at}
-use Rattle.how_many_number_spec.specs.{Divisors.sum_to, Divisors.divides, Phi.dividesBoth, Phi.gcd}
-use Rattle.how_many_number_spec.specs.Mu.{divisorFromTwo, prime, squareFromTwo, squareFree}
+use Rattle.how_many_number_spec.specs.{Divisors.sum_to, Divisors.divides, Phi.divides_both, Phi.gcd}
+use Rattle.how_many_number_spec.specs.Mu.{divisor_from_two, prime, square_from_two, square_free}
 
 -- ---- the greatest common divisor
 
-pub both-no : (a b d : ℕ) → (a % d ≡ 0 → ⊥) → false ≡ dividesBoth a b d
-unfolding dividesBoth divides
+pub both-no : (a b d : ℕ) → (a % d ≡ 0 → ⊥) → false ≡ divides_both a b d
+unfolding divides_both divides
 both-no a b d h = rw (ne_eqb (a % d) 0 h)
 
-pub both_yes : (a b d : ℕ) → a % d ≡ 0 → eqb (b % d) 0 ≡ dividesBoth a b d
-unfolding dividesBoth divides
+pub both_yes : (a b d : ℕ) → a % d ≡ 0 → eqb (b % d) 0 ≡ divides_both a b d
+unfolding divides_both divides
 both_yes a b d h = rw (eq-eqb (a % d) 0 h)
 
 greatest-here : (f : ℕ → Bool) (g : ℕ) → f (suc g) ≡ true → greatest (suc g) f ≡ suc g
@@ -35,19 +35,19 @@ unfolding greatest
 greatest-below f g e = rw (e, greatest)
 
 module _ (a b : ℕ) where
-  pub gcd-start : gcd a b ≡ greatest b (dividesBoth a b)
+  pub gcd-start : gcd a b ≡ greatest b (divides_both a b)
   unfolding gcd
   gcd-start = refl
 
-  pub gcd-found : (g : ℕ) → gcd a b ≡ greatest g (dividesBoth a b) → 0 < g → true ≡ dividesBoth a b g → g ≡ gcd a b
+  pub gcd-found : (g : ℕ) → gcd a b ≡ greatest g (divides_both a b) → 0 < g → true ≡ divides_both a b g → g ≡ gcd a b
   gcd-found zero e z t = absurd (omega arith)
-  gcd-found (suc g) e z t = sym (e ∙ greatest-here (dividesBoth a b) g (sym t))
+  gcd-found (suc g) e z t = sym (e ∙ greatest-here (divides_both a b) g (sym t))
 
-  pub gcd-on : (g : ℕ) → gcd a b ≡ greatest g (dividesBoth a b) → 0 < g → false ≡ dividesBoth a b g → gcd a b ≡ greatest (g - 1) (dividesBoth a b)
+  pub gcd-on : (g : ℕ) → gcd a b ≡ greatest g (divides_both a b) → 0 < g → false ≡ divides_both a b g → gcd a b ≡ greatest (g - 1) (divides_both a b)
   gcd-on zero e z t = absurd (omega arith)
-  gcd-on (suc g) e z t = let q : suc g - 1 ≡ g = omega arith in rw q (e ∙ greatest-below (dividesBoth a b) g (sym t))
+  gcd-on (suc g) e z t = let q : suc g - 1 ≡ g = omega arith in rw q (e ∙ greatest-below (divides_both a b) g (sym t))
 
-  pub gcd-end : (g : ℕ) → gcd a b ≡ greatest g (dividesBoth a b) → g ≤ 0 → 0 ≡ gcd a b
+  pub gcd-end : (g : ℕ) → gcd a b ≡ greatest g (divides_both a b) → g ≤ 0 → 0 ≡ gcd a b
   unfolding greatest
   gcd-end zero e z = sym e
   gcd-end (suc g) e z = absurd (omega arith)
@@ -99,24 +99,24 @@ module _ (p : ℕ) where
   prime-small h = rw (le-ltb 1 p (omega arith))
 
   pub prime-no : (d : ℕ) → 1 < d → d < p → p % d ≡ 0 → false ≡ prime p
-  unfolding prime divisorFromTwo divides
+  unfolding prime divisor_from_two divides
   prime-no d l m e =
       rw (trial-fall (λ d. eqb (p % d) 0) p d l m (eq-eqb (p % d) 0 e)) (sym (not_right (ltb 1 p) false refl))
 
   pub prime-yes : (d : ℕ) → 2 ≤ p → d ≤ p → p ≤ d → trials (λ d. eqb (p % d) 0) d ≡ true → true ≡ prime p
-  unfolding prime divisorFromTwo divides
+  unfolding prime divisor_from_two divides
   prime-yes d l a b h =
       let q : d ≡ p = omega arith in
       sym (both (ltb 1 p) (trials (λ d. eqb (p % d) 0) p) (lt-ltb 1 p l) (rw q at h))
 
 -- m is square-free
 module _ (m : ℕ) where
-  pub square-no : (d : ℕ) → 1 < d → d ≤ m → m % (d * d) ≡ 0 → false ≡ squareFree m
-  unfolding squareFree squareFromTwo divides
+  pub square-no : (d : ℕ) → 1 < d → d ≤ m → m % (d * d) ≡ 0 → false ≡ square_free m
+  unfolding square_free square_from_two divides
   square-no d l a e = sym (trial-fall (λ d. eqb (m % (d * d)) 0) (suc m) d l (omega arith) (eq-eqb (m % (d * d)) 0 e))
 
-  pub square-yes : (d : ℕ) → m < d → d ≤ m + 1 → trials (λ d. eqb (m % (d * d)) 0) d ≡ true → true ≡ squareFree m
-  unfolding squareFree squareFromTwo divides
+  pub square-yes : (d : ℕ) → m < d → d ≤ m + 1 → trials (λ d. eqb (m % (d * d)) 0) d ≡ true → true ≡ square_free m
+  unfolding square_free square_from_two divides
   square-yes d a b h = let q : d ≡ suc m = omega arith in sym (rw q at h)
 
 -- a square of a number up to 64

@@ -6,8 +6,8 @@ use Rattle.words.proofs.Plain.{eqb-true}
 use native.Mathlib.Nat.{mul_comm, le-mul_of_pos_right, dvd-mul_right, dvd-mul_left_of_dvd, le_of_dvd}
 use Rattle.words.specs.{Search.all_below, Readings.bit}
 use Rattle.words.proofs.Split.{Test, passes, fails, test, not_left, not_right, agree}
-use Rattle.how_many_number_spec.specs.Divisors.{when, sum_to, divides, overDivisors}
-use Rattle.how_many_number_spec.specs.Mu.{divisorFromTwo, prime, squareFromTwo, squareFree, primesOf, muPlus, muMinus}
+use Rattle.how_many_number_spec.specs.Divisors.{when, sum_to, divides, over_divisors}
+use Rattle.how_many_number_spec.specs.Mu.{divisor_from_two, prime, square_from_two, square_free, primes_of, mu_plus, mu_minus}
 use Rattle.how_many_number_laws.proofs.Sums.{sum-cong, sum-add, sum-wider}
 use Rattle.how_many_number_laws.proofs.Divide.{divides-of, of-divides, divides-not, not-divides, divides-scale, quotient, quotient-pos, sum-multiples}
 use Rattle.how_many_number_laws.proofs.Gcd.{gauss}
@@ -27,19 +27,19 @@ pub record Signs (s t : ℕ → Bool) : Type 0 where
   pub fails-at : (p j : ℕ) → prime p ≡ true → 0 < j → p ∣ j → s (p * j) ≡ false
 
 -- mu at a prime more
-pub plus-signs : Signs muPlus muMinus
-unfolding muPlus muMinus
+pub plus-signs : Signs mu_plus mu_minus
+unfolding mu_plus mu_minus
 plus-signs =
     record {
-      turns = λ p j h i n. rw (free_more p j h i n, primes-more p j h i n, even-suc (primesOf j));
+      turns = λ p j h i n. rw (free_more p j h i n, primes-more p j h i n, even-suc (primes_of j));
       fails-at = λ p j h i q. rw (free-square p j h i q);
     }
 
-pub minus-signs : Signs muMinus muPlus
-unfolding muPlus muMinus
+pub minus-signs : Signs mu_minus mu_plus
+unfolding mu_plus mu_minus
 minus-signs =
     record {
-      turns = λ p j h i n. rw (free_more p j h i n, primes-more p j h i n, odd-suc (primesOf j));
+      turns = λ p j h i n. rw (free_more p j h i n, primes-more p j h i n, odd-suc (primes_of j));
       fails-at = λ p j h i q. rw (free-square p j h i q);
     }
 
@@ -86,25 +86,25 @@ module _ (p b : ℕ) (h : prime p ≡ true) (pos : 0 < b) where
         at j a (passes y) = rw (divides-scale p j b above, divides-of p (p * j) (dvd-mul_right p j), y, signs.fails-at p j h a (of-divides p j y))
         at j a (fails y) = rw (divides-scale p j b above, divides-of p (p * j) (dvd-mul_right p j), y, signs.turns p j h a (not-divides p j y))
 
-    two-parts : overDivisors (p * b) (λ c. bit (s c)) ≡ free s + free t
-    unfolding overDivisors
+    two-parts : over_divisors (p * b) (λ c. bit (s c)) ≡ free s + free t
+    unfolding over_divisors
     two-parts =
         sum-cong (p * b) (λ c. when (divides c (p * b)) (bit (s c))) (λ c. bit (divides c (p * b) && (not (divides p c) && s c)) + bit (divides c (p * b) && (divides p c && s c))) (λ c a l. parts c)
         ∙ sum-add (p * b) (λ c. bit (divides c (p * b) && (not (divides p c) && s c))) (λ c. bit (divides c (p * b) && (divides p c && s c)))
         ∙ omega (arith, apart, times)
 
-  balanced : overDivisors (p * b) (λ c. bit (muPlus c)) ≡ overDivisors (p * b) (λ c. bit (muMinus c))
-  balanced = omega (arith, two-parts muPlus muMinus plus-signs, two-parts muMinus muPlus minus-signs)
+  balanced : over_divisors (p * b) (λ c. bit (mu_plus c)) ≡ over_divisors (p * b) (λ c. bit (mu_minus c))
+  balanced = omega (arith, two-parts mu_plus mu_minus plus-signs, two-parts mu_minus mu_plus minus-signs)
 
 -- over the divisors of m, mu is as often 1 as -1, but for m = 1, where it is 1 once more
-pub mu-total : (m : ℕ) → 0 < m → overDivisors m (λ c. bit (muPlus c)) ≡ overDivisors m (λ c. bit (muMinus c)) + bit (eqb m 1)
-unfolding overDivisors sum_to divides muPlus muMinus squareFree squareFromTwo primesOf prime divisorFromTwo all_below
+pub mu-total : (m : ℕ) → 0 < m → over_divisors m (λ c. bit (mu_plus c)) ≡ over_divisors m (λ c. bit (mu_minus c)) + bit (eqb m 1)
+unfolding over_divisors sum_to divides mu_plus mu_minus square_free square_from_two primes_of prime divisor_from_two all_below
 mu-total zero p = absurd (omega arith)
 mu-total (suc zero) p = refl
 mu-total (suc (suc m)) p = rw (ne_eqb (suc (suc m)) 1 (λ e. omega arith)) (go (has-prime (suc (suc m)) (omega arith)))
   where
-    go : (q : ℕ) × (prime q ≡ true) × (q ∣ suc (suc m)) → overDivisors (suc (suc m)) (λ c. bit (muPlus c)) ≡ overDivisors (suc (suc m)) (λ c. bit (muMinus c)) + 0
+    go : (q : ℕ) × (prime q ≡ true) × (q ∣ suc (suc m)) → over_divisors (suc (suc m)) (λ c. bit (mu_plus c)) ≡ over_divisors (suc (suc m)) (λ c. bit (mu_minus c)) + 0
     go (q, h, d) =
         let e = quotient q (suc (suc m)) d in
         let z = quotient-pos q (suc (suc m)) (omega arith) d in
-        subst (λ (x : ℕ). overDivisors x (λ c. bit (muPlus c)) ≡ overDivisors x (λ c. bit (muMinus c)) + 0) e (omega (arith, balanced q (suc (suc m) / q) h z))
+        subst (λ (x : ℕ). over_divisors x (λ c. bit (mu_plus c)) ≡ over_divisors x (λ c. bit (mu_minus c)) + 0) e (omega (arith, balanced q (suc (suc m) / q) h z))

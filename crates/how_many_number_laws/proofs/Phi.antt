@@ -6,7 +6,7 @@ use Rattle.words.proofs.Plain.{ℕ, ◌*◌, ◌/◌, ◌<◌, ◌≤◌, ◌∣
 use native.Mathlib.Nat.{mul-zero, mul-one, mul_comm, eq_of_mul-eq-mul_left}
 use Rattle.words.specs.Readings.{bit}
 use Rattle.words.proofs.Split.{passes, fails, test, agree}
-use Rattle.how_many_number_spec.specs.Divisors.{when, sum_to, divides, overDivisors}
+use Rattle.how_many_number_spec.specs.Divisors.{when, sum_to, divides, over_divisors}
 use Rattle.how_many_number_spec.specs.Phi.{gcd, phi}
 use Rattle.how_many_number_laws.proofs.Sums.{sum-cong, sum-zero, sum_one, sum-const, sum-scale, sum-swap}
 use Rattle.how_many_number_laws.proofs.Divide.{of-divides, not-divides, quotient, quotient-pos, sum-multiples, over-cong, reindex}
@@ -31,8 +31,8 @@ gcd-class d m n z p pos e =
         (λ h. eq-eqb (d * gcd j m) d (ap (λ (x : ℕ). d * x) (eqb-true (gcd j m) 1 h) ∙ mul-one d)))
 
 -- a sum over the numbers 1 to n, by their greatest common divisors with n
-pub gcd-sum : (n : ℕ) (f : ℕ → ℕ) → 0 < n → sum_to n (λ i. f (gcd i n)) ≡ overDivisors n (λ d. phi (n / d) * f d)
-unfolding overDivisors
+pub gcd-sum : (n : ℕ) (f : ℕ → ℕ) → 0 < n → sum_to n (λ i. f (gcd i n)) ≡ over_divisors n (λ d. phi (n / d) * f d)
+unfolding over_divisors
 gcd-sum n f pos =
     sum-cong n (λ i. f (gcd i n)) (λ i. sum_to n (λ d. at d i)) (λ i a b. sym (one i a))
     ∙ sum-swap n n (λ i d. at d i)
@@ -57,7 +57,7 @@ gcd-sum n f pos =
         ]
 
 -- the sum of phi over the divisors of n is n
-pub phi-total : (n : ℕ) → 0 < n → overDivisors n phi ≡ n
+pub phi-total : (n : ℕ) → 0 < n → over_divisors n phi ≡ n
 phi-total n pos =
     sym (reindex n phi pos)
     ∙ over-cong n (λ d. phi (n / d)) (λ d. phi (n / d) * 1) (λ d a b q. sym (mul-one (phi (n / d))))

@@ -12,7 +12,7 @@ use Rattle.words.specs.{Search.all_below, Readings.bit}
 use Rattle.words.proofs.Split.{Test, passes, fails, test, lt, eq, gt, tri, both, both_left, both_right, not_right, refuted, agree, clash}
 use Rattle.words.proofs.Search.{all-at, all_of, not-all}
 use Rattle.how_many_number_spec.specs.{Divisors.sum_to, Divisors.divides, Phi.gcd}
-use Rattle.how_many_number_spec.specs.Mu.{divisorFromTwo, prime, squareFromTwo, squareFree, primesOf}
+use Rattle.how_many_number_spec.specs.Mu.{divisor_from_two, prime, square_from_two, square_free, primes_of}
 use Rattle.how_many_number_laws.proofs.Sums.{sum-cong, sum_one, sum-add, sum-wider}
 use Rattle.how_many_number_laws.proofs.Divide.{divides-of, of-divides, divides-not, not-divides, quotient, quotient-pos}
 use Rattle.how_many_number_laws.proofs.Gcd.{gcd-common, gauss}
@@ -22,14 +22,14 @@ use Rattle.how_many_number_laws.proofs.Gcd.{gcd-common, gauss}
 -- a prime is at least 2
 pub prime-above : (p : ℕ) → prime p ≡ true → 1 < p
 unfolding prime
-prime-above p h = ltb-true 1 p (both_left (ltb 1 p) (all_below p (λ d. not (divisorFromTwo p d))) h)
+prime-above p h = ltb-true 1 p (both_left (ltb 1 p) (all_below p (λ d. not (divisor_from_two p d))) h)
 
 -- no number from 2 on and below it divides it
 prime-none : (p d : ℕ) → prime p ≡ true → 1 < d → d < p → d ∣ p → ⊥
-unfolding prime divisorFromTwo
+unfolding prime divisor_from_two
 prime-none p d h a b q =
-    clash (divisorFromTwo p d) (both (ltb 1 d) (divides d p) (lt-ltb 1 d a) (divides-of d p q))
-    (not-true (divisorFromTwo p d) (all-at p (λ d. not (divisorFromTwo p d)) (both_right (ltb 1 p) (all_below p (λ d. not (divisorFromTwo p d))) h)
+    clash (divisor_from_two p d) (both (ltb 1 d) (divides d p) (lt-ltb 1 d a) (divides-of d p q))
+    (not-true (divisor_from_two p d) (all-at p (λ d. not (divisor_from_two p d)) (both_right (ltb 1 p) (all_below p (λ d. not (divisor_from_two p d))) h)
     d b))
 
 -- only 1 and itself divide it
@@ -49,16 +49,16 @@ prime-gcd p a h i n =
     prime-only p (gcd a p) h c.right (λ e. n (subst (λ (x : ℕ). x ∣ a) e c.left))
 
 -- a number from 2 on that is no prime has a divisor from 2 on and below it
-smaller : (m : ℕ) → 1 < m → prime m ≡ false → (d : ℕ) × (d < m) × (not (divisorFromTwo m d) ≡ false)
+smaller : (m : ℕ) → 1 < m → prime m ≡ false → (d : ℕ) × (d < m) × (not (divisor_from_two m d) ≡ false)
 unfolding prime
 smaller m l e =
-    not-all m (λ d. not (divisorFromTwo m d)) (refuted (all_below m (λ d. not (divisorFromTwo m d)))
-    (λ h. clash (prime m) (both (ltb 1 m) (all_below m (λ d. not (divisorFromTwo m d))) (lt-ltb 1 m l) h) e))
+    not-all m (λ d. not (divisor_from_two m d)) (refuted (all_below m (λ d. not (divisor_from_two m d)))
+    (λ h. clash (prime m) (both (ltb 1 m) (all_below m (λ d. not (divisor_from_two m d))) (lt-ltb 1 m l) h) e))
 
-found : (m d : ℕ) → not (divisorFromTwo m d) ≡ false → (1 < d) × (d ∣ m)
-unfolding divisorFromTwo
+found : (m d : ℕ) → not (divisor_from_two m d) ≡ false → (1 < d) × (d ∣ m)
+unfolding divisor_from_two
 found m d e =
-    let h = not-false (divisorFromTwo m d) e in
+    let h = not-false (divisor_from_two m d) e in
     (ltb-true 1 d (both_left (ltb 1 d) (divides d m) h), of-divides d m (both_right (ltb 1 d) (divides d m) h))
 
 -- each number from 2 on is divided by some prime
@@ -79,34 +79,34 @@ has-prime m l = go (suc m) m (omega arith) l
 -- ---- square-free numbers
 
 -- no square of a number from 2 on divides a square-free number
-pub free-at : (m d : ℕ) → 0 < m → squareFree m ≡ true → 1 < d → d * d ∣ m → ⊥
-unfolding squareFree squareFromTwo
+pub free-at : (m d : ℕ) → 0 < m → square_free m ≡ true → 1 < d → d * d ∣ m → ⊥
+unfolding square_free square_from_two
 free-at m d p h l q =
-    clash (squareFromTwo m d) (both (ltb 1 d) (divides (d * d) m) (lt-ltb 1 d l) (divides-of (d * d) m q))
-    (not-true (squareFromTwo m d) (all-at (suc m) (λ d. not (squareFromTwo m d)) h d (omega (arith, le_of_dvd p q, le-mul_of_pos_right {m = d} d (omega arith)))))
+    clash (square_from_two m d) (both (ltb 1 d) (divides (d * d) m) (lt-ltb 1 d l) (divides-of (d * d) m q))
+    (not-true (square_from_two m d) (all-at (suc m) (λ d. not (square_from_two m d)) h d (omega (arith, le_of_dvd p q, le-mul_of_pos_right {m = d} d (omega arith)))))
 
 -- and a number with that property is square-free
-pub free_of : (m : ℕ) → ((d : ℕ) → 1 < d → d * d ∣ m → ⊥) → squareFree m ≡ true
-unfolding squareFree squareFromTwo
+pub free_of : (m : ℕ) → ((d : ℕ) → 1 < d → d * d ∣ m → ⊥) → square_free m ≡ true
+unfolding square_free square_from_two
 free_of m h =
-    all_of (suc m) (λ d. not (squareFromTwo m d))
-    (λ d l. rw (refuted (squareFromTwo m d) (λ e. h d (ltb-true 1 d (both_left (ltb 1 d) (divides (d * d) m) e)) (of-divides (d * d) m (both_right (ltb 1 d) (divides (d * d) m) e)))))
+    all_of (suc m) (λ d. not (square_from_two m d))
+    (λ d l. rw (refuted (square_from_two m d) (λ e. h d (ltb-true 1 d (both_left (ltb 1 d) (divides (d * d) m) e)) (of-divides (d * d) m (both_right (ltb 1 d) (divides (d * d) m) e)))))
 
 module _ (p j : ℕ) (h : prime p ≡ true) (i : 0 < j) where
   above : 0 < p
   above = omega (arith, prime-above p h)
 
   -- a prime twice
-  pub free-square : p ∣ j → squareFree (p * j) ≡ false
-  free-square q = refuted (squareFree (p * j)) (λ e. free-at (p * j) p (mul-pos above i) e (prime-above p h) (mul-dvd-mul_left p p q))
+  pub free-square : p ∣ j → square_free (p * j) ≡ false
+  free-square q = refuted (square_free (p * j)) (λ e. free-at (p * j) p (mul-pos above i) e (prime-above p h) (mul-dvd-mul_left p p q))
 
   -- a prime more
-  pub free_more : (p ∣ j → ⊥) → squareFree (p * j) ≡ squareFree j
+  pub free_more : (p ∣ j → ⊥) → square_free (p * j) ≡ square_free j
   free_more n =
-      agree (squareFree (p * j)) (squareFree j) (λ e. free_of j (λ d l q. free-at (p * j) d (mul-pos above i) e l (dvd-mul_left_of_dvd (d * d) q p)))
+      agree (square_free (p * j)) (square_free j) (λ e. free_of j (λ d l q. free-at (p * j) d (mul-pos above i) e l (dvd-mul_left_of_dvd (d * d) q p)))
       (λ e. free_of (p * j) (λ d l q. split e d l q (test (divides p d))))
     where
-      split : squareFree j ≡ true → (d : ℕ) → 1 < d → d * d ∣ p * j → Test (divides p d) → ⊥
+      split : square_free j ≡ true → (d : ℕ) → 1 < d → d * d ∣ p * j → Test (divides p d) → ⊥
       split e d l q (passes y) =
           let s = of-divides p d y in
           n (dvd_of_mul-dvd-mul_left p above (dvd_trans (p * p) (mul-dvd-mul p p s s) q))
@@ -138,8 +138,8 @@ module _ (p j : ℕ) (h : prime p ≡ true) (i : 0 < j) where
           apart s = omega (arith, prime-above p h, prime-only q p y s (λ t. clash (eqb p q) (eq-eqb p q t) e))
 
   -- one prime more divides p j than j
-  pub primes-more : (p ∣ j → ⊥) → primesOf (p * j) ≡ suc (primesOf j)
-  unfolding primesOf
+  pub primes-more : (p ∣ j → ⊥) → primes_of (p * j) ≡ suc (primes_of j)
+  unfolding primes_of
   primes-more n =
       sum-cong (p * j) (λ q. bit (prime q && divides q (p * j))) (λ q. bit (eqb p q) + bit (prime q && divides q j)) (λ q a b. one-prime n q a)
       ∙ sum-add (p * j) (λ q. bit (eqb p q)) (λ q. bit (prime q && divides q j))

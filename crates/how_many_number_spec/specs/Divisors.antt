@@ -1,7 +1,7 @@
 -- Sums over the numbers 1 to n, and over the divisors of n.
 --     sum_to n f           f 1 + f 2 + .. + f n
 --     divides d n         d divides n
---     overDivisors n f    the sum of f d over the divisors d of n, 1 and n among them; n is at least 1
+--     over_divisors n f    the sum of f d over the divisors d of n, 1 and n among them; n is at least 1
 use Rattle.std.specs.Prelude.{ℕ, zero, suc, ◌+◌, ◌%◌, Bool, true, false, eqb}
 
 -- x where the test passes, 0 where it fails
@@ -19,5 +19,5 @@ unfoldable pub divides : ℕ → ℕ → Bool
 divides d n = eqb (n % d) 0
 
 -- the sum of f over the divisors of n
-unfoldable pub overDivisors : ℕ → (ℕ → ℕ) → ℕ
-overDivisors n f = sum_to n (λ d. when (divides d n) (f d))
+unfoldable pub over_divisors : ℕ → (ℕ → ℕ) → ℕ
+over_divisors n f = sum_to n (λ d. when (divides d n) (f d))

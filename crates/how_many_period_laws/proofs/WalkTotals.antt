@@ -8,7 +8,7 @@ use Rattle.words.specs.Readings.{Reading, readings, bit, total, count}
 use Rattle.words.proofs.Split.{passes, fails, test, clash}
 use Rattle.words.proofs.Lex.{same_true, same_refl, same_false}
 use Rattle.words.proofs.{Readings.readings-all, Count.total-cong}
-use Rattle.rings.specs.{Necklace.necklace, Steps.FullWalk, Steps.howMany}
+use Rattle.rings.specs.{Necklace.necklace, Steps.FullWalk, Steps.how_many}
 use Rattle.ring_laws.proofs.FullWalk.{zeros}
 use Rattle.ring_total_laws.proofs.Totals.{total-swap}
 use Rattle.ring_total_laws.proofs.OneRing.{walk-rings, walk-all, walk_no}
@@ -37,8 +37,8 @@ module _ (n k : ℕ) (z : 0 < n) (y : 0 < k) (rings : List (List ℕ)) (m : ℕ)
           ∙ (elim (test (necklace u)) [ passes e ↦ rw (e, walk-all n k z y rings m walk u r e) (mul-one (g u)) | fails e ↦ rw (e, walk_no n k z y rings m walk u e) (mul-zero (g u)) ])
 
   -- the walk comes to as many rings as there are necklaces
-  pub walk-count : count (λ v. true) (zeros n ∷ rings) ≡ howMany necklace n k
-  unfolding howMany
+  pub walk-count : count (λ v. true) (zeros n ∷ rings) ≡ how_many necklace n k
+  unfolding how_many
   walk-count =
       walk-total (λ v. 1)
       ∙ total-cong (λ u. when (necklace u) 1) (λ u. bit (necklace u)) (readings n k) (λ u r. at (necklace u)) (readings-all n k)

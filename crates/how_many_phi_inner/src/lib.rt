@@ -1,12 +1,15 @@
 // Euler's phi, by counting. No public calls: crate `how_many` sees to it that the numbers are small.
+
+#![tactic(auto)]
+
 ghost use Rattle.std.specs.Prelude.{◌≤◌, ◌<◌, ◌≡◌, eqb};
 ghost use Rattle.words.specs.Readings.{bit};
-ghost use Rattle.how_many_number_spec.specs.Phi.{dividesBoth, gcd, phi};
+ghost use Rattle.how_many_number_spec.specs.Phi.{divides_both, gcd, phi};
 
 // Whether d divides a and b.
 fn divides_both(a: usize, b: usize, d: usize) -> bool
     requires { 0 < d }
-    ensures { result ≡ dividesBoth a b d }
+    ensures { result ≡ divides_both a b d }
 {
     if a % d != 0 {
         return false;

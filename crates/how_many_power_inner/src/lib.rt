@@ -1,4 +1,7 @@
 // A power, factor after factor. No public calls: the callers see to it that it is at most 2 to the power 32, so that nothing wraps.
+
+#![tactic(auto)]
+
 ghost use Rattle.std.specs.Prelude.{◌^◌, ◌≤◌, ◌<◌, ◌≡◌};
 
 // k to the power e.

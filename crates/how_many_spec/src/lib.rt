@@ -1,5 +1,7 @@
 // What the calls that count answer and promise, and that they have one answer. No functions.
 
+#![tactic(auto)]
+
 use refusal::Refusal;
 
 // How many there are, or a refusal.

@@ -1,10 +1,13 @@
 // The divisor formulas (001, equation 1; 02, request f): their sums over the divisors of n, and how many rings they say there are. No public calls: crate `how_many`
 // sees to it that n and k are a ring's numbers and that k to the power n is at most 2 to the power 32, so that nothing wraps.
+
+#![tactic(auto)]
+
 ghost use Rattle.std.specs.Prelude.{◌/◌, ◌≤◌, ◌<◌, ◌≡◌};
 ghost use Rattle.rings.specs.Necklace.{necklace, lyndon};
-ghost use Rattle.rings.specs.Steps.{howMany};
-ghost use Rattle.how_many_number_spec.specs.Divisors.{when, divides, overDivisors};
-ghost use Rattle.how_many_sums_inner.specs.Weights.{Small, weightOf, powers};
+ghost use Rattle.rings.specs.Steps.{how_many};
+ghost use Rattle.how_many_number_spec.specs.Divisors.{when, divides, over_divisors};
+ghost use Rattle.how_many_sums_inner.specs.Weights.{Small, weight_of, powers};
 
 // What a sum over the divisors weighs its powers by: phi, or 1 where mu is 1, or 1 where mu is -1.
 #[derive(Drop)]
@@ -18,7 +21,7 @@ pub enum Weight {
 fn weigh(w: Weight, d: usize) -> usize
     requires d_nonzero { 0 < d }
     requires d_bound { d ≤ 64 }
-    ensures { (result ≡ weightOf w d) × (result ≤ 64) }
+    ensures { (result ≡ weight_of w d) × (result ≤ 64) }
 {
     match w {
         Weight::Phi => how_many_phi_inner::phi_of(d),
@@ -44,7 +47,7 @@ fn summand(w: Weight, k: usize, n: usize, d: usize) -> usize
 // The sum over the divisors of n: at most 64 summands of at most 64 times 2 to the power 32 each.
 fn over_divisors(w: Weight, k: usize, n: usize) -> usize
     requires { Small k n }
-    ensures { result ≡ overDivisors n (powers w k n) }
+    ensures { result ≡ over_divisors n (powers w k n) }
 {
     let mut x: usize = 0;
     let mut d: usize = 0;
@@ -66,7 +69,7 @@ fn part(x: usize, n: usize) -> usize
 // How many necklaces there are (001, equation 1).
 pub fn necklaces_of(k: usize, n: usize) -> usize
     requires { Small k n }
-    ensures { result ≡ howMany necklace n k }
+    ensures { result ≡ how_many necklace n k }
 {
     let x = over_divisors(Weight::Phi, k, n);
     part(x, n)
@@ -75,7 +78,7 @@ pub fn necklaces_of(k: usize, n: usize) -> usize
 // How many Lyndon words there are: the powers where mu is 1, less those where it is -1.
 pub fn lyndon_of(k: usize, n: usize) -> usize
     requires { Small k n }
-    ensures { result ≡ howMany lyndon n k }
+    ensures { result ≡ how_many lyndon n k }
 {
     let plus = over_divisors(Weight::Plus, k, n);
     let minus = over_divisors(Weight::Minus, k, n);

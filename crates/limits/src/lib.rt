@@ -1,6 +1,8 @@
 // Which numbers k and n may be listed, counted or written out whole (01, 'Refusal numbers'; 02, requests f, g and l): 1, 2, and 12 where k to the power n is above
 // a limit. The limit is a parameter: each program and call has its own.
 
+#![tactic(auto)]
+
 ghost use Rattle.std.specs.Prelude.{◌^◌, ◌≡◌, ltb};
 ghost use Rattle.limits_spec.specs.Limits.{NumbersSay};
 

@@ -5,7 +5,7 @@
 use Rattle.words.proofs.Plain.{ℕ, ◌≤◌, arith, ◌≡◌, inl, inr}
 use Rattle.refusal.specs.{declared.Refusal.Refusal, Numbers.number_of, Order.Given}
 use Rattle.limits_spec.specs.{declared.Planned.Planned, declared.Planned.TheVariants.Accepted}
-use Rattle.limits_spec.specs.Limits.{Listable, numbersOrder, NumbersSay}
+use Rattle.limits_spec.specs.Limits.{Listable, numbers_order, NumbersSay}
 
 -- numbers that are accepted
 pub accepted-listable : (limit k n j m : ℕ) (p : Planned) → p ≡ Accepted j m → NumbersSay limit k n p → Listable limit k n
@@ -16,7 +16,7 @@ pub listable-within : (limit most k n : ℕ) → Listable limit k n → limit �
 listable-within limit most k n l h = record { sized = l.sized; shaded = l.shaded; few = omega (arith, l.few) }
 
 -- the number of a refusal
-pub given-number : (limit k n : ℕ) (r : Refusal) → Given (numbersOrder limit k n) r → number_of r ≤ 12
+pub given-number : (limit k n : ℕ) (r : Refusal) → Given (numbers_order limit k n) r → number_of r ≤ 12
 given-number limit k n r (inl (inl (e, f))) = rw e (omega arith)
 given-number limit k n r (inl (inr (a, (e, f)))) = rw e (omega arith)
 given-number limit k n r (inr (a, (e, f))) = rw e (omega arith)

@@ -7,17 +7,17 @@ use Rattle.refusal.specs.Order.{Passed}
 use Rattle.refusal.proofs.Unique.{one-refusal, never_both}
 use Rattle.limits_spec.specs.declared.Planned.{Planned}
 use Rattle.limits_spec.specs.declared.Planned.TheVariants.{Accepted, Refused}
-use Rattle.limits_spec.specs.Limits.{Listable, numbersOrder, NumbersSay}
+use Rattle.limits_spec.specs.Limits.{Listable, numbers_order, NumbersSay}
 
 module _ (limit k n : ℕ) where
-  pub listable-passed : Listable limit k n → Passed (numbersOrder limit k n)
+  pub listable-passed : Listable limit k n → Passed (numbers_order limit k n)
   listable-passed l = ((l.sized, l.shaded), l.few)
 
-  pub passed-listable : Passed (numbersOrder limit k n) → Listable limit k n
+  pub passed-listable : Passed (numbers_order limit k n) → Listable limit k n
   passed-listable p = record { sized = p.0.0; shaded = p.0.1; few = p.1 }
 
   pub one-numbers : (p q : Planned) → NumbersSay limit k n p → NumbersSay limit k n q → p ≡ q
   one-numbers (Accepted j m) (Accepted i l) a b = cc (a.0, a.1, b.0, b.1)
-  one-numbers (Accepted j m) (Refused t) a b = absurd (never_both (numbersOrder limit k n) t b (listable-passed a.2))
-  one-numbers (Refused r) (Accepted i l) a b = absurd (never_both (numbersOrder limit k n) r a (listable-passed b.2))
-  one-numbers (Refused r) (Refused t) a b = ap Refused (one-refusal (numbersOrder limit k n) r t a b)
+  one-numbers (Accepted j m) (Refused t) a b = absurd (never_both (numbers_order limit k n) t b (listable-passed a.2))
+  one-numbers (Refused r) (Accepted i l) a b = absurd (never_both (numbers_order limit k n) r a (listable-passed b.2))
+  one-numbers (Refused r) (Refused t) a b = ap Refused (one-refusal (numbers_order limit k n) r t a b)

@@ -1,8 +1,8 @@
 -- Which numbers k and n may be listed, counted or written out whole (01, 'Refusal numbers': 1, 2 and 12). `limit` is the greatest power that is not Too many:
--- `mostListed` for the listing program and for a target set, and another for each request that sets one.
---     mostListed                2 to the power 24
+-- `most_listed` for the listing program and for a target set, and another for each request that sets one.
+--     most_listed                2 to the power 24
 --     Listable limit k n        1, 2 and 12 passed
---     numbersOrder limit k n    the order; `limit-numbers`: by its numbers, as the client says it
+--     numbers_order limit k n    the order; `limit-numbers`: by its numbers, as the client says it
 --     NumbersSay limit k n p    what the plan p of the numbers k and n promises
 -- That no numbers have two plans: proofs/Unique.
 use Rattle.std.specs.Prelude.{ℕ, ◌^◌, ◌≤◌, ◌≡◌, refl, [], ◌∷◌}
@@ -13,8 +13,8 @@ use Rattle.limits_spec.specs.declared.Planned.{Planned}
 use Rattle.limits_spec.specs.declared.Planned.TheVariants.{Accepted, Refused}
 
 -- the greatest power that is not Too many in the listing program (01), and for a target set (02, g)
-abbrev pub mostListed : ℕ
-mostListed = 2 ^ 24
+abbrev pub most_listed : ℕ
+most_listed = 2 ^ 24
 
 -- n and k are a ring's numbers, and there are at most `limit` readings of them
 pub record Listable (limit k n : ℕ) : Type 0 where
@@ -23,12 +23,12 @@ pub record Listable (limit k n : ℕ) : Type 0 where
   pub few : k ^ n ≤ limit
 
 -- the order 1, 2, 12
-abbrev pub numbersOrder : ℕ → ℕ → ℕ → Checks
-numbersOrder limit k n = fact (Sized n) (Length 0) ▸ fact (Shaded k) (Shades 0) ▸ fact (k ^ n ≤ limit) TooMany
+abbrev pub numbers_order : ℕ → ℕ → ℕ → Checks
+numbers_order limit k n = fact (Sized n) (Length 0) ▸ fact (Shaded k) (Shades 0) ▸ fact (k ^ n ≤ limit) TooMany
 
-pub limit-numbers : (limit k n : ℕ) → numbered (numbersOrder limit k n) ≡ (1 ∷ 2 ∷ 12 ∷ [])
+pub limit-numbers : (limit k n : ℕ) → numbered (numbers_order limit k n) ≡ (1 ∷ 2 ∷ 12 ∷ [])
 limit-numbers limit k n = refl
 
 abbrev pub NumbersSay : ℕ → ℕ → ℕ → Planned → Type 0
 NumbersSay limit k n (Accepted j m) = (j ≡ k) × (m ≡ n) × Listable limit k n
-NumbersSay limit k n (Refused r) = Given (numbersOrder limit k n) r
+NumbersSay limit k n (Refused r) = Given (numbers_order limit k n) r

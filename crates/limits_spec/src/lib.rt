@@ -1,5 +1,7 @@
 // What two numbers ask for, with a limit of Too many, and that there is one answer. No functions.
 
+#![tactic(auto)]
+
 use refusal::Refusal;
 
 // What two numbers ask for: the rings of k shades and n sectors, or a refusal.

@@ -6,12 +6,12 @@ use Rattle.words.proofs.Plain.{ℕ, ◌+◌, ◌-◌, ◌*◌, ◌^◌, ◌<◌,
 use Rattle.words.proofs.{Plain.drop_of_length-le, Plain.drop-cons, Sequence.one_more}
 use native.Mathlib.Nat.{pow-succ', pow-le-pow_right}
 use Rattle.text_spec.specs.Decimal.{decimal}
-use Rattle.text_spec.proofs.Digits.{valueFrom, numeral, decimal-short, decimal-digits, decimal-some, decimal-lead, length-decimal}
+use Rattle.text_spec.proofs.Digits.{value_from, numeral, decimal-short, decimal-digits, decimal-some, decimal-lead, length-decimal}
 
 pub record Spelling (s : List ℕ) (x i : ℕ) : Type 0 where
   pub inside : i ≤ length s
   pub digits : (j : ℕ) → j < i → (48 ≤ get_or s j 0) × (get_or s j 0 ≤ 57)
-  pub value : valueFrom 0 s ≡ valueFrom x (drop i s)
+  pub value : value_from 0 s ≡ value_from x (drop i s)
   pub small : x < 10 ^ i
 
 -- before the first character
@@ -21,12 +21,12 @@ spelling-start s = record { inside = omega arith; digits = λ j h. absurd (omega
 module _ (s : List ℕ) (x i : ℕ) (p : Spelling s x i) where
   -- one digit more
   pub spelling-on : i < length s → 48 ≤ get_or s i 0 → get_or s i 0 ≤ 57 → Spelling s (x * 10 + (get_or s i 0 - 48)) (i + 1)
-  unfolding valueFrom
+  unfolding value_from
   spelling-on h lo hi =
       rw (add-one i) (record {
         inside = omega arith;
         digits = one_more (λ j. (48 ≤ get_or s j 0) × (get_or s j 0 ≤ 57)) i p.digits (lo, hi);
-        value = p.value ∙ ap (valueFrom x) (drop-cons s i 0 h);
+        value = p.value ∙ ap (value_from x) (drop-cons s i 0 h);
         small = omega (arith, p.small, pow-succ' 10 i);
       })
 
@@ -36,9 +36,9 @@ module _ (s : List ℕ) (x i : ℕ) (p : Spelling s x i) where
 
   -- at the end, s is the text of x
   pub spelling-end : length s ≤ i → 0 < length s → (get_or s 0 0 ≡ 48 → ⊥) → s ≡ decimal x
-  unfolding valueFrom
+  unfolding value_from
   spelling-end h l z =
-      let v : valueFrom 0 s ≡ x = p.value ∙ ap (valueFrom x) (drop_of_length-le s h) in
+      let v : value_from 0 s ≡ x = p.value ∙ ap (value_from x) (drop_of_length-le s h) in
       sym (numeral s l (λ j q. p.digits j (omega arith)) z) ∙ ap decimal v
 
 module _ (t : List ℕ) (x : ℕ) (e : t ≡ decimal x) where

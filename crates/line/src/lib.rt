@@ -1,4 +1,7 @@
 // The line that the listing program reads (01, 'The listing program'): k and n. Its parts serve other lines of numbers too.
+
+#![tactic(auto)]
+
 ghost use Rattle.line_spec.specs.Line.{ParseSays, FieldsSays, NumberSays, TwoSays};
 
 pub use line_spec::{Numeral, Parsed};

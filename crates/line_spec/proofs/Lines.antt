@@ -11,7 +11,7 @@
 --     line-short             a line has at most 8 characters
 --     one-parse              no line has two answers
 use Rattle.words.proofs.Plain.{ℕ, suc, ◌+◌, ◌-◌, ◌<◌, ◌≤◌, add-one, arith, ◌≡◌, refl, sym, ap, ◌∙◌, ◌⊎◌, inl, inr, ⊎_elim, List, [], ◌∷◌, ◌++◌, eqb, length}
-use Rattle.words.proofs.Plain.{get_or, take, drop, length-append, List·getD-append, drop_of_length-le, take-append_seam, drop-append-add, get_or-append_seam}
+use Rattle.words.proofs.Plain.{get_or, take, drop, length-append, List·get_d-append, drop_of_length-le, take-append_seam, drop-append-add, get_or-append_seam}
 use Rattle.words.proofs.Plain.{get_or-append-add, split_at, take_at, eqb-true, eqb-false}
 use Rattle.words.proofs.Split.{lt, eq, gt, tri, passes, fails, test}
 use Rattle.line_spec.specs.{declared.Parsed.Parsed, declared.Parsed.TheVariants.Pair, declared.Parsed.TheVariants.Line}
@@ -26,7 +26,7 @@ unfolding fields
 fields-space k n =
     record {
       within = simp length-append (omega arith);
-      before = λ i h e. omega (arith, decimal-digits k i h, sym (List·getD-append (decimal k) (32 ∷ decimal n) 0 i h) ∙ e);
+      before = λ i h e. omega (arith, decimal-digits k i h, sym (List·get_d-append (decimal k) (32 ∷ decimal n) 0 i h) ∙ e);
       here = λ h. get_or-append_seam (decimal k) 32 (decimal n) 0;
     }
 
@@ -82,7 +82,7 @@ pub no-newline : (k n i : ℕ) → i < length (fields k n) → get_or (fields k 
 unfolding fields
 no-newline k n i h e =
     elim (tri i (length (decimal k))) [
-      | lt l ↦ omega (arith, decimal-digits k i l, sym (List·getD-append (decimal k) (32 ∷ decimal n) 0 i l) ∙ e)
+      | lt l ↦ omega (arith, decimal-digits k i l, sym (List·get_d-append (decimal k) (32 ∷ decimal n) 0 i l) ∙ e)
       | eq l ↦ omega (arith, sym (get_or-append_seam (decimal k) 32 (decimal n) 0) ∙ rw l at e)
       | gt l ↦ behind (i - length (decimal k) - 1) (omega arith)
     ]

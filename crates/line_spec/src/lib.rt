@@ -1,5 +1,7 @@
 // The line of two numbers, as a definition with samples. No functions.
 
+#![tactic(auto)]
+
 // what the line says: k, then n; or that it is malformed
 #[derive(Drop)]
 pub enum Parsed {

@@ -1,10 +1,12 @@
 // The listing program's calls (01, 'The listing program'): what a line asks for, and its output page after page.
 
+#![tactic(auto)]
+
 ghost use Rattle.std.specs.Prelude.{◌≤◌, ◌≡◌, length};
 ghost use Rattle.plan_spec.specs.Plan.{PlanSays};
-ghost use Rattle.listing_spec.specs.Prints.{mostPrinted};
-ghost use Rattle.listing_spec.specs.Paging.{rowRoom, FirstPage, Next, Paged};
-ghost use Rattle.listing.specs.Says.{emptyPage, RefusedPageSays};
+ghost use Rattle.listing_spec.specs.Prints.{most_printed};
+ghost use Rattle.listing_spec.specs.Paging.{row_room, FirstPage, Next, Paged};
+ghost use Rattle.listing.specs.Says.{empty_page, RefusedPageSays};
 
 use limits::{MOST_LISTED, Planned};
 use listing_spec::{Page, State};
@@ -15,7 +17,7 @@ const LINE_ROOM: usize = 107;
 
 // What the listing program's line asks for.
 pub fn plan(line: &[u8]) -> Planned
-    ensures { PlanSays mostPrinted line.now result }
+    ensures { PlanSays most_printed line.now result }
 {
     plan::plan_line(line, MOST_LISTED)
 }
@@ -24,7 +26,7 @@ pub fn plan(line: &[u8]) -> Planned
 
 // A page of no bytes, behind which nothing follows.
 fn empty_page() -> Page
-    ensures { result ≡ emptyPage }
+    ensures { result ≡ empty_page }
 {
     Page {
         length: 0,
@@ -34,7 +36,7 @@ fn empty_page() -> Page
 
 // A refusal's page: its line alone.
 fn refused_page(r: Refusal, buf: &mut [u8]) -> Page
-    requires { rowRoom ≤ length buf.old }
+    requires { row_room ≤ length buf.old }
     ensures { RefusedPageSays r buf.old result buf.new }
 {
     let number = refusal::number(r);

@@ -1,7 +1,7 @@
 -- How many rings and how many moves a listing has behind it when it stands at a ring.
---     ringsTo, movesTo                      specs/Standing, passed on
+--     rings_to, moves_to                      specs/Standing, passed on
 --     count-bound                           no test passes for more readings of n and k than there are, k to the power n
---     zeros-upTo                            the all-zero ring is the least reading
+--     zeros-up_to                            the all-zero ring is the least reading
 --     rings-start, rings-next, rings-end    one ring at the all-zero ring, one more at each next, all at the last
 --     rings-bound, moves-bound              never more than k to the power n
 --     moves-begin, moves_next               no moves at the all-zero ring, and the moves of each step more
@@ -13,21 +13,21 @@ use Rattle.words.specs.Order.{before, up_to, same}
 use Rattle.words.specs.Readings.{Reading, readings, bit, total, count}
 use Rattle.words.proofs.Split.{lt, eq, gt, tri, Test, passes, fails, test, both, not_right, refuted, clash}
 use Rattle.words.proofs.{Sequence.sec, Sequence.Less, Readings.readings-all, Readings.nothing-first}
-use Rattle.words.proofs.Lex.{Lex, ahead, equal, behind, lex, same_refl, same_false, before-irrefl, before-trans, before-asym, before-upTo, before-not-upTo}
-use Rattle.words.proofs.Lex.{upTo-refl, upTo-split, upTo-before-trans, not-before, not-less-upTo}
-use Rattle.words.proofs.Count.{sumBelow, sum-cong, total-cons, total-le, count-split, count-cong, count-one}
-use Rattle.rings.specs.{Necklace.necklace, Prenecklace.prenecklace, Next.lastLow}
-use Rattle.rings.specs.Steps.{above_of, next_of, passed, moves, howMany}
+use Rattle.words.proofs.Lex.{Lex, ahead, equal, behind, lex, same_refl, same_false, before-irrefl, before-trans, before-asym, before-up_to, before-not-up_to}
+use Rattle.words.proofs.Lex.{up_to-refl, up_to-split, up_to-before-trans, not-before, not-less-up_to}
+use Rattle.words.proofs.Count.{sum_below, sum-cong, total-cons, total-le, count-split, count-cong, count-one}
+use Rattle.rings.specs.{Necklace.necklace, Prenecklace.prenecklace, Next.last_low}
+use Rattle.rings.specs.Steps.{above_of, next_of, passed, moves, how_many}
 use Rattle.ring_laws.proofs.{Repeat.Turned, Words.of-neck, Next.low-or-full, Next.none_before}
 use Rattle.ring_laws.proofs.Moves.{before-not-same, after-not-same, moves-start, moves-full, moves-join}
 use Rattle.ring_laws.proofs.FullWalk.{next-facts, length-zeros, zeros-at, zeros-reading, zeros-necklace, walk-sum, walk-exists, walk-moves}
-use Rattle.listing_spec.specs.Listing.{zeroRing}
-unfoldable pub use Rattle.listing_laws.specs.Standing.{ringsTo, movesTo}
+use Rattle.listing_spec.specs.Listing.{zero_ring}
+unfoldable pub use Rattle.listing_laws.specs.Standing.{rings_to, moves_to}
 
 -- ---- how many readings there are
 
-sum_same : (k a : ℕ) → sumBelow k (λ b. a) ≡ k * a
-unfolding sumBelow
+sum_same : (k a : ℕ) → sum_below k (λ b. a) ≡ k * a
+unfolding sum_below
 sum_same zero a = sym (zero-mul a)
 sum_same (suc k) a = rw (sum_same k a, suc-mul k a)
 
@@ -49,26 +49,26 @@ count-bound f n k = rw (sym (ones n k)) (total-le (λ w. bit (f w)) (λ w. 1) (r
 -- ---- rings
 
 -- nothing is below the all-zero ring
-pub zeros-upTo : (n k : ℕ) (v : List ℕ) → Reading n k v → up_to (zeroRing n) v ≡ true
-zeros-upTo n k v r =
-    not-less-upTo (zeroRing n) v (length-zeros n ∙ sym r.long) (λ l. omega (arith, l.less, zeros-at n l.at))
+pub zeros-up_to : (n k : ℕ) (v : List ℕ) → Reading n k v → up_to (zero_ring n) v ≡ true
+zeros-up_to n k v r =
+    not-less-up_to (zero_ring n) v (length-zeros n ∙ sym r.long) (λ l. omega (arith, l.less, zeros-at n l.at))
 
-pub rings-bound : (k : ℕ) (v : List ℕ) → ringsTo k v ≤ k ^ length v
-unfolding ringsTo
+pub rings-bound : (k : ℕ) (v : List ℕ) → rings_to k v ≤ k ^ length v
+unfolding rings_to
 rings-bound k v = count-bound (λ u. necklace u && up_to u v) (length v) k
 
 -- the all-zero ring is the first
-pub rings-start : (n k : ℕ) → 0 < k → ringsTo k (zeroRing n) ≡ 1
-unfolding ringsTo
+pub rings-start : (n k : ℕ) → 0 < k → rings_to k (zero_ring n) ≡ 1
+unfolding rings_to
 rings-start n k z =
-    rw (length-zeros n) (count-cong (λ u. necklace u && up_to u (zeroRing n)) (same (zeroRing n)) (readings n k) one (readings-all n k) ∙ count-one n k (zeroRing n) (zeros-reading n k z))
+    rw (length-zeros n) (count-cong (λ u. necklace u && up_to u (zero_ring n)) (same (zero_ring n)) (readings n k) one (readings-all n k) ∙ count-one n k (zero_ring n) (zeros-reading n k z))
   where
-    one : (u : List ℕ) → Reading n k u → (necklace u && up_to u (zeroRing n)) ≡ same (zeroRing n) u
+    one : (u : List ℕ) → Reading n k u → (necklace u && up_to u (zero_ring n)) ≡ same (zero_ring n) u
     one u r =
-        elim (lex (zeroRing n) u) [
-          | ahead l ↦ rw (before-not-upTo u (zeroRing n) l, before-not-same (zeroRing n) u l) (not_right (necklace u) false refl)
-          | equal e ↦ rw (← e, zeros-necklace n, upTo-refl (zeroRing n), same_refl (zeroRing n))
-          | behind l ↦ clash (up_to (zeroRing n) u) (zeros-upTo n k u r) (before-not-upTo (zeroRing n) u l)
+        elim (lex (zero_ring n) u) [
+          | ahead l ↦ rw (before-not-up_to u (zero_ring n) l, before-not-same (zero_ring n) u l) (not_right (necklace u) false refl)
+          | equal e ↦ rw (← e, zeros-necklace n, up_to-refl (zero_ring n), same_refl (zero_ring n))
+          | behind l ↦ clash (up_to (zero_ring n) u) (zeros-up_to n k u r) (before-not-up_to (zero_ring n) u l)
         ]
 
 -- x is the next necklace after v
@@ -78,26 +78,26 @@ module _ (k : ℕ) (v x : List ℕ) (next : next_of necklace k v ≡ some x) whe
   split-ring u r =
       let f = next-facts necklace k v x next in
       elim (lex u v) [
-        | ahead l ↦ low (before-upTo u v l) (before-trans u v x l f.1)
-        | equal e ↦ low (rw e (upTo-refl v)) (rw e f.1)
+        | ahead l ↦ low (before-up_to u v l) (before-trans u v x l f.1)
+        | equal e ↦ low (rw e (up_to-refl v)) (rw e f.1)
         | behind l ↦ high f.2 (f.3 u r l) l (test (necklace u))
       ]
     where
       low : up_to u v ≡ true → before u x ≡ true → bit (necklace u && up_to u x) ≡ bit (necklace u && up_to u v) + bit (same x u)
-      low a b = rw (a, before-upTo u x b, after-not-same x u b) (omega arith)
+      low a b = rw (a, before-up_to u x b, after-not-same x u b) (omega arith)
 
       at : up_to x u ≡ true → Lex u x → bit (up_to u x) ≡ bit (same x u)
-      at h (ahead a) = clash (up_to x u) h (before-not-upTo x u a)
-      at h (equal e) = rw (e, upTo-refl x, same_refl x)
-      at h (behind b) = rw (before-not-upTo u x b, before-not-same x u b)
+      at h (ahead a) = clash (up_to x u) h (before-not-up_to x u a)
+      at h (equal e) = rw (e, up_to-refl x, same_refl x)
+      at h (behind b) = rw (before-not-up_to u x b, before-not-same x u b)
 
       high : necklace x ≡ true → (necklace u ≡ true → up_to x u ≡ true) → before v u ≡ true → Test (necklace u) → bit (necklace u && up_to u x) ≡ bit (necklace u && up_to u v) + bit (same x u)
       high q h l (fails p) = rw (p, same_false x u (λ e. clash (necklace u) (rw e at q) p)) (omega arith)
-      high q h l (passes p) = rw (p, before-not-upTo u v l) (omega (arith, at (h p) (lex u x)))
+      high q h l (passes p) = rw (p, before-not-up_to u v l) (omega (arith, at (h p) (lex u x)))
 
   -- one ring more
-  pub rings-next : ringsTo k x ≡ suc (ringsTo k v)
-  unfolding ringsTo
+  pub rings-next : rings_to k x ≡ suc (rings_to k v)
+  unfolding rings_to
   rings-next =
       let f = next-facts necklace k v x next in
       rw f.0.long (omega (
@@ -111,9 +111,9 @@ module _ (k : ℕ) (v x : List ℕ) (next : next_of necklace k v ≡ some x) whe
   unfolding passed above_of
   split-move z u up gap =
       elim (lex u v) [
-        | ahead l ↦ rw (before-upTo u v l, before-upTo u x (before-trans u v x l gap), before-asym u v l) (low (before z u && prenecklace u))
-        | equal e ↦ rw (e, upTo-refl v, before-upTo v x gap, before-irrefl v) (low (before z v && prenecklace v))
-        | behind l ↦ rw (before-not-upTo u v l, l, upTo-before-trans z v u up l) (high (prenecklace u) (up_to u x))
+        | ahead l ↦ rw (before-up_to u v l, before-up_to u x (before-trans u v x l gap), before-asym u v l) (low (before z u && prenecklace u))
+        | equal e ↦ rw (e, up_to-refl v, before-up_to v x gap, before-irrefl v) (low (before z v && prenecklace v))
+        | behind l ↦ rw (before-not-up_to u v l, l, up_to-before-trans z v u up l) (high (prenecklace u) (up_to u x))
       ]
     where
       low : (a : Bool) → bit (a && true) ≡ bit (a && true) + bit (false && prenecklace u && true)
@@ -124,23 +124,23 @@ module _ (k : ℕ) (v x : List ℕ) (next : next_of necklace k v ≡ some x) whe
       high false b = omega arith
 
   -- and the moves of the step
-  pub moves_next : Reading (length v) k v → movesTo k x ≡ movesTo k v + moves k v (some x)
-  unfolding movesTo moves
+  pub moves_next : Reading (length v) k v → moves_to k x ≡ moves_to k v + moves k v (some x)
+  unfolding moves_to moves
   moves_next reading =
       let f = next-facts necklace k v x next in
-      let z = zeroRing (length v) in
+      let z = zero_ring (length v) in
       rw (f.0.long, length-zeros (length v))
-      (count-split (passed z (some x)) (passed z (some v)) (passed v (some x)) (readings (length v) k) (λ u r. split-move z u (zeros-upTo (length v) k v reading) f.1) (readings-all (length v) k))
+      (count-split (passed z (some x)) (passed z (some v)) (passed v (some x)) (readings (length v) k) (λ u r. split-move z u (zeros-up_to (length v) k v reading) f.1) (readings-all (length v) k))
 
-pub moves-bound : (k : ℕ) (v : List ℕ) → movesTo k v ≤ k ^ length v
-unfolding movesTo moves
+pub moves-bound : (k : ℕ) (v : List ℕ) → moves_to k v ≤ k ^ length v
+unfolding moves_to moves
 moves-bound k v =
-    let z = zeroRing (length v) in
+    let z = zero_ring (length v) in
     rw (length-zeros (length v)) (count-bound (passed z (some v)) (length v) k)
 
-pub moves-begin : (n k : ℕ) → movesTo k (zeroRing n) ≡ 0
-unfolding movesTo
-moves-begin n k = rw (length-zeros n) (moves-start k (zeroRing n))
+pub moves-begin : (n k : ℕ) → moves_to k (zero_ring n) ≡ 0
+unfolding moves_to
+moves-begin n k = rw (length-zeros n) (moves-start k (zero_ring n))
 
 -- ---- the last ring
 
@@ -185,34 +185,34 @@ module _ (n k : ℕ) (v : List ℕ) (z : 0 < k) (reading : Reading n k v) (none_
       refuted (before v u) (λ b. clash (above_of necklace v u) (both (before v u) (necklace u) b q) (nothing-first (length v) k (above_of necklace v) none_left u (rw reading.long r)))
 
   -- so all rings have been listed
-  pub rings-end : ringsTo k v ≡ howMany necklace n k
-  unfolding ringsTo howMany
+  pub rings-end : rings_to k v ≡ how_many necklace n k
+  unfolding rings_to how_many
   rings-end = rw reading.long (count-cong (λ u. necklace u && up_to u v) necklace (readings n k) all (readings-all n k))
     where
       all : (u : List ℕ) → Reading n k u → (necklace u && up_to u v) ≡ necklace u
       all u r = elim (test (necklace u)) [ passes q ↦ rw (q, not-before v u (above-none u r q)) | fails q ↦ rw q ]
 
   -- v is the ring of k - 1 alone, where no sector can be raised
-  pub last-low : lastLow k v ≡ 0
+  pub last-low : last_low k v ≡ 0
   last-low =
       let r = top-reading n k z in
-      let e : lastLow k (top n k) ≡ 0 = (low-or-full n k (top n k) r).1 (unfold-top n k) in
+      let e : last_low k (top n k) ≡ 0 = (low-or-full n k (top n k) r).1 (unfold-top n k) in
       let up = not-before (top n k) v (none_before k (top n k) v e (rw (length-top n k) reading)) in
-      (low-or-full n k v reading).1 (upTo-split v (top n k) up (above-none (top n k) r (top-necklace n k)) ∙ unfold-top n k)
+      (low-or-full n k v reading).1 (up_to-split v (top n k) up (above-none (top n k) r (top-necklace n k)) ∙ unfold-top n k)
 
   -- from which no moves are left
   pub last-moves : moves k v none ≡ 0
   last-moves = moves-full k v last-low none
 
   -- so the listing has moved to every prenecklace but the first
-  pub moves-end : suc (movesTo k v) ≡ howMany prenecklace n k
-  unfolding movesTo
+  pub moves-end : suc (moves_to k v) ≡ how_many prenecklace n k
+  unfolding moves_to
   moves-end =
-      let f = walk-exists necklace k (zeroRing n) in
+      let f = walk-exists necklace k (zero_ring n) in
       let s = walk-sum necklace n k z f.0 f.1 f.2 in
-      rw reading.long (omega (arith, s, walk-moves necklace k f.2, to_end (lex (zeroRing n) v)))
+      rw reading.long (omega (arith, s, walk-moves necklace k f.2, to_end (lex (zero_ring n) v)))
     where
-      to_end : Lex (zeroRing n) v → moves k (zeroRing n) none ≡ moves k (zeroRing n) (some v)
-      to_end (ahead l) = omega (arith, moves-join k (zeroRing n) v (reading.long ∙ sym (length-zeros n)) l, last-moves)
-      to_end (equal e) = omega (arith, last-moves, ap (λ (u : List ℕ). moves k u none) e, ap (λ (u : List ℕ). moves k (zeroRing n) (some u)) e, moves-start k (zeroRing n))
-      to_end (behind l) = clash (up_to (zeroRing n) v) (zeros-upTo n k v reading) (before-not-upTo (zeroRing n) v l)
+      to_end : Lex (zero_ring n) v → moves k (zero_ring n) none ≡ moves k (zero_ring n) (some v)
+      to_end (ahead l) = omega (arith, moves-join k (zero_ring n) v (reading.long ∙ sym (length-zeros n)) l, last-moves)
+      to_end (equal e) = omega (arith, last-moves, ap (λ (u : List ℕ). moves k u none) e, ap (λ (u : List ℕ). moves k (zero_ring n) (some u)) e, moves-start k (zero_ring n))
+      to_end (behind l) = clash (up_to (zero_ring n) v) (zeros-up_to n k v reading) (before-not-up_to (zero_ring n) v l)

@@ -7,7 +7,7 @@ use Rattle.words.specs.Readings.{Reading}
 use Rattle.rings.specs.Necklace.{necklace}
 use Rattle.rings.specs.Steps.{next_of, moves, FullWalk, done, step}
 use Rattle.ring_laws.proofs.FullWalk.{next-facts}
-use Rattle.text_spec.specs.Text.{lastLine}
+use Rattle.text_spec.specs.Text.{last_line}
 use Rattle.listing_spec.specs.Listing.{row, rows}
 use Rattle.listing_spec.specs.State.{Rest, over, on}
 use Rattle.listing_spec.specs.Paging.{Goes, full, total, line}
@@ -15,7 +15,7 @@ use Rattle.listing_laws.proofs.Counting.{last-moves}
 
 -- all that follows the ring v
 pub data Follows (k : ℕ) : (v : List ℕ) (rings sum : ℕ) → List ℕ → Type 0 where
-  ends : {v : List ℕ} {rings sum : ℕ} → next_of necklace k v ≡ none → Follows k v rings sum (lastLine rings sum)
+  ends : {v : List ℕ} {rings sum : ℕ} → next_of necklace k v ≡ none → Follows k v rings sum (last_line rings sum)
   goes_on : {v x : List ℕ} {rings sum : ℕ} {t : List ℕ} → next_of necklace k v ≡ some x → Follows k x (suc rings) (sum + moves k v (some x)) t → Follows k v rings sum (row k v x ++ t)
 
 -- the walk whose text it is
@@ -23,7 +23,7 @@ pub record Walked (k : ℕ) (v : List ℕ) (rings sum : ℕ) (t : List ℕ) : Ty
   pub others : List (List ℕ)
   pub more : ℕ
   pub walk : FullWalk necklace k v others more
-  pub is : t ≡ rows k v others ++ lastLine (rings + length others) (sum + more)
+  pub is : t ≡ rows k v others ++ last_line (rings + length others) (sum + more)
 
 -- all that follows a ring is the text of a full walk from it
 pub follows-walk : (k : ℕ) → 0 < k → {v : List ℕ} {rings sum : ℕ} {t : List ℕ} → Follows k v rings sum t → Reading (length v) k v → necklace v ≡ true → Walked k v rings sum t
@@ -42,7 +42,7 @@ follows-walk k z (goes_on {v = v} {x = x} {rings = rings} {sum = sum} e f) r q =
       more = moves k v (some x) + w.more;
       walk = step e w.walk;
       is = ap (λ (t : List ℕ). row k v x ++ t) (rw (a, b) at w.is) ∙ sym
-          (append_assoc (row k v x) (rows k x w.others) (lastLine (rings + suc (length w.others)) (sum + (moves k v (some x) + w.more))));
+          (append_assoc (row k v x) (rows k x w.others) (last_line (rings + suc (length w.others)) (sum + (moves k v (some x) + w.more))));
     }
 
 -- all that follows what a page leaves
@@ -54,5 +54,5 @@ Behind k (on u rings sum) t = Follows k u rings sum t
 pub goes-follows : {k room : ℕ} {v : List ℕ} {rings sum at : ℕ} {text : List ℕ} {rest : Rest} → Goes k room v rings sum at text rest → (t : List ℕ) →
     Behind k rest t → Follows k v rings sum (text ++ t)
 goes-follows (full h) t b = b
-goes-follows (total {rings = rings} {sum = sum} h e) t b = rw (b, append-nil (lastLine rings sum)) (ends e)
+goes-follows (total {rings = rings} {sum = sum} h e) t b = rw (b, append-nil (last_line rings sum)) (ends e)
 goes-follows {k} {v = v} (line {x = x} {text = text} h e p) t b = rw (append_assoc (row k v x) text t) (goes_on e (goes-follows p t b))

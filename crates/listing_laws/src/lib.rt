@@ -1,1 +1,4 @@
 // No code: theorems about crate `listing_spec`'s definitions.
+
+#![tactic(auto)]
+

@@ -8,14 +8,14 @@ use native.Mathlib.Nat.{mod-one}
 use Rattle.words.proofs.Sequence.{sec}
 use Rattle.rings.specs.Necklace.{period}
 use Rattle.ring_laws.proofs.{Run.Run, Run.lyn-one, Lyndon.period-run, FullWalk.length-zeros, FullWalk.zeros-at}
-use Rattle.text_spec.specs.Text.{firstLine, ringLine, lastLine}
+use Rattle.text_spec.specs.Text.{first_line, ring_line, last_line}
 use Rattle.text_spec.specs.Put.{Placed}
 use Rattle.text_spec.proofs.Digits.{length-decimal}
 use Rattle.text_spec.proofs.Put.{placed-append, placed-length, length-first, length-ring}
 use Rattle.limits_spec.specs.Limits.{Listable}
-use Rattle.listing_spec.specs.{declared.State.State, declared.Page.Page, Listing.zeroRing, Listing.opening, Prints.mostPrinted}
-use Rattle.listing_spec.specs.State.{stateRing, GoodState, emptyState, startState, over, on}
-use Rattle.listing_spec.specs.Paging.{rowRoom}
+use Rattle.listing_spec.specs.{declared.State.State, declared.Page.Page, Listing.zero_ring, Listing.opening, Prints.most_printed}
+use Rattle.listing_spec.specs.State.{state_ring, GoodState, empty_state, start_state, over, on}
+use Rattle.listing_spec.specs.Paging.{row_room}
 use Rattle.listing_laws.proofs.Leaving.{counted_start, Stands, stands_good}
 use Rattle.listing_rows_inner.specs.{declared.Rows.Rows, Says.RowsSay}
 use Rattle.listing_pages_inner.specs.Says.{FillSays, OpenSays}
@@ -39,18 +39,18 @@ module _ (s : State) (b : List ℕ) (from : ℕ) (r : Rows) (b' : List ℕ) (p :
       }
 
   -- there is room for the last line
-  pub last-room : r.more ≡ false → (from ≤ r.at) × (r.at + length (lastLine r.state.rings r.state.moves) ≤ length b')
+  pub last-room : r.more ≡ false → (from ≤ r.at) × (r.at + length (last_line r.state.rings r.state.moves) ≤ length b')
   last-room e = (omega (arith, p.placed.next), omega (arith, rows-length, p.room e))
 
   -- the last line behind them
-  module _ (e : r.more ≡ false) (end : ℕ) (b'' : List ℕ) (q : Placed b' r.at (lastLine r.state.rings r.state.moves) end b'') (state : State) (is : state ≡ emptyState) where
+  module _ (e : r.more ≡ false) (end : ℕ) (b'' : List ℕ) (q : Placed b' r.at (last_line r.state.rings r.state.moves) end b'') (state : State) (is : state ≡ empty_state) where
     pub page-last : FillSays s b from (record { length = end; state = state }) b''
     page-last =
         record {
-          text = p.text ++ lastLine r.state.rings r.state.moves;
+          text = p.text ++ last_line r.state.rings r.state.moves;
           rest = over;
           goes = p.ended e;
-          placed = placed-append b from p.text r.at b' (lastLine r.state.rings r.state.moves) end b'' p.placed q;
+          placed = placed-append b from p.text r.at b' (last_line r.state.rings r.state.moves) end b'' p.placed q;
           inside = omega (arith, q.next, p.room e);
           state = is;
         }
@@ -58,58 +58,58 @@ module _ (s : State) (b : List ℕ) (from : ℕ) (r : Rows) (b' : List ℕ) (p :
 -- ---- the first two lines
 
 -- the first n of more zeros
-pub zeros-part : (n m : ℕ) → n ≤ m → take n (zeroRing m) ≡ zeroRing n
+pub zeros-part : (n m : ℕ) → n ≤ m → take n (zero_ring m) ≡ zero_ring n
 zeros-part n m h =
-    let e : length (take n (zeroRing m)) ≡ n = length-take-le n (zeroRing m) (omega (arith, length-zeros m)) in
-    ext_get_or 0 (take n (zeroRing m)) (zeroRing n) (e ∙ sym (length-zeros n))
-    (λ i b. get_or-take n (zeroRing m) i 0 (rw e at b) ∙ zeros-at m i ∙ sym (zeros-at n i))
+    let e : length (take n (zero_ring m)) ≡ n = length-take-le n (zero_ring m) (omega (arith, length-zeros m)) in
+    ext_get_or 0 (take n (zero_ring m)) (zero_ring n) (e ∙ sym (length-zeros n))
+    (λ i b. get_or-take n (zero_ring m) i 0 (rw e at b) ∙ zeros-at m i ∙ sym (zeros-at n i))
 
 -- the all-zero ring has period 1
-pub zeros-period : (n : ℕ) → 0 < n → period (zeroRing n) ≡ 1
-zeros-period n z = period-run (zeroRing n) 1 run (mod-one (length (zeroRing n)))
+pub zeros-period : (n : ℕ) → 0 < n → period (zero_ring n) ≡ 1
+zeros-period n z = period-run (zero_ring n) 1 run (mod-one (length (zero_ring n)))
   where
-    run : Run (sec (zeroRing n)) (length (zeroRing n)) 1
-    run = record { pos = omega arith; fits = omega (arith, length-zeros n); again = λ i j e h. zeros-at n i ∙ sym (zeros-at n j); lyn = lyn-one (sec (zeroRing n)) }
+    run : Run (sec (zero_ring n)) (length (zero_ring n)) 1
+    run = record { pos = omega arith; fits = omega (arith, length-zeros n); again = λ i j e h. zeros-at n i ∙ sym (zeros-at n j); lyn = lyn-one (sec (zero_ring n)) }
 
-module _ (k n : ℕ) (l : Listable mostPrinted k n) where
-  first_short : length (firstLine k n) ≤ 20
+module _ (k n : ℕ) (l : Listable most_printed k n) where
+  first_short : length (first_line k n) ≤ 20
   first_short = omega (arith, length-first k n, length-decimal 1 k (omega (arith, l.shaded)), length-decimal 1 n (omega (arith, l.sized)))
 
-  zero-short : length (ringLine (zeroRing n) 0 1) ≤ 69
-  zero-short = omega (arith, length-ring (zeroRing n) 0 1, length-zeros n, l.sized, length-decimal 0 0 (omega arith), length-decimal 0 1 (omega arith))
+  zero-short : length (ring_line (zero_ring n) 0 1) ≤ 69
+  zero-short = omega (arith, length-ring (zero_ring n) 0 1, length-zeros n, l.sized, length-decimal 0 0 (omega arith), length-decimal 0 1 (omega arith))
 
-  ring-is : take n (zeroRing 64) ≡ zeroRing n
+  ring-is : take n (zero_ring 64) ≡ zero_ring n
   ring-is = zeros-part n 64 (omega (arith, l.sized))
 
   -- a state at the all-zero ring, whatever it counts
-  pub start-good : (rings sum : ℕ) → rings ≤ mostPrinted → sum ≤ mostPrinted → GoodState (record { k = k; n = n; ring = zeroRing 64; rings = rings; moves = sum })
+  pub start-good : (rings sum : ℕ) → rings ≤ most_printed → sum ≤ most_printed → GoodState (record { k = k; n = n; ring = zero_ring 64; rings = rings; moves = sum })
   start-good rings sum few short =
-      let g = stands_good (startState k n) (record { numbers = l; counted = rw ring-is (counted_start n k l) }) in
+      let g = stands_good (start_state k n) (record { numbers = l; counted = rw ring-is (counted_start n k l) }) in
       record { numbers = l; reading = g.reading; member = g.member; rings = few; moves = short }
 
-  module _ (b : List ℕ) (room : rowRoom ≤ length b) where
-    pub open-first : 0 + length (firstLine k n) ≤ length b
+  module _ (b : List ℕ) (room : row_room ≤ length b) where
+    pub open-first : 0 + length (first_line k n) ≤ length b
     open-first = omega (arith, first_short)
 
-    module _ (first : ℕ) (b₁ : List ℕ) (p : Placed b 0 (firstLine k n) first b₁) where
-      pub open-ring : first + length (ringLine (take n (zeroRing 64)) 0 1) ≤ length b₁
-      open-ring = rw ring-is (omega (arith, p.next, first_short, zero-short, placed-length b 0 (firstLine k n) first b₁ p))
+    module _ (first : ℕ) (b₁ : List ℕ) (p : Placed b 0 (first_line k n) first b₁) where
+      pub open-ring : first + length (ring_line (take n (zero_ring 64)) 0 1) ≤ length b₁
+      open-ring = rw ring-is (omega (arith, p.next, first_short, zero-short, placed-length b 0 (first_line k n) first b₁ p))
 
-      module _ (at : ℕ) (b₂ : List ℕ) (q : Placed b₁ first (ringLine (take n (zeroRing 64)) 0 1) at b₂) where
+      module _ (at : ℕ) (b₂ : List ℕ) (q : Placed b₁ first (ring_line (take n (zero_ring 64)) 0 1) at b₂) where
         placed-opening : Placed b 0 (opening k n) at b₂
         unfolding opening
         placed-opening =
             let e = zeros-period n l.sized.0 in
-            let q' : Placed b₁ first (ringLine (zeroRing n) 0 (period (zeroRing n))) at b₂ = rw e (rw ring-is at q) in
-            placed-append b 0 (firstLine k n) first b₁ (ringLine (zeroRing n) 0 (period (zeroRing n))) at b₂ p q'
+            let q' : Placed b₁ first (ring_line (zero_ring n) 0 (period (zero_ring n))) at b₂ = rw e (rw ring-is at q) in
+            placed-append b 0 (first_line k n) first b₁ (ring_line (zero_ring n) 0 (period (zero_ring n))) at b₂ p q'
 
         pub open-length : length b₂ ≡ length b
         open-length = placed-length b 0 (opening k n) at b₂ placed-opening
 
         pub open-inside : at ≤ length b₂
-        open-inside = omega (arith, q.next, open-ring, placed-length b₁ first (ringLine (take n (zeroRing 64)) 0 1) at b₂ q)
+        open-inside = omega (arith, q.next, open-ring, placed-length b₁ first (ring_line (take n (zero_ring 64)) 0 1) at b₂ q)
 
-        pub opened : (r : Page) (b₃ : List ℕ) → FillSays (startState k n) b₂ at r b₃ → OpenSays k n b r b₃
+        pub opened : (r : Page) (b₃ : List ℕ) → FillSays (start_state k n) b₂ at r b₃ → OpenSays k n b r b₃
         opened r b₃ f =
             let e : at ≡ length (opening k n) = omega (arith, placed-opening.next) in
             record {

@@ -1,17 +1,19 @@
 // The lines of a listing placed into a lent buffer (01, 'The listing program'). No public calls: crate `listing` checks what `open_page` and `fill_page` ask for.
 
+#![tactic(auto)]
+
 ghost use Rattle.std.specs.Prelude.{◌≤◌, ◌≡◌, length};
 ghost use Rattle.limits_spec.specs.Limits.{Listable};
-ghost use Rattle.listing_spec.specs.Prints.{mostPrinted};
-ghost use Rattle.listing_spec.specs.State.{GoodState, emptyState};
-ghost use Rattle.listing_spec.specs.Paging.{rowRoom};
+ghost use Rattle.listing_spec.specs.Prints.{most_printed};
+ghost use Rattle.listing_spec.specs.State.{GoodState, empty_state};
+ghost use Rattle.listing_spec.specs.Paging.{row_room};
 ghost use Rattle.listing_pages_inner.specs.Says.{FillSays, OpenSays};
 
 use listing_spec::{Page, State};
 
 // The state from which nothing follows.
 pub fn empty_state() -> State
-    ensures { result ≡ emptyState }
+    ensures { result ≡ empty_state }
 {
     State {
         k: 0,
@@ -45,8 +47,8 @@ pub fn fill_page(s: State, buf: &mut [u8], from: usize) -> Page
 
 // The first page: the first line, the all-zero ring's, and those that follow.
 pub fn open_page(k: usize, n: usize, buf: &mut [u8]) -> Page
-    requires listable { Listable mostPrinted k n }
-    requires row_room_in_bounds { rowRoom ≤ length buf.old }
+    requires listable { Listable most_printed k n }
+    requires row_room_in_bounds { row_room ≤ length buf.old }
     ensures { OpenSays k n buf.old result buf.new }
 {
     let ring = [0u8; 64];

@@ -4,20 +4,20 @@
 use Rattle.words.proofs.Plain.{ℕ, ◌≤◌, ◌≡◌, List, length, take}
 use Rattle.limits_spec.specs.declared.Planned.TheVariants.{Accepted, Refused}
 use Rattle.plan_spec.proofs.First.{plan-first}
-use Rattle.listing_spec.specs.{declared.State.State, declared.Page.Page, Prints.mostPrinted}
+use Rattle.listing_spec.specs.{declared.State.State, declared.Page.Page, Prints.most_printed}
 use Rattle.listing_spec.specs.Paging.{FirstPage, small, refused, listed, Paged}
 use Rattle.program_reading_inner.specs.declared.Most.{Most}
 use Rattle.program_reading_inner.specs.declared.Most.TheVariants as M
-use Rattle.listing_program_inner.specs.Says.{listLineBytes, FirstPageSays}
+use Rattle.listing_program_inner.specs.Says.{list_line_bytes, FirstPageSays}
 
 -- the first page for the first m characters, m at least 9, is that for all
-first-first : (m : ℕ) (s : List ℕ) → listLineBytes ≤ m → (room : ℕ) (t : List ℕ) (state : State) → FirstPage (take m s) room t state → FirstPage s room t state
+first-first : (m : ℕ) (s : List ℕ) → list_line_bytes ≤ m → (room : ℕ) (t : List ℕ) (state : State) → FirstPage (take m s) room t state → FirstPage s room t state
 first-first m s h room t state (small l e f) = small l e f
-first-first m s h room t state (refused l r p e f) = refused l r (plan-first m s h mostPrinted (Refused r) p) e f
-first-first m s h room t state (listed l k n u rest p g e f) = listed l k n u rest (plan-first m s h mostPrinted (Accepted k n) p) g e f
+first-first m s h room t state (refused l r p e f) = refused l r (plan-first m s h most_printed (Refused r) p) e f
+first-first m s h room t state (listed l k n u rest p g e f) = listed l k n u rest (plan-first m s h most_printed (Accepted k n) p) g e f
 
 -- the first page for a full buffer is that for any input that begins so
-pub input-full : (line b : List ℕ) (r : Page) (b' : List ℕ) → listLineBytes ≤ length line → Paged (FirstPage line (length b)) b r b' → FirstPageSays M.Full line b r b'
+pub input-full : (line b : List ℕ) (r : Page) (b' : List ℕ) → list_line_bytes ≤ length line → Paged (FirstPage line (length b)) b r b' → FirstPageSays M.Full line b r b'
 input-full line b r b' h p = λ s e.
     record {
       text = p.text;

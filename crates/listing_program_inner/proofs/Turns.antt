@@ -1,13 +1,13 @@
 -- Page after page. Each page that is not the last has a ring's line at least, and the rings listed so far stay within the limit, so that the pages end.
 --     paged-length                              a page keeps the buffer's length
 --     turning-first, input-turning, turning-next    behind the first page, and behind the next, the listing stands or nothing follows
---     pagesLeft, pages-fall                     a bound on the pages that follow, which falls
+--     pages_left, pages-fall                     a bound on the pages that follow, which falls
 use Rattle.words.proofs.Plain.{ℕ, zero, suc, ◌+◌, ◌-◌, ◌<◌, ◌≤◌, arith, ◌≡◌, refl, sym, ap, ◌∙◌, ◌⊎◌, inl, inr, List, [], ◌++◌, length, take, drop}
 use Rattle.words.proofs.Plain.{length-append, length-take, length-drop, take_all}
 use Rattle.limits_spec.specs.Limits.{Listable}
-use Rattle.listing_spec.specs.{declared.State.State, declared.Page.Page, Prints.mostPrinted}
-use Rattle.listing_spec.specs.State.{emptyState, startState, Rest, over, on, stateBehind}
-use Rattle.listing_spec.specs.Paging.{rowRoom, FirstPage, small, refused, listed, Next, bad, good, Paged}
+use Rattle.listing_spec.specs.{declared.State.State, declared.Page.Page, Prints.most_printed}
+use Rattle.listing_spec.specs.State.{empty_state, start_state, Rest, over, on, state_behind}
+use Rattle.listing_spec.specs.Paging.{row_room, FirstPage, small, refused, listed, Next, bad, good, Paged}
 use Rattle.listing_laws.proofs.Leaving.{counted_start, goes-true, goes_some, AtLeast, Stands, stands_good, stands-behind, empty-bad}
 use Rattle.program_reading_inner.specs.declared.Most.{Most}
 use Rattle.program_reading_inner.specs.declared.Most.TheVariants as M
@@ -22,17 +22,17 @@ inside : (P : List ℕ → State → Type 0) (b : List ℕ) (r : Page) (b' : Lis
 inside P b r b' p = omega (arith, p.fits, p.long)
 
 -- behind the first page
-first-stands : (s : List ℕ) (room : ℕ) (t : List ℕ) (state : State) → FirstPage s room t state → Stands state ⊎ (state ≡ emptyState)
+first-stands : (s : List ℕ) (room : ℕ) (t : List ℕ) (state : State) → FirstPage s room t state → Stands state ⊎ (state ≡ empty_state)
 first-stands s room t state (small h e f) = inr f
 first-stands s room t state (refused h r p e f) = inr f
 first-stands s room t state (listed h k n u rest p g e f) =
-    rw f (stands-behind (startState k n) rest p.1 (goes-true g (counted_start n k p.1)))
+    rw f (stands-behind (start_state k n) rest p.1 (goes-true g (counted_start n k p.1)))
 
 pub turning-first : (s b : List ℕ) (r : Page) (b' : List ℕ) → Paged (FirstPage s (length b)) b r b' → Turning r (length b)
 turning-first s b r b' p = record { inside = inside (FirstPage s (length b)) b r b' p; stands = first-stands s (length b) p.text r.state p.says }
 
 -- behind the first page for what was read, or behind none
-none-turning : (r : Page) (m : ℕ) → r.length ≡ 0 → r.state ≡ emptyState → Turning r m
+none-turning : (r : Page) (m : ℕ) → r.length ≡ 0 → r.state ≡ empty_state → Turning r m
 none-turning r m e f = record { inside = omega arith; stands = inr f }
 
 pub input-turning : (most : Most) (line b : List ℕ) (r : Page) (b' : List ℕ) → FirstPageSays most line b r b' → (length b' ≡ length b) × Turning r (length b)
@@ -43,12 +43,12 @@ input-turning (M.Ended got) line b r b' p = (paged-length (FirstPage (take got l
 input-turning M.Failed line b r b' p = (ap length p.2, none-turning r (length b) p.0 p.1)
 
 -- behind any other page
-next-stands : (s : State) (room : ℕ) (t : List ℕ) (state : State) → Stands s ⊎ (s ≡ emptyState) → Next s room t state → Stands state ⊎ (state ≡ emptyState)
+next-stands : (s : State) (room : ℕ) (t : List ℕ) (state : State) → Stands s ⊎ (s ≡ empty_state) → Next s room t state → Stands state ⊎ (state ≡ empty_state)
 next-stands s room t state st (bad h e f) = inr f
 next-stands s room t state (inl st) (good g rest p f) = rw f (stands-behind s rest st.numbers (goes-true p st.counted))
 next-stands s room t state (inr e) (good g rest p f) = absurd (empty-bad (rw e at g))
 
-pub turning-next : (s : State) (b : List ℕ) (r : Page) (b' : List ℕ) → Stands s ⊎ (s ≡ emptyState) → Paged (Next s (length b)) b r b' → Turning r (length b)
+pub turning-next : (s : State) (b : List ℕ) (r : Page) (b' : List ℕ) → Stands s ⊎ (s ≡ empty_state) → Paged (Next s (length b)) b r b' → Turning r (length b)
 turning-next s b r b' st p = record { inside = inside (Next s (length b)) b r b' p; stands = next-stands s (length b) p.text r.state st p.says }
 
 -- ---- how many pages follow
@@ -56,17 +56,17 @@ turning-next s b r b' st p = record { inside = inside (Next s (length b)) b r b'
 -- behind a state of n sectors and so many rings: none, or no more than the limit has rings left, and the last line
 unfoldable pub left : ℕ → ℕ → ℕ
 left zero rings = 0
-left (suc n) rings = suc (mostPrinted - rings)
+left (suc n) rings = suc (most_printed - rings)
 
 -- behind a page: none where it has no bytes
 unfoldable pub behind : ℕ → ℕ → ℕ
 behind zero m = 0
 behind (suc l) m = suc m
 
-unfoldable pub pagesLeft : Page → ℕ
-pagesLeft r = behind r.length (left r.state.n r.state.rings)
+unfoldable pub pages_left : Page → ℕ
+pages_left r = behind r.length (left r.state.n r.state.rings)
 
-left-some : (n rings : ℕ) → 1 ≤ n → left n rings ≡ suc (mostPrinted - rings)
+left-some : (n rings : ℕ) → 1 ≤ n → left n rings ≡ suc (most_printed - rings)
 unfolding left
 left-some zero rings h = absurd (omega arith)
 left-some (suc n) rings h = refl
@@ -82,24 +82,24 @@ behind-none zero m h = refl
 behind-none (suc l) m h = absurd (omega arith)
 
 -- behind a page that is not empty, fewer are left than behind the page before it
-fewer : (s : State) (rest : Rest) → Stands s → Stands (stateBehind s rest) ⊎ (stateBehind s rest ≡ emptyState) → AtLeast (suc s.rings) rest →
-    left (stateBehind s rest).n (stateBehind s rest).rings < left s.n s.rings
+fewer : (s : State) (rest : Rest) → Stands s → Stands (state_behind s rest) ⊎ (state_behind s rest ≡ empty_state) → AtLeast (suc s.rings) rest →
+    left (state_behind s rest).n (state_behind s rest).rings < left s.n s.rings
 unfolding left
 fewer s over st q a = omega (arith, left-some s.n s.rings st.numbers.sized.0)
 fewer s (on v rings sum) st (inr e) a = absurd (omega (arith, st.numbers.sized, ap (λ (x : State). x.n) e))
 fewer s (on v rings sum) st (inl f) a =
-    omega (arith, left-some s.n s.rings st.numbers.sized.0, left-some s.n rings st.numbers.sized.0, (stands_good (stateBehind s (on v rings sum)) f).rings)
+    omega (arith, left-some s.n s.rings st.numbers.sized.0, left-some s.n rings st.numbers.sized.0, (stands_good (state_behind s (on v rings sum)) f).rings)
 
 -- a page more leaves fewer
-pub pages-fall : (q : Page) (b : List ℕ) (r : Page) (b' : List ℕ) → Stands q.state ⊎ (q.state ≡ emptyState) → rowRoom ≤ length b → 0 < q.length →
-    Paged (Next q.state (length b)) b r b' → pagesLeft r < pagesLeft q
-unfolding pagesLeft
+pub pages-fall : (q : Page) (b : List ℕ) (r : Page) (b' : List ℕ) → Stands q.state ⊎ (q.state ≡ empty_state) → row_room ≤ length b → 0 < q.length →
+    Paged (Next q.state (length b)) b r b' → pages_left r < pages_left q
+unfolding pages_left
 pages-fall q b r b' st room h p = rw (behind-some q.length (left q.state.n q.state.rings) h) (go st p.says)
   where
     none : r.length ≡ 0 → behind r.length (left r.state.n r.state.rings) < suc (left q.state.n q.state.rings)
     none e = rw (behind-none r.length (left r.state.n r.state.rings) e) (omega arith)
 
-    go : Stands q.state ⊎ (q.state ≡ emptyState) → Next q.state (length b) p.text r.state → behind r.length
+    go : Stands q.state ⊎ (q.state ≡ empty_state) → Next q.state (length b) p.text r.state → behind r.length
         (left r.state.n r.state.rings) < suc (left q.state.n q.state.rings)
     go x (bad g e f) = none (p.long ∙ ap length e)
     go (inr e) (good g rest n f) = absurd (empty-bad (rw e at g))

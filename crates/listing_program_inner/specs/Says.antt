@@ -6,19 +6,19 @@ use Rattle.program_reading_inner.specs.declared.Most.{Most}
 use Rattle.program_reading_inner.specs.declared.Most.TheVariants as M
 use Rattle.program_reading_inner.specs.Says.{BeginsWith}
 use Rattle.listing_spec.specs.declared.Page.{Page}
-use Rattle.listing_spec.specs.State.{emptyState}
+use Rattle.listing_spec.specs.State.{empty_state}
 use Rattle.listing_spec.specs.Paging.{FirstPage, Paged}
 use Rattle.listing_laws.specs.Standing.{Stands}
 
 -- a line has at most 8 bytes, so 9 tell
-abbrev pub listLineBytes : ℕ
-listLineBytes = 9
+abbrev pub list_line_bytes : ℕ
+list_line_bytes = 9
 
 abbrev pub FirstPageSays : Most → List ℕ → List ℕ → Page → List ℕ → Type 0
 FirstPageSays M.Full line b r b' = (s : List ℕ) → BeginsWith s line → Paged (FirstPage s (length b)) b r b'
 FirstPageSays (M.Ended got) line b r b' = Paged (FirstPage (take got line) (length b)) b r b'
-FirstPageSays M.Failed line b r b' = (r.length ≡ 0) × (r.state ≡ emptyState) × (b' ≡ b)
+FirstPageSays M.Failed line b r b' = (r.length ≡ 0) × (r.state ≡ empty_state) × (b' ≡ b)
 
 pub record Turning (r : Page) (m : ℕ) : Type 0 where
   pub inside : r.length ≤ m
-  pub stands : Stands r.state ⊎ (r.state ≡ emptyState)
+  pub stands : Stands r.state ⊎ (r.state ≡ empty_state)

@@ -1,10 +1,12 @@
 // The listing program (01, 'The listing program'): it reads, fills a page, writes it, and again. No public calls: no contract can say what is read or written.
 
+#![tactic(auto)]
+
 ghost use Rattle.std.specs.Prelude.{◌≤◌, ◌≡◌, false, length};
-ghost use Rattle.listing_spec.specs.Paging.{rowRoom};
+ghost use Rattle.listing_spec.specs.Paging.{row_room};
 ghost use Rattle.program_reading_inner.specs.Says.{MostSays};
-ghost use Rattle.listing_steps_inner.specs.Says.{goesOn};
-ghost use Rattle.listing_program_inner.specs.Says.{listLineBytes, FirstPageSays, Turning};
+ghost use Rattle.listing_steps_inner.specs.Says.{goes_on};
+ghost use Rattle.listing_program_inner.specs.Says.{list_line_bytes, FirstPageSays, Turning};
 
 use libc::{STDERR_FILENO, STDOUT_FILENO};
 use listing_spec::Page;
@@ -20,7 +22,7 @@ pub struct Printed {
 // The first page of the output for an input of which that was read: all of it, or as many bytes as there was room for. There has to be room for 9 bytes, of which a
 // line has at most 8. Where a read failed there is no page.
 fn first_of_input(most: Most, line: &[u8], buf: &mut [u8]) -> Page
-    requires list_line_bytes_in_bounds { listLineBytes ≤ length line.now }
+    requires list_line_bytes_in_bounds { list_line_bytes ≤ length line.now }
     requires most_says { MostSays most line.now }
     ensures { FirstPageSays most line.now buf.old result buf.new }
 {
@@ -33,9 +35,9 @@ fn first_of_input(most: Most, line: &[u8], buf: &mut [u8]) -> Page
 
 // Writes a page, and all that follow. Where a write fails, nothing more is written.
 fn print_pages(first: Page, buf: &mut [u8]) -> Printed
-    requires row_room_in_bounds { rowRoom ≤ length buf.old }
+    requires row_room_in_bounds { row_room ≤ length buf.old }
     requires turning { Turning first (length buf.old) }
-    ensures { goesOn result.wrote result.length ≡ false }
+    ensures { goes_on result.wrote result.length ≡ false }
 {
     let mut page = first;
     loop {
@@ -50,7 +52,7 @@ fn print_pages(first: Page, buf: &mut [u8]) -> Printed
 
 // What the program writes for a line, by way of a lent buffer.
 pub fn print_through(line: &[u8], buf: &mut [u8])
-    requires { rowRoom ≤ length buf.old }
+    requires { row_room ≤ length buf.old }
 {
     let first = listing::first_page(line, buf);
     print_pages(first, buf);

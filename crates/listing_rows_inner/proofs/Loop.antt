@@ -11,7 +11,7 @@ use Rattle.words.proofs.Plain.{ℕ, suc, ◌+◌, ◌*◌, ◌^◌, ◌<◌, ◌
 use Rattle.words.proofs.Plain.{◌++◌, append_assoc, append-nil, length, take, drop, length-append, length-drop, take-append-drop, take_at, drop_at}
 use Rattle.words.specs.{Order.before, Order.up_to, Readings.Reading}
 use Rattle.words.proofs.{Split.clash, Search.least-le}
-use Rattle.rings.specs.Necklace.{necklace, period, repeatsBy}
+use Rattle.rings.specs.Necklace.{necklace, period, repeats_by}
 use Rattle.rings.specs.Steps.{next_of, moves}
 use Rattle.ring_laws.proofs.{Words.necklace-prenecklace, FullWalk.next-facts}
 use Rattle.walk_kind_laws.specs.Kinds.{ReadyToStep}
@@ -20,14 +20,14 @@ use denote.Enum.Declared.{tag_of}
 use Rattle.walk_spec.specs.contracts.Outcome.{the_type}
 use Rattle.walk_spec.specs.{declared.Outcome.Outcome, Says.WentSays}
 use Rattle.walk_spec.specs.declared.Outcome.TheVariants.{Moved, Done, Refused}
-use Rattle.text_spec.specs.{Text.ringLine, Text.lastLine, Put.Placed}
+use Rattle.text_spec.specs.{Text.ring_line, Text.last_line, Put.Placed}
 use Rattle.text_spec.proofs.Digits.{length-decimal}
 use Rattle.text_spec.proofs.Put.{placed-append, placed-length, length-ring, length_last}
 use Rattle.limits_spec.specs.Limits.{Listable}
-use Rattle.listing_spec.specs.{declared.State.State, Listing.row, Prints.mostPrinted}
-use Rattle.listing_spec.specs.State.{stateRing, GoodState, Rest, over, on, stateBehind}
-use Rattle.listing_spec.specs.Paging.{rowRoom, Goes, full, total, line}
-use Rattle.listing_laws.proofs.Counting.{ringsTo, movesTo, rings-next, rings-bound, moves_next, moves-bound}
+use Rattle.listing_spec.specs.{declared.State.State, Listing.row, Prints.most_printed}
+use Rattle.listing_spec.specs.State.{state_ring, GoodState, Rest, over, on, state_behind}
+use Rattle.listing_spec.specs.Paging.{row_room, Goes, full, total, line}
+use Rattle.listing_laws.proofs.Counting.{rings_to, moves_to, rings-next, rings-bound, moves_next, moves-bound}
 use Rattle.listing_rows_inner.specs.Says.{RowsSay}
 
 pub record Along (n k : ℕ) (v tail : List ℕ) (rings₀ sum₀ : ℕ) (b : List ℕ) (from : ℕ) (ring : List ℕ) (rings sum at : ℕ) (b' : List ℕ) : Type 0 where
@@ -37,21 +37,21 @@ pub record Along (n k : ℕ) (v tail : List ℕ) (rings₀ sum₀ : ℕ) (b : Li
   pub tail-long : n + length tail ≡ 64
   pub reading : Reading n k last
   pub member : necklace last ≡ true
-  pub numbers : Listable mostPrinted k n
-  pub counted : rings + ringsTo k v ≡ rings₀ + ringsTo k last
-  pub summed : sum + movesTo k v ≡ sum₀ + movesTo k last
-  pub few : (rings₀ ≤ mostPrinted) × (sum₀ ≤ mostPrinted)
+  pub numbers : Listable most_printed k n
+  pub counted : rings + rings_to k v ≡ rings₀ + rings_to k last
+  pub summed : sum + moves_to k v ≡ sum₀ + moves_to k last
+  pub few : (rings₀ ≤ most_printed) × (sum₀ ≤ most_printed)
   pub placed : Placed b from text at b'
   pub inside : at ≤ length b
   pub goes : (t : List ℕ) (rest : Rest) → Goes k (length b) last rings sum at t rest → Goes k (length b) v rings₀ sum₀ from (text ++ t) rest
 
 -- before the first step
 pub along-start : (s : State) (b : List ℕ) (from : ℕ) → GoodState s → length s.ring ≡ 64 → from ≤ length b →
-    Along s.n s.k (stateRing s) (drop s.n s.ring) s.rings s.moves b from s.ring s.rings s.moves from b
+    Along s.n s.k (state_ring s) (drop s.n s.ring) s.rings s.moves b from s.ring s.rings s.moves from b
 along-start s b from g l h =
     record {
       text = [];
-      last = stateRing s;
+      last = state_ring s;
       laid = sym (take-append-drop s.n s.ring);
       tail-long = omega (arith, length-drop s.n s.ring, g.numbers.sized);
       reading = g.reading;
@@ -74,24 +74,24 @@ pub record Came (k : ℕ) (last ring : List ℕ) (m p : ℕ) : Type 0 where
   pub counted : m ≡ moves k last (some ring)
   pub repeats : p ≡ period ring
 
--- a ring's line is never empty, and no line of at most 64 sectors and two machine words is longer than `rowRoom`
-pub line-some : (w : List ℕ) (m p : ℕ) → 0 < length (ringLine w m p)
+-- a ring's line is never empty, and no line of at most 64 sectors and two machine words is longer than `row_room`
+pub line-some : (w : List ℕ) (m p : ℕ) → 0 < length (ring_line w m p)
 line-some w m p = omega (arith, length-ring w m p)
 
-pub line-short : (w : List ℕ) (m p : ℕ) → length w ≤ 64 → m < 2 ^ 64 → p < 2 ^ 64 → length (ringLine w m p) ≤ rowRoom
+pub line-short : (w : List ℕ) (m p : ℕ) → length w ≤ 64 → m < 2 ^ 64 → p < 2 ^ 64 → length (ring_line w m p) ≤ row_room
 line-short w m p l a b = omega (arith, length-ring w m p, length-decimal 19 m (omega arith), length-decimal 19 p (omega arith))
 
 -- so there is room for it, and it goes further
-pub line-room : (room at : ℕ) (w : List ℕ) (m p : ℕ) → at + rowRoom ≤ room → length w ≤ 64 → m < 2 ^ 64 → p < 2 ^ 64 → at + length (ringLine w m p) ≤ room
+pub line-room : (room at : ℕ) (w : List ℕ) (m p : ℕ) → at + row_room ≤ room → length w ≤ 64 → m < 2 ^ 64 → p < 2 ^ 64 → at + length (ring_line w m p) ≤ room
 line-room room at w m p h l x y = omega (arith, line-short w m p l x y)
 
-pub line-further : (b : List ℕ) (at : ℕ) (w : List ℕ) (m p at' : ℕ) (b' : List ℕ) → Placed b at (ringLine w m p) at' b' → (at < at') × (length b' ≡ length b)
-line-further b at w m p at' b' q = (omega (arith, q.next, line-some w m p), placed-length b at (ringLine w m p) at' b' q)
+pub line-further : (b : List ℕ) (at : ℕ) (w : List ℕ) (m p at' : ℕ) (b' : List ℕ) → Placed b at (ring_line w m p) at' b' → (at < at') × (length b' ≡ length b)
+line-further b at w m p at' b' q = (omega (arith, q.next, line-some w m p), placed-length b at (ring_line w m p) at' b' q)
 
 -- a period is at most one more than the length
 pub period-le : (v : List ℕ) → period v ≤ suc (length v)
 unfolding period
-period-le v = omega (arith, least-le (length v) (λ i. repeatsBy v (suc i)))
+period-le v = omega (arith, least-le (length v) (λ i. repeats_by v (suc i)))
 
 module _ {n k : ℕ} {v tail : List ℕ} {rings₀ sum₀ : ℕ} {b : List ℕ} {from : ℕ} {ring : List ℕ} {rings sum at : ℕ} {b' : List ℕ} (a : Along n k v tail rings₀ sum₀ b from ring rings sum at b') where
   -- the ring's sectors, and those past n
@@ -129,10 +129,10 @@ module _ {n k : ℕ} {v tail : List ℕ} {rings₀ sum₀ : ℕ} {b : List ℕ} 
   stops v' (Refused r) p' t w = absurd w
 
   -- the counts so far
-  pub along-rings : rings ≤ 2 * mostPrinted
+  pub along-rings : rings ≤ 2 * most_printed
   along-rings = omega (arith, a.counted, a.few, rings-bound k a.last, ap (λ (x : ℕ). k ^ x) a.reading.long, a.numbers.few)
 
-  pub along-moves : sum ≤ 2 * mostPrinted
+  pub along-moves : sum ≤ 2 * most_printed
   along-moves = omega (arith, a.summed, a.few, moves-bound k a.last, ap (λ (x : ℕ). k ^ x) a.reading.long, a.numbers.few)
 
   module _ (v' : List ℕ) (m p' : ℕ) (c : Came k a.last v' m p') where
@@ -148,27 +148,27 @@ module _ {n k : ℕ} {v tail : List ℕ} {rings₀ sum₀ : ℕ} {b : List ℕ} 
     came-size = rw dropped (omega (arith, length-append v' tail, came-reading.long, a.tail-long))
 
     -- the moves up to it
-    came-sum : sum + m + movesTo k v ≡ sum₀ + movesTo k v'
+    came-sum : sum + m + moves_to k v ≡ sum₀ + moves_to k v'
     came-sum = omega (arith, a.summed, c.counted, moves_next k a.last v' c.next (rw a.reading.long a.reading))
 
-    bound : movesTo k v' ≤ mostPrinted
+    bound : moves_to k v' ≤ most_printed
     bound = omega (arith, moves-bound k v', ap (λ (x : ℕ). k ^ x) came-reading.long, a.numbers.few)
 
-    pub came-moves : sum + m ≤ 2 * mostPrinted
+    pub came-moves : sum + m ≤ 2 * most_printed
     came-moves = omega (arith, came-sum, a.few, bound)
 
     -- the line that is written
-    line-is : ringLine (take n (v' ++ drop n ring)) m p' ≡ row k a.last v'
+    line-is : ring_line (take n (v' ++ drop n ring)) m p' ≡ row k a.last v'
     unfolding row
     line-is = rw (take_at v' (drop n ring) n came-reading.long, c.repeats, c.counted)
 
-    line-fits : length (row k a.last v') ≤ rowRoom
+    line-fits : length (row k a.last v') ≤ row_room
     unfolding row
     line-fits =
         line-short v' (moves k a.last (some v')) (period v') (omega (arith, came-reading.long, a.numbers.sized)) (omega (arith, c.counted, came-moves))
         (omega (arith, period-le v', came-reading.long, a.numbers.sized))
 
-    module _ (at' : ℕ) (b'' : List ℕ) (room : at + rowRoom ≤ length b') (q : Placed b' at (ringLine (take n (v' ++ drop n ring)) m p') at' b'') where
+    module _ (at' : ℕ) (b'' : List ℕ) (room : at + row_room ≤ length b') (q : Placed b' at (ring_line (take n (v' ++ drop n ring)) m p') at' b'') where
       placed-line : Placed b' at (row k a.last v') at' b''
       placed-line = rw line-is at q
 
@@ -201,7 +201,7 @@ module _ {n k : ℕ} {v tail : List ℕ} {rings₀ sum₀ : ℕ} {b : List ℕ} 
 -- ---- the end of the loop
 
 module _ (s : State) (b : List ℕ) (from : ℕ) (ring : List ℕ) (rings sum at : ℕ) (b' : List ℕ)
-    (a : Along s.n s.k (stateRing s) (drop s.n s.ring) s.rings s.moves b from ring rings sum at b') where
+    (a : Along s.n s.k (state_ring s) (drop s.n s.ring) s.rings s.moves b from ring rings sum at b') where
   pub keeps-length : length b' ≡ length b
   keeps-length = placed-length b from a.text at b' a.placed
 
@@ -210,11 +210,11 @@ module _ (s : State) (b : List ℕ) (from : ℕ) (ring : List ℕ) (rings sum at
     abbrev left : State
     left = record { k = s.k; n = s.n; ring = ring'; rings = rings; moves = sum }
 
-    state-is : left ≡ stateBehind s (on a.last rings sum)
+    state-is : left ≡ state_behind s (on a.last rings sum)
     state-is = λ i. record { k = s.k; n = s.n; ring = (same ∙ a.laid) i; rings = rings; moves = sum }
 
     -- for want of room
-    pub says-full : more ≡ true → length b' < at + rowRoom → RowsSay s b from (record { state = left; at = at; more = more }) b'
+    pub says-full : more ≡ true → length b' < at + row_room → RowsSay s b from (record { state = left; at = at; more = more }) b'
     says-full t h =
         record {
           text = a.text;
@@ -227,11 +227,11 @@ module _ (s : State) (b : List ℕ) (from : ℕ) (ring : List ℕ) (rings sum at
           ended = λ q. clash more t q;
         }
 
-    last-short : length (lastLine rings sum) ≤ rowRoom
+    last-short : length (last_line rings sum) ≤ row_room
     last-short = omega (arith, length_last rings sum, length-decimal 19 rings (omega (arith, along-rings a)), length-decimal 19 sum (omega (arith, along-moves a)))
 
     -- at the last ring
-    pub says-ended : more ≡ false → at + rowRoom ≤ length b' → next_of necklace s.k a.last ≡ none → RowsSay s b from (record { state = left; at = at; more = more }) b'
+    pub says-ended : more ≡ false → at + row_room ≤ length b' → next_of necklace s.k a.last ≡ none → RowsSay s b from (record { state = left; at = at; more = more }) b'
     says-ended t h d =
         record {
           text = a.text;
@@ -241,5 +241,5 @@ module _ (s : State) (b : List ℕ) (from : ℕ) (ring : List ℕ) (rings sum at
           inside = a.inside;
           full = λ q. clash more q t;
           room = λ q. omega (arith, keeps-length, last-short);
-          ended = λ q. a.goes (lastLine rings sum) over (total (omega (arith, keeps-length)) d);
+          ended = λ q. a.goes (last_line rings sum) over (total (omega (arith, keeps-length)) d);
         }

@@ -1,5 +1,7 @@
 // The lines of a listing's rings placed into a lent buffer (01, 'The listing program'). No public calls: crate `listing_pages_inner` makes pages of them.
 
+#![tactic(auto)]
+
 ghost use Rattle.std.specs.Prelude.{◌≤◌, length};
 ghost use Rattle.listing_spec.specs.State.{GoodState};
 ghost use Rattle.listing_rows_inner.specs.Says.{RowsSay};

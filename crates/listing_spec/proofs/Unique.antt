@@ -8,15 +8,15 @@ use Rattle.rings.specs.Necklace.{necklace}
 use Rattle.rings.specs.Steps.{FullWalk, done, step}
 use Rattle.ring_laws.proofs.FullWalk.{walk-moves}
 use Rattle.refusal.specs.{declared.Refusal.Refusal, Numbers.number_of}
-use Rattle.text_spec.specs.Text.{refusedLine}
+use Rattle.text_spec.specs.Text.{refused_line}
 use Rattle.limits_spec.specs.declared.Planned.{Planned}
 use Rattle.limits_spec.specs.declared.Planned.TheVariants.{Accepted, Refused}
 use Rattle.plan_spec.specs.Plan.{PlanSays}
 use Rattle.plan_spec.proofs.Unique.{one-plan}
-use Rattle.listing_spec.specs.{declared.State.State, declared.Page.Page, Prints.mostPrinted, Prints.ListPrints}
-use Rattle.listing_spec.specs.Listing.{row, opening, zeroRing, listingText, Listing}
+use Rattle.listing_spec.specs.{declared.State.State, declared.Page.Page, Prints.most_printed, Prints.ListPrints}
+use Rattle.listing_spec.specs.Listing.{row, opening, zero_ring, listing_text, Listing}
 use Rattle.listing_spec.specs.Prints as prints
-use Rattle.listing_spec.specs.State.{Rest, startState, stateBehind}
+use Rattle.listing_spec.specs.State.{Rest, start_state, state_behind}
 use Rattle.listing_spec.specs.Paging.{Goes, full, total, line, FirstPage, small, refused, listed, Next, bad, good, Paged}
 
 -- ---- one listing
@@ -35,18 +35,18 @@ pub one-listing : (k n : ℕ) (s t : List ℕ) → Listing k n s → Listing k n
 one-listing k n s t a b =
     let e = walk-one necklace k a.walk b.walk in
     let f : a.sum ≡ b.sum = walk-moves necklace k a.walk ∙ sym (walk-moves necklace k b.walk) in
-    a.is ∙ ap (λ (x : List (List ℕ)). listingText k n x a.sum) e ∙ ap (listingText k n b.rings) f ∙ sym b.is
+    a.is ∙ ap (λ (x : List (List ℕ)). listing_text k n x a.sum) e ∙ ap (listing_text k n b.rings) f ∙ sym b.is
 
 module _ (s : List ℕ) where
   -- two refusals of an input are one; nor is an input both refused and listed; and it is listed with one k and n
-  refusals : (r t : Refusal) → PlanSays mostPrinted s (Refused r) → PlanSays mostPrinted s (Refused t) → r ≡ t
-  refusals r t p q = let e = one-plan mostPrinted s (Refused r) (Refused t) p q in cc
+  refusals : (r t : Refusal) → PlanSays most_printed s (Refused r) → PlanSays most_printed s (Refused t) → r ≡ t
+  refusals r t p q = let e = one-plan most_printed s (Refused r) (Refused t) p q in cc
 
-  not-both : (r : Refusal) (k n : ℕ) → PlanSays mostPrinted s (Refused r) → PlanSays mostPrinted s (Accepted k n) → ⊥
-  not-both r k n p q = let e = one-plan mostPrinted s (Refused r) (Accepted k n) p q in let z : ◌≡◌ {A = ℕ} 0 1 = cc in omega arith
+  not-both : (r : Refusal) (k n : ℕ) → PlanSays most_printed s (Refused r) → PlanSays most_printed s (Accepted k n) → ⊥
+  not-both r k n p q = let e = one-plan most_printed s (Refused r) (Accepted k n) p q in let z : ◌≡◌ {A = ℕ} 0 1 = cc in omega arith
 
-  numbers : (k n k' n' : ℕ) → PlanSays mostPrinted s (Accepted k n) → PlanSays mostPrinted s (Accepted k' n') → (k' ≡ k) × (n' ≡ n)
-  numbers k n k' n' p q = let e = one-plan mostPrinted s (Accepted k n) (Accepted k' n') p q in (cc, cc)
+  numbers : (k n k' n' : ℕ) → PlanSays most_printed s (Accepted k n) → PlanSays most_printed s (Accepted k' n') → (k' ≡ k) × (n' ≡ n)
+  numbers k n k' n' p q = let e = one-plan most_printed s (Accepted k n) (Accepted k' n') p q in (cc, cc)
 
   -- an input has at most one output
   pub one-output : (t u : List ℕ) → ListPrints s t → ListPrints s u → t ≡ u
@@ -55,7 +55,7 @@ module _ (s : List ℕ) where
       one-listing k n t u l (rw (e.0, e.1) at m)
   one-output t u (prints.listed k n p l) (prints.refused r q e) = absurd (not-both r k n q p)
   one-output t u (prints.refused r p e) (prints.listed k n q l) = absurd (not-both r k n p q)
-  one-output t u (prints.refused r p e) (prints.refused r' q f) = e ∙ ap (λ (x : Refusal). refusedLine (number_of x)) (refusals r r' p q) ∙ sym f
+  one-output t u (prints.refused r p e) (prints.refused r' q f) = e ∙ ap (λ (x : Refusal). refused_line (number_of x)) (refusals r r' p q) ∙ sym f
 
 -- ---- one page
 
@@ -80,7 +80,7 @@ first_one s room t u a b (small h e f) (small g i j) = (e ∙ sym i, f ∙ sym j
 first_one s room t u a b (small h e f) (refused g r p i j) = absurd (omega arith)
 first_one s room t u a b (small h e f) (listed g k n x y p q i j) = absurd (omega arith)
 first_one s room t u a b (refused h r p e f) (small g i j) = absurd (omega arith)
-first_one s room t u a b (refused h r p e f) (refused g r' q i j) = (e ∙ ap (λ (x : Refusal). refusedLine (number_of x)) (refusals s r r' p q) ∙ sym i, f ∙ sym j)
+first_one s room t u a b (refused h r p e f) (refused g r' q i j) = (e ∙ ap (λ (x : Refusal). refused_line (number_of x)) (refusals s r r' p q) ∙ sym i, f ∙ sym j)
 first_one s room t u a b (refused h r p e f) (listed g k n x y q z i j) = absurd (not-both s r k n p q)
 first_one s room t u a b (listed h k n x y p q e f) (small g i j) = absurd (omega arith)
 first_one s room t u a b (listed h k n x y p q e f) (refused g r z i j) = absurd (not-both s r k n z p)
@@ -88,15 +88,15 @@ first_one s room t u a b (listed h k n x y p q e f) (listed g k' n' x' y' p' q' 
     let d = numbers s k n k' n' p p' in
     let l = goes_one q (rw (d.0, d.1) at q') in
     let i' : u ≡ opening k n ++ x' = rw (d.0, d.1) at i in
-    let j' : b ≡ stateBehind (startState k n) y' = rw (d.0, d.1) at j in
-    (e ∙ ap (λ (z : List ℕ). opening k n ++ z) l.0 ∙ sym i', f ∙ ap (stateBehind (startState k n)) l.1 ∙ sym j')
+    let j' : b ≡ state_behind (start_state k n) y' = rw (d.0, d.1) at j in
+    (e ∙ ap (λ (z : List ℕ). opening k n ++ z) l.0 ∙ sym i', f ∙ ap (state_behind (start_state k n)) l.1 ∙ sym j')
 
 -- any other page's
 next_one : (s : State) (room : ℕ) (t u : List ℕ) (a b : State) → Next s room t a → Next s room u b → (t ≡ u) × (a ≡ b)
 next_one s room t u a b (bad h e f) (bad g i j) = (e ∙ sym i, f ∙ sym j)
 next_one s room t u a b (bad h e f) (good g y q j) = absurd (h g)
 next_one s room t u a b (good h x p f) (bad g i j) = absurd (g h)
-next_one s room t u a b (good h x p f) (good g y q j) = let l = goes_one p q in (l.0, f ∙ ap (stateBehind s) l.1 ∙ sym j)
+next_one s room t u a b (good h x p f) (good g y q j) = let l = goes_one p q in (l.0, f ∙ ap (state_behind s) l.1 ∙ sym j)
 
 -- a text and a state determine the answer and the buffer afterwards
 pub one-page : (P : List ℕ → State → Type 0) → ((t u : List ℕ) (a b : State) → P t a → P u b → (t ≡ u) × (a ≡ b)) → (b : List ℕ) (r q : Page)

@@ -1,5 +1,7 @@
 // Where a listing stands, and a page of it (01, 'The listing program'). No code: crate `listing` makes pages.
 
+#![tactic(auto)]
+
 // Where a listing stands: k and n, the ring with room for 64 sectors, the number of rings up to it and the sum of their moves.
 #[derive(Drop)]
 pub struct State {

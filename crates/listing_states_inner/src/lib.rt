@@ -1,5 +1,7 @@
 // Whether a listing can go on from a state (01, 'The listing program'). No public calls: crate `listing` asks.
 
+#![tactic(auto)]
+
 ghost use Rattle.listing_spec.specs.State.{GoodState};
 ghost use Rattle.listing_states_inner.specs.Says.{NecklaceOf, TellsWhether};
 

@@ -1,14 +1,16 @@
 // The steps of the listing program that fill no page: the page behind a read that failed, and whether another page follows. No public calls.
 
+#![tactic(auto)]
+
 ghost use Rattle.std.specs.Prelude.{◌≡◌};
-ghost use Rattle.listing_spec.specs.State.{emptyState};
-ghost use Rattle.listing_steps_inner.specs.Says.{goesOn};
+ghost use Rattle.listing_spec.specs.State.{empty_state};
+ghost use Rattle.listing_steps_inner.specs.Says.{goes_on};
 
 use listing_spec::Page;
 
 // A page of no bytes, behind which nothing follows.
 pub fn no_page() -> Page
-    ensures { (result.length ≡ 0) × (result.state ≡ emptyState) }
+    ensures { (result.length ≡ 0) × (result.state ≡ empty_state) }
 {
     let state = listing_pages_inner::empty_state();
     Page { length: 0, state }
@@ -16,7 +18,7 @@ pub fn no_page() -> Page
 
 // Whether another page follows: where this one has bytes, and they were written.
 pub fn goes_on(wrote: bool, length: usize) -> bool
-    ensures { result ≡ goesOn wrote length }
+    ensures { result ≡ goes_on wrote length }
 {
     if !wrote {
         return false;

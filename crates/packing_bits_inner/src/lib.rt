@@ -1,10 +1,12 @@
 // The numbers of the packed stored form (02, request k): how many bits a sector takes, how many bytes n sectors take, and in which byte a sector starts; and the steps
 // on the bits that are held between two bytes. No public calls: the record reader and the writer check what these ask for.
 
+#![tactic(auto)]
+
 ghost use Rattle.std.specs.Prelude.{◌≡◌, ◌≤◌, ◌<◌, ◌+◌, ◌-◌, ◌*◌, ◌/◌, ◌%◌, ◌^◌};
 ghost use Rattle.words.specs.Readings.{Shaded};
 ghost use Rattle.packing_spec.specs.Width.{width};
-ghost use Rattle.packing_spec.specs.Packing.{packedLength, byte_of};
+ghost use Rattle.packing_spec.specs.Packing.{packed_length, byte_of};
 
 // How many bits the highest of k shades needs: eight less the leading zeros of k - 1 as a u8.
 pub fn width_of(k: usize) -> usize
@@ -18,7 +20,7 @@ pub fn width_of(k: usize) -> usize
 // How many bytes n sectors take.
 pub fn packed_length(width: usize, n: usize) -> usize
     requires { (width ≤ 8) × (n ≤ 64) }
-    ensures { result ≡ packedLength width n }
+    ensures { result ≡ packed_length width n }
 {
     (width * n + 7) / 8
 }

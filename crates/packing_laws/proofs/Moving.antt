@@ -10,18 +10,18 @@ use native.Mathlib.Nat.{mod-lt, mul-zero, mul-suc, mul_assoc, add-mul}
 use lib.Pow.{pow_pos, pow-add, pow_mono, split, shr_lt}
 use lib.Arith.{digits_lt}
 use Rattle.words.proofs.Split.{lt, eq, gt, tri}
-use Rattle.packing_spec.specs.Packing.{asOne}
+use Rattle.packing_spec.specs.Packing.{as_one}
 use Rattle.packing_laws.proofs.AsOne.{as-one-snoc}
 
 -- the written parts, and the held bits behind them, are the taken parts as one number
 pub record Moved (a b : ℕ) (v : List ℕ) (i : ℕ) (w : List ℕ) (j h r : ℕ) : Type 0 where
   pub bits : b * j + h ≡ a * i
   pub held : r < 2 ^ h
-  pub number : asOne b (take j w) * 2 ^ h + r ≡ asOne a (take i v)
+  pub number : as_one b (take j w) * 2 ^ h + r ≡ as_one a (take i v)
   pub fit : (m : ℕ) → m < j → get_or w m 0 < 2 ^ b
 
 pub moved-start : (a b : ℕ) (v w : List ℕ) → Moved a b v 0 w 0 0 0
-unfolding asOne
+unfolding as_one
 moved-start a b v w = record { bits = rw (mul-zero a, mul-zero b); held = omega arith; number = refl; fit = λ m l. absurd (omega arith) }
 
 -- a number of h bits behind q, and a bits of x behind it
@@ -35,7 +35,7 @@ moved-take a b v i w j h r m l z t q =
       bits = omega (arith, m.bits, mul-suc a i);
       held = rw (pow-add 2 h a) (digits_lt m.held z);
       number =
-          rw (take-suc v i 0 l, as-one-snoc a (take i v) (get_or v i 0), sym m.number) (sym (grown (asOne b (take j w)) h r a (get_or v i 0)));
+          rw (take-suc v i 0 l, as-one-snoc a (take i v) (get_or v i 0), sym m.number) (sym (grown (as_one b (take j w)) h r a (get_or v i 0)));
       fit = m.fit;
     })
 
@@ -60,6 +60,6 @@ module _ (a b : ℕ) (v : List ℕ) (i : ℕ) (w : List ℕ) (j h r : ℕ) (m : 
         bits = omega (arith, m.bits, mul-suc b j);
         held = mod-lt r (pow_pos g);
         number =
-            rw (take-suc-set w j (r / 2 ^ g) l, as-one-snoc b (take j w) (r / 2 ^ g), grown (asOne b (take j w)) b (r / 2 ^ g) g (r % 2 ^ g), split r g, e) m.number;
+            rw (take-suc-set w j (r / 2 ^ g) l, as-one-snoc b (take j w) (r / 2 ^ g), grown (as_one b (take j w)) b (r / 2 ^ g) g (r % 2 ^ g), split r g, e) m.number;
         fit = fits-set b w j (r / 2 ^ g) l m.fit give-fits;
       })

@@ -10,7 +10,7 @@ use Rattle.words.proofs.Plain.{ℕ, suc, ◌+◌, ◌-◌, ◌*◌, ◌/◌, ◌
 use Rattle.words.proofs.Plain.{take-suc-set, take_all}
 use native.Mathlib.Nat.{mul-le-mul_left}
 use lib.Pow.{shl_lt}
-use Rattle.packing_spec.specs.Packing.{BitsFit, asOne, packedLength, packed}
+use Rattle.packing_spec.specs.Packing.{BitsFit, as_one, packed_length, packed}
 use Rattle.packing_laws.proofs.{AsOne.as-one-snoc, Lengths.bits-bytes, Lengths.bytes-is, Packing.packed-is}
 use Rattle.packing_laws.proofs.Moving.{Moved, moved-start, moved-take, moved-give, give-fits, grown, fits-set}
 
@@ -20,13 +20,13 @@ pub record Packs (b : ℕ) (w : List ℕ) (i : ℕ) (c : List ℕ) (j h r : ℕ)
   pub few : h < 8
   pub narrow : b ≤ 8
   pub sectors : BitsFit b w
-  pub long : length c ≡ packedLength b (length w)
+  pub long : length c ≡ packed_length b (length w)
 
-pub packs-start : (b : ℕ) (w c : List ℕ) → b ≤ 8 → BitsFit b w → length c ≡ packedLength b (length w) → Packs b w 0 c 0 0 0
+pub packs-start : (b : ℕ) (w c : List ℕ) → b ≤ 8 → BitsFit b w → length c ≡ packed_length b (length w) → Packs b w 0 c 0 0 0
 packs-start b w c n f l = record { moved = moved-start b 8 w c; taken = omega arith; few = omega arith; narrow = n; sectors = f; long = l }
 
 -- what is written and held is no more than the bytes have room for
-room : (b : ℕ) (w : List ℕ) (i : ℕ) (c : List ℕ) (j h r : ℕ) → Moved b 8 w i c j h r → i ≤ length w → length c ≡ packedLength b (length w) → 8 * j + h ≤ 8 * length c
+room : (b : ℕ) (w : List ℕ) (i : ℕ) (c : List ℕ) (j h r : ℕ) → Moved b 8 w i c j h r → i ≤ length w → length c ≡ packed_length b (length w) → 8 * j + h ≤ 8 * length c
 room b w i c j h r m l e = omega (arith, m.bits, mul-le-mul_left b l, bits-bytes b (length w))
 
 -- ---- a turn: t holds one more sector
@@ -58,7 +58,7 @@ module _ (b : ℕ) (w : List ℕ) (i : ℕ) (c : List ℕ) (j h r : ℕ) (p : Pa
 -- ---- the end
 
 module _ (b : ℕ) (w : List ℕ) (i : ℕ) (c : List ℕ) (j h r : ℕ) (p : Packs b w i c j h r) (all : i ≡ length w) where
-  whole : asOne 8 (take j c) * 2 ^ h + r ≡ asOne b w
+  whole : as_one 8 (take j c) * 2 ^ h + r ≡ as_one b w
   whole = let x : take i w ≡ w = take_all i w (omega arith) in rw x at p.moved.number
 
   counted : 8 * j + h ≡ b * length w
@@ -68,7 +68,7 @@ module _ (b : ℕ) (w : List ℕ) (i : ℕ) (c : List ℕ) (j h r : ℕ) (p : Pa
   packs-end z =
       let d = bytes-is b (length w) j 0 (omega (arith, counted)) (omega arith) in
       let t : take j c ≡ c = take_all j c (omega (arith, p.long)) in
-      let n : asOne 8 c * 2 ^ 0 + r ≡ asOne b w = rw (t, z) at whole in
+      let n : as_one 8 c * 2 ^ 0 + r ≡ as_one b w = rw (t, z) at whole in
       let k : r < 2 ^ 0 = rw z at p.moved.held in
       packed-is b w c p.long (λ m l. p.moved.fit m (omega (arith, p.long))) (rw d.1 (omega arith))
 
@@ -84,6 +84,6 @@ module _ (b : ℕ) (w : List ℕ) (i : ℕ) (c : List ℕ) (j h r : ℕ) (p : Pa
       let g : h + (8 - h) ≡ 8 = omega arith in
       let y : r * 2 ^ (8 - h) < 2 ^ 8 = rw g at (shl_lt h (8 - h) p.moved.held) in
       let t : set c j x ≡ take j c ++ (x ∷ []) = sym (take_all (suc j) (set c j x) (omega arith)) ∙ take-suc-set c j x l in
-      let k : asOne b w * 2 ^ (8 - h) + 0 ≡ asOne 8 (take j c) * 2 ^ 8 + (r * 2 ^ (8 - h) + 0) = rw (g, whole) at (grown (asOne 8 (take j c)) h r (8 - h) 0) in
+      let k : as_one b w * 2 ^ (8 - h) + 0 ≡ as_one 8 (take j c) * 2 ^ 8 + (r * 2 ^ (8 - h) + 0) = rw (g, whole) at (grown (as_one 8 (take j c)) h r (8 - h) 0) in
       packed-is b w (set c j x) (omega arith) (λ m f. fits-set 8 c j x l p.moved.fit (omega arith) m (omega arith))
       (rw (t, as-one-snoc 8 (take j c) x, d.1) (omega arith))

@@ -1,11 +1,13 @@
 // Sectors packed into bytes (02, request k). No public call: the writer checks what this asks for.
 
+#![tactic(auto)]
+
 ghost use Rattle.std.specs.Prelude.{◌≡◌, ◌≤◌, length};
-ghost use Rattle.packing_spec.specs.Packing.{BitsFit, packedLength, packed};
+ghost use Rattle.packing_spec.specs.Packing.{BitsFit, packed_length, packed};
 
 // Packs the sectors into `out`, which is as long as the packed bytes: the first in the highest bits. `rest` holds the bits that fill no byte yet, `held` of them.
 pub fn pack_into(sectors: &[u8], width: usize, out: &mut [u8])
-    requires { (width ≤ 8) × BitsFit width sectors.now × (length out.old ≡ packedLength width (length sectors.now)) }
+    requires { (width ≤ 8) × BitsFit width sectors.now × (length out.old ≡ packed_length width (length sectors.now)) }
     ensures { out.new ≡ packed width sectors.now }
 {
     let n = sectors.len();

@@ -2,8 +2,8 @@
 use Rattle.std.specs.Prelude.{ℕ}
 use Rattle.words.specs.Search.{least}
 use Rattle.packing_spec.specs.Width.{width}
-use Rattle.packing_spec.specs.Packing.{asOne, parts_of, packedLength, spare, packed, unpacked, clearPadding, byte_of, bit_at}
+use Rattle.packing_spec.specs.Packing.{as_one, parts_of, packed_length, spare, packed, unpacked, clear_padding, byte_of, bit_at}
 
 unfoldable pub open-packing : ℕ
-unfolding least width asOne parts_of packedLength spare packed unpacked clearPadding byte_of bit_at
+unfolding least width as_one parts_of packed_length spare packed unpacked clear_padding byte_of bit_at
 open-packing = 0

@@ -8,7 +8,7 @@
 --     clear-is                        the unused low bits of the last byte, as a remainder
 use Rattle.words.proofs.Plain.{ℕ, ◌+◌, ◌-◌, ◌*◌, ◌/◌, ◌%◌, ◌^◌, ◌<◌, ◌≤◌, arith, ◌≡◌, List, eqb, length, get_or, take, set, length-set, take_all}
 use native.Mathlib.Nat.{mul-suc, mul-le-mul_left}
-use Rattle.packing_spec.specs.Packing.{packedLength, spare, unpacked, clearPadding}
+use Rattle.packing_spec.specs.Packing.{packed_length, spare, unpacked, clear_padding}
 use Rattle.packing_laws.proofs.{Lengths.bits-bytes, Lengths.bytes-is, Packing.unpacked-is}
 use Rattle.packing_laws.proofs.Moving.{held-lt, Moved, moved-start, moved-take, moved-give, give-fits}
 
@@ -18,10 +18,10 @@ pub record Unpacks (b : ℕ) (c : List ℕ) (n i : ℕ) (w : List ℕ) (j h r : 
   pub few : h < 8 + b
   pub fewer : n ≤ j → h < 8
   pub narrow : b ≤ 8
-  pub bytes : length c ≡ packedLength b n
+  pub bytes : length c ≡ packed_length b n
   pub long : length w ≡ n
 
-pub unpacks-start : (b : ℕ) (c : List ℕ) (n : ℕ) (w : List ℕ) → b ≤ 8 → length c ≡ packedLength b n → length w ≡ n → Unpacks b c n 0 w 0 0 0
+pub unpacks-start : (b : ℕ) (c : List ℕ) (n : ℕ) (w : List ℕ) → b ≤ 8 → length c ≡ packed_length b n → length w ≡ n → Unpacks b c n 0 w 0 0 0
 unpacks-start b c n w k e l =
     record { moved = moved-start 8 b c w; given = omega arith; few = omega arith; fewer = λ g. omega arith; narrow = k; bytes = e; long = l }
 
@@ -67,6 +67,6 @@ module _ (b : ℕ) (c : List ℕ) (n i : ℕ) (w : List ℕ) (j h r : ℕ) (p : 
 
 -- ---- the padding
 
-pub clear-is : (b n : ℕ) (c : List ℕ) → length c ≡ packedLength b n → (r : ℕ) → r ≡ get_or c (length c - 1) 0 % 2 ^ (8 * length c - b * n) → eqb r 0 ≡ clearPadding b n c
-unfolding clearPadding
+pub clear-is : (b n : ℕ) (c : List ℕ) → length c ≡ packed_length b n → (r : ℕ) → r ≡ get_or c (length c - 1) 0 % 2 ^ (8 * length c - b * n) → eqb r 0 ≡ clear_padding b n c
+unfolding clear_padding
 clear-is b n c l r e = let s : 8 * length c - b * n ≡ spare b n = omega (arith, bits-bytes b n) in rw (e, s, l)

@@ -1,5 +1,7 @@
 // The gray of a shade, 0 black and 255 white. No public calls.
 
+#![tactic(auto)]
+
 ghost use Rattle.std.specs.Prelude.{◌≤◌, ◌<◌, ◌≡◌};
 ghost use Rattle.picture_spec.specs.Gray.{gray};
 ghost use Rattle.picture_gray_inner.specs.Says.{Managed, Levels};

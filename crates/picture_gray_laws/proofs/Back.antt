@@ -8,21 +8,21 @@ use Rattle.refusal.specs.Calls.{Below}
 use Rattle.density_spec.specs.{declared.SectorRead.SectorRead, declared.Sector.TheVariants.Shade, declared.RingRead.RingRead}
 use Rattle.density_spec.specs.declared.SectorRead.TheVariants as S
 use Rattle.density_spec.specs.declared.RingRead.TheVariants as R
-use Rattle.density_spec.specs.Cuts.{goodCard, shadeOf, In}
+use Rattle.density_spec.specs.Cuts.{good_card, shade_of, In}
 use Rattle.density_spec.specs.Says.{SectorSays, RingSays}
 use Rattle.density_spec.proofs.{Unique.one-sector, Unique.one-ring, Places.shade-at}
 use Rattle.picture_spec.specs.declared.Tone.{Tone}
 use Rattle.picture_laws.proofs.Seen.{shown-sector}
-use Rattle.picture_gray_laws.specs.Shown.{fullCard, NearShade, Measured}
+use Rattle.picture_gray_laws.specs.Shown.{full_card, NearShade, Measured}
 use Rattle.picture_gray_laws.proofs.Shades.{near-shade}
 
-full-good : goodCard fullCard ≡ true
+full-good : good_card full_card ≡ true
 unfolding of_bits of_fields lt eq le ne
 full-good = refl
 
 module _ (tone : Tone) (k : ℕ) (a : Shaded k) where
-  pub sector-back : (s : ℕ) → s < k → (x : Float) → NearShade tone k s x → (r : SectorRead) → SectorSays x k fullCard r → r ≡ S.Is (Shade s)
-  sector-back s h x n r p = one-sector x k fullCard r (S.Is (Shade s)) p ((a, full-good), (n.value, sym (near-shade tone k a s h x n)))
+  pub sector-back : (s : ℕ) → s < k → (x : Float) → NearShade tone k s x → (r : SectorRead) → SectorSays x k full_card r → r ≡ S.Is (Shade s)
+  sector-back s h x n r p = one-sector x k full_card r (S.Is (Shade s)) p ((a, full-good), (n.value, sym (near-shade tone k a s h x n)))
 
   module _ (w : List ℕ) (z : Sized (length w)) (g : Below w (λ i. k)) (xs : List Float) (m : Measured tone k w xs) where
     -- what is measured of a sector is near the reflectance of its shade
@@ -32,12 +32,12 @@ module _ (tone : Tone) (k : ℕ) (a : Shaded k) where
     readable : (i : ℕ) → i < length xs → In (get_or xs i nan)
     readable i h = (near i (omega (arith, m.long))).value
 
-    shades : w ≡ map (shadeOf fullCard k) xs
+    shades : w ≡ map (shade_of full_card k) xs
     shades =
-        ext_get_or 0 w (map (shadeOf fullCard k) xs) (sym (length-map xs (shadeOf fullCard k) ∙ m.long))
-        (λ i h. sym (near-shade tone k a (get_or w i 0) (g i h) (get_or xs i nan) (near i h)) ∙ sym (shade-at fullCard k xs i (omega (arith, m.long))))
+        ext_get_or 0 w (map (shade_of full_card k) xs) (sym (length-map xs (shade_of full_card k) ∙ m.long))
+        (λ i h. sym (near-shade tone k a (get_or w i 0) (g i h) (get_or xs i nan) (near i h)) ∙ sym (shade-at full_card k xs i (omega (arith, m.long))))
 
-    pub picture-back : (b : List ℕ) → length b ≡ length w → (r : RingRead) (d : List ℕ) → RingSays xs k fullCard b r d → (r ≡ R.Written) × (d ≡ w)
+    pub picture-back : (b : List ℕ) → length b ≡ length w → (r : RingRead) (d : List ℕ) → RingSays xs k full_card b r d → (r ≡ R.Written) × (d ≡ w)
     picture-back b l r d p =
         let y : Sized (length xs) = rw m.long z in
-        one-ring xs k fullCard b r R.Written d w p ((((y, (a, full-good)), l ∙ sym m.long), readable), shades)
+        one-ring xs k full_card b r R.Written d w p ((((y, (a, full-good)), l ∙ sym m.long), readable), shades)

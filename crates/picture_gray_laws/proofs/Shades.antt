@@ -6,11 +6,11 @@ use Rattle.words.proofs.Plain.{ℕ, suc, zero, ◌+◌, ◌-◌, ◌<◌, ◌≤
 use lib.Ieee.{Float, binary32, of_bits, of_fields, add, sub, mul, div, neg, sum, round, units, odd, size, climb, span, of_int, lt, eq, le, ne}
 use Rattle.words.specs.{Search.all_below, Readings.Shaded}
 use Rattle.words.proofs.{Search.all-at, Split.both_left, Split.both_right}
-use Rattle.density_spec.specs.Cuts.{cutsUpTo, shadeOf, In, zero32, one32}
+use Rattle.density_spec.specs.Cuts.{cuts_up_to, shade_of, In, zero32, one32}
 use Rattle.density_laws.proofs.Shades.{brighter}
 use Rattle.picture_spec.specs.{declared.Tone.Tone, declared.Tone.TheVariants.Managed, declared.Tone.TheVariants.Levels}
-use Rattle.picture_spec.specs.Gray.{managedGrays, gray}
-use Rattle.picture_gray_laws.specs.Shown.{srgb, reflectance, tolerance, ideal, NearShade, fullCard}
+use Rattle.picture_spec.specs.Gray.{managed_grays, gray}
+use Rattle.picture_gray_laws.specs.Shown.{srgb, reflectance, tolerance, ideal, NearShade, full_card}
 
 -- the value is a number from 0 to 1
 inside : Float → Bool
@@ -20,15 +20,15 @@ inside x = not (ne x x) && (not (lt x zero32) && not (lt one32 x))
 told : Tone → ℕ → ℕ → Bool
 told tone k s =
     inside (ideal tone k s)
-    && (eqb (shadeOf fullCard k (ideal tone k s)) s
-    && (eqb (shadeOf fullCard k (sub binary32 (ideal tone k s) (tolerance k))) s && eqb (shadeOf fullCard k (add binary32 (ideal tone k s) (tolerance k))) s))
+    && (eqb (shade_of full_card k (ideal tone k s)) s
+    && (eqb (shade_of full_card k (sub binary32 (ideal tone k s) (tolerance k))) s && eqb (shade_of full_card k (add binary32 (ideal tone k s) (tolerance k))) s))
 
 managed-told : all_below 15 (λ i. all_below (2 + i) (told Managed (2 + i))) ≡ true
-unfolding all_below told inside ideal tolerance reflectance srgb gray managedGrays cutsUpTo of_bits of_fields add sub mul div neg sum round units odd size climb span of_int lt eq le ne
+unfolding all_below told inside ideal tolerance reflectance srgb gray managed_grays cuts_up_to of_bits of_fields add sub mul div neg sum round units odd size climb span of_int lt eq le ne
 managed-told = refl
 
 levels-told : all_below 15 (λ i. all_below (2 + i) (told Levels (2 + i))) ≡ true
-unfolding all_below told inside ideal tolerance reflectance gray cutsUpTo of_bits of_fields add sub mul div neg sum round units odd size climb span of_int lt eq le ne
+unfolding all_below told inside ideal tolerance reflectance gray cuts_up_to of_bits of_fields add sub mul div neg sum round units odd size climb span of_int lt eq le ne
 levels-told = refl
 
 shades-told : (tone : Tone) → all_below 15 (λ i. all_below (2 + i) (told tone (2 + i))) ≡ true
@@ -54,7 +54,7 @@ module _ (tone : Tone) (k : ℕ) (a : Shaded k) (s : ℕ) (h : s < k) where
   x = ideal tone k s
 
   abbrev is : Float → Bool
-  is y = eqb (shadeOf fullCard k y) s
+  is y = eqb (shade_of full_card k y) s
 
   rest : (is x && (is (sub binary32 x (tolerance k)) && is (add binary32 x (tolerance k)))) ≡ true
   unfolding told
@@ -75,14 +75,14 @@ module _ (tone : Tone) (k : ℕ) (a : Shaded k) (s : ℕ) (h : s < k) where
       )
 
   -- which is s
-  pub ideal-shade : shadeOf fullCard k (ideal tone k s) ≡ s
-  ideal-shade = eqb-true (shadeOf fullCard k x) s (both_left (is x) (is (sub binary32 x (tolerance k)) && is (add binary32 x (tolerance k))) rest)
+  pub ideal-shade : shade_of full_card k (ideal tone k s) ≡ s
+  ideal-shade = eqb-true (shade_of full_card k x) s (both_left (is x) (is (sub binary32 x (tolerance k)) && is (add binary32 x (tolerance k))) rest)
 
   -- and so has every value that is near
-  pub near-shade : (y : Float) → NearShade tone k s y → shadeOf fullCard k y ≡ s
+  pub near-shade : (y : Float) → NearShade tone k s y → shade_of full_card k y ≡ s
   near-shade y n =
       let d = sub binary32 x (tolerance k) in
       let l = add binary32 x (tolerance k) in
-      let p = eqb-true (shadeOf fullCard k d) s (both_left (is d) (is l) edges) in
-      let q = eqb-true (shadeOf fullCard k l) s (both_right (is d) (is l) edges) in
-      omega (arith, p, q, brighter fullCard k d y (passing (le d y) n.darkest), brighter fullCard k y l (passing (le y l) n.lightest))
+      let p = eqb-true (shade_of full_card k d) s (both_left (is d) (is l) edges) in
+      let q = eqb-true (shade_of full_card k l) s (both_right (is d) (is l) edges) in
+      omega (arith, p, q, brighter full_card k d y (passing (le d y) n.darkest), brighter full_card k y l (passing (le y l) n.lightest))

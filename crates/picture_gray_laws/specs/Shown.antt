@@ -3,7 +3,7 @@
 --     reflectance tone g        by the curve in a colour-managed print, else g / 255
 --     tolerance k               seven sixteenths of the step from one of k shades to the next: 7 / (16 (k - 1))
 --     NearShade tone k s x           x lies between 0 and 1, and is not further from the reflectance of shade s than the tolerance
---     fullCard                  the card 0 and 1
+--     full_card                  the card 0 and 1
 --     Measured tone k w xs      xs are reflectances as they may be measured of the picture of w: of each sector, at any place of it, near the reflectance of what is shown
 -- The table is the curve's values, not its definition, a power of 2.4: it was computed to 40 digits and rounded. What is proved of it holds of any table whose values are
 -- no further from it than the tolerance leaves room for.
@@ -15,7 +15,7 @@ use Rattle.density_spec.specs.Cuts.{zero32, one32, whole32, In}
 use Rattle.picture_spec.specs.declared.Tone.{Tone}
 use Rattle.picture_spec.specs.declared.Tone.TheVariants.{Managed, Levels}
 use Rattle.picture_spec.specs.Gray.{gray}
-use Rattle.picture_laws.specs.Seen.{shownAt}
+use Rattle.picture_laws.specs.Seen.{shown_at}
 
 unfoldable pub srgb : List ℕ
 srgb =
@@ -69,9 +69,9 @@ pub record NearShade (tone : Tone) (k s : ℕ) (x : Float) : Type 0 where
   pub darkest : le (sub binary32 (ideal tone k s) (tolerance k)) x ≡ true
   pub lightest : le x (add binary32 (ideal tone k s) (tolerance k)) ≡ true
 
-abbrev pub fullCard : Card
-fullCard = record { dark = zero32; light = one32 }
+abbrev pub full_card : Card
+full_card = record { dark = zero32; light = one32 }
 
 pub record Measured (tone : Tone) (k : ℕ) (w : List ℕ) (xs : List Float) : Type 0 where
   pub long : length xs ≡ length w
-  pub each : (i : ℕ) → i < length w → (u : ℕ) × (710 * i ≤ u) × (u < 710 * (i + 1)) × NearShade tone k (shownAt w u) (get_or xs i nan)
+  pub each : (i : ℕ) → i < length w → (u : ℕ) × (710 * i ≤ u) × (u < 710 * (i + 1)) × NearShade tone k (shown_at w u) (get_or xs i nan)

@@ -1,1 +1,4 @@
 // A drawn shade is read back as itself. No functions.
+
+#![tactic(auto)]
+

@@ -1,9 +1,11 @@
 // The picture of a target as SVG text, placed into a lent buffer. No public calls.
 
+#![tactic(auto)]
+
 ghost use Rattle.std.specs.Prelude.{◌+◌, ◌≤◌, ◌<◌, length};
 ghost use Rattle.refusal.specs.Calls.{Below};
 ghost use Rattle.text_form_inner.specs.Fits.{Fits};
-ghost use Rattle.picture_spec.specs.Text.{headText, tailText, pictureText};
+ghost use Rattle.picture_spec.specs.Text.{head_text, tail_text, picture_text};
 
 use picture_spec::Tone;
 
@@ -11,7 +13,7 @@ use picture_spec::Tone;
 fn place_head(buf: &mut [u8], at: usize, n: usize) -> usize
     requires n_bound { n ≤ 64 }
     requires at_in_bounds { at + 320 ≤ length buf.old }
-    ensures { Fits 320 buf.old at (headText n) result buf.new }
+    ensures { Fits 320 buf.old at (head_text n) result buf.new }
 {
     let half = 138 * n;
     let whole = 276 * n;
@@ -29,7 +31,7 @@ fn place_head(buf: &mut [u8], at: usize, n: usize) -> usize
 pub fn place_tail(buf: &mut [u8], at: usize, n: usize) -> usize
     requires n_bound { n ≤ 64 }
     requires at_in_bounds { at + 64 ≤ length buf.old }
-    ensures { Fits 64 buf.old at (tailText n) result buf.new }
+    ensures { Fits 64 buf.old at (tail_text n) result buf.new }
 {
     text_form_inner::place_form(
         buf,
@@ -46,7 +48,7 @@ pub fn place_picture(buf: &mut [u8], at: usize, ring: &[u8], k: usize, tone: Ton
     requires le_k { (2 ≤ k) × (k ≤ 16) × (0 < length ring.now) × (length ring.now ≤ 64) }
     requires below { Below ring.now (λ i. k) }
     requires at_in_bounds { at + 16768 ≤ length buf.old }
-    ensures { Fits 16768 buf.old at (pictureText tone k ring.now) result buf.new }
+    ensures { Fits 16768 buf.old at (picture_text tone k ring.now) result buf.new }
 {
     let n = ring.len();
     let a = place_head(buf, at, n);

@@ -9,8 +9,8 @@ use native.Mathlib.Nat.{mod-eq_of_lt, add-mod_left}
 use Rattle.words.specs.Turn.{turn}
 use Rattle.words.proofs.Split.{passes, fails, test, lt, eq, gt, tri, either_left, either-right}
 use Rattle.words.proofs.Turn.{length-turn, turn_low, turn-high}
-use Rattle.picture_spec.specs.Arcs.{reach, Arc, arcsFrom, firstRun, arcs}
-use Rattle.picture_laws.specs.Seen.{within, on, seen, shownAt}
+use Rattle.picture_spec.specs.Arcs.{reach, Arc, arcs_from, first_run, arcs}
+use Rattle.picture_laws.specs.Seen.{within, on, seen, shown_at}
 
 -- ---- runs
 
@@ -27,13 +27,13 @@ unfolding reach
 reach-le s [] = omega arith
 reach-le s (t ∷ w) = elim (test (eqb t s)) [ passes e ↦ rw (e, reach) (omega (arith, reach-le s w)) | fails e ↦ rw (e, reach) (omega arith) ]
 
-arcs-same : (p i s : ℕ) (w : List ℕ) → s ≡ p → arcsFrom p i (s ∷ w) ≡ arcsFrom s (suc i) w
-unfolding arcsFrom
-arcs-same p i s w e = rw (eq-eqb s p e, arcsFrom) refl
+arcs-same : (p i s : ℕ) (w : List ℕ) → s ≡ p → arcs_from p i (s ∷ w) ≡ arcs_from s (suc i) w
+unfolding arcs_from
+arcs-same p i s w e = rw (eq-eqb s p e, arcs_from) refl
 
-arcs-other : (p i s : ℕ) (w : List ℕ) → (s ≡ p → ⊥) → arcsFrom p i (s ∷ w) ≡ record { from = i; long = suc (reach s w); shade = s } ∷ arcsFrom s (suc i) w
-unfolding arcsFrom
-arcs-other p i s w e = rw (ne_eqb s p e, arcsFrom) refl
+arcs-other : (p i s : ℕ) (w : List ℕ) → (s ≡ p → ⊥) → arcs_from p i (s ∷ w) ≡ record { from = i; long = suc (reach s w); shade = s } ∷ arcs_from s (suc i) w
+unfolding arcs_from
+arcs-other p i s w e = rw (ne_eqb s p e, arcs_from) refl
 
 -- ---- places
 
@@ -110,19 +110,19 @@ module _ (n o i u c : ℕ) (oz : o ≤ n) (iu : 710 * i ≤ u) (ui : u < 710 * (
     leave j d s ys z oj jd jn h = rw (bare j d (j % n) oj jd ci (around n j jn) h, seen) refl
 
     -- sectors further on do not paint over it
-    seen-before : (p j z : ℕ) (w : List ℕ) → o ≤ j → j + length w ≡ o + n → c < j → seen n z (arcsFrom p j w) u ≡ z
-    unfolding arcsFrom seen
+    seen-before : (p j z : ℕ) (w : List ℕ) → o ≤ j → j + length w ≡ o + n → c < j → seen n z (arcs_from p j w) u ≡ z
+    unfolding arcs_from seen
     seen-before p j z [] oj e h = refl
     seen-before p j z (s ∷ w) oj e h =
         elim (test (eqb s p)) [
           | passes q ↦ rw (arcs-same p j s w (eqb-true s p q)) (seen-before s (suc j) z w (omega arith) (omega arith) (omega arith))
           | fails q ↦
               rw (arcs-other p j s w (eqb-false s p q))
-              (leave j (suc (reach s w)) s (arcsFrom s (suc j) w) z oj (omega (arith, reach-le s w)) (omega arith) (inl h) ∙ seen-before s (suc j) z w (omega arith) (omega arith) (omega arith))
+              (leave j (suc (reach s w)) s (arcs_from s (suc j) w) z oj (omega (arith, reach-le s w)) (omega arith) (inl h) ∙ seen-before s (suc j) z w (omega arith) (omega arith) (omega arith))
         ]
 
     -- the sectors w from j on, behind a sector of shade p whose arc has painted those that it reaches
-    seen-from : (p j z : ℕ) (w : List ℕ) (m : ℕ) → o ≤ j → j + length w ≡ o + n → j + m ≡ c → m < length w → (m < reach p w → z ≡ p) → seen n z (arcsFrom p j w) u ≡ get_or w m 0
+    seen-from : (p j z : ℕ) (w : List ℕ) (m : ℕ) → o ≤ j → j + length w ≡ o + n → j + m ≡ c → m < length w → (m < reach p w → z ≡ p) → seen n z (arcs_from p j w) u ≡ get_or w m 0
     seen-from p j z [] m oj e f l g = absurd (omega arith)
     seen-from p j z (s ∷ w) zero oj e f l g =
         elim (test (eqb s p)) [
@@ -131,7 +131,7 @@ module _ (n o i u c : ℕ) (oz : o ≤ n) (iu : 710 * i ≤ u) (ui : u < 710 * (
               rw (arcs-same p j s w x) (seen-before s (suc j) z w (omega arith) (omega arith) (omega arith) ∙ g (omega (arith, reach-same p s w x)) ∙ sym x)
           | fails q ↦
               rw (arcs-other p j s w (eqb-false s p q))
-              (paint j (suc (reach s w)) s (arcsFrom s (suc j) w) z oj (omega (arith, reach-le s w)) (omega arith) (omega arith)
+              (paint j (suc (reach s w)) s (arcs_from s (suc j) w) z oj (omega (arith, reach-le s w)) (omega arith) (omega arith)
               ∙ seen-before s (suc j) s w (omega arith) (omega arith) (omega arith))
         ]
     seen-from p j z (s ∷ w) (suc m) oj e f l g =
@@ -144,11 +144,11 @@ module _ (n o i u c : ℕ) (oz : o ≤ n) (iu : 710 * i ≤ u) (ui : u < 710 * (
               rw (arcs-other p j s w (eqb-false s p q)) (elim (test (ltb m (reach s w))) [
                 | passes x ↦
                     let h = ltb-true m (reach s w) x in
-                    paint j (suc (reach s w)) s (arcsFrom s (suc j) w) z oj (omega (arith, reach-le s w)) (omega arith) (omega arith)
+                    paint j (suc (reach s w)) s (arcs_from s (suc j) w) z oj (omega (arith, reach-le s w)) (omega arith) (omega arith)
                     ∙ seen-from s (suc j) s w m (omega arith) (omega arith) (omega arith) (omega arith) (λ y. refl)
                 | fails x ↦
                     let h = ltb-false m (reach s w) x in
-                    leave j (suc (reach s w)) s (arcsFrom s (suc j) w) z oj (omega (arith, reach-le s w)) (omega arith) (inr (omega arith))
+                    leave j (suc (reach s w)) s (arcs_from s (suc j) w) z oj (omega (arith, reach-le s w)) (omega arith) (inr (omega arith))
                     ∙ seen-from s (suc j) z w m (omega arith) (omega arith) (omega arith) (omega arith) (λ y. absurd (omega arith))
               ])
         ]
@@ -156,24 +156,24 @@ module _ (n o i u c : ℕ) (oz : o ≤ n) (iu : 710 * i ≤ u) (ui : u < 710 * (
 -- ---- the ring
 
 -- the first run is some sectors long, and no longer than the ring
-pub first_run : (w : List ℕ) → 0 < length w → (0 < firstRun w) × (firstRun w ≤ length w)
-unfolding firstRun
-first_run [] z = absurd (omega arith)
-first_run (a ∷ w) z = (omega (arith, reach-same a a w refl), reach-le a (a ∷ w))
+pub first_run_lem : (w : List ℕ) → 0 < length w → (0 < first_run w) × (first_run w ≤ length w)
+unfolding first_run
+first_run_lem [] z = absurd (omega arith)
+first_run_lem (a ∷ w) z = (omega (arith, reach-same a a w refl), reach-le a (a ∷ w))
 
 -- at each place of sector i the picture shows the shade of sector i
-pub shown-sector : (w : List ℕ) (i u : ℕ) → i < length w → 710 * i ≤ u → u < 710 * (i + 1) → shownAt w u ≡ get_or w i 0
-unfolding shownAt arcs
+pub shown-sector : (w : List ℕ) (i u : ℕ) → i < length w → 710 * i ≤ u → u < 710 * (i + 1) → shown_at w u ≡ get_or w i 0
+unfolding shown_at arcs
 shown-sector w i u l p q = elim (test (ltb i o)) [ passes x ↦ far (ltb-true i o x) | fails x ↦ near (ltb-false i o x) ]
   where
     o : ℕ
-    o = firstRun w
+    o = first_run w
 
     some : 0 < o
-    some = (first_run w (omega arith)).0
+    some = (first_run_lem w (omega arith)).0
 
     most : o ≤ length w
-    most = (first_run w (omega arith)).1
+    most = (first_run_lem w (omega arith)).1
 
     v : List ℕ
     v = turn o w
@@ -181,13 +181,13 @@ shown-sector w i u l p q = elim (test (ltb i o)) [ passes x ↦ far (ltb-true i 
     long : length v ≡ length w
     long = length-turn o w most
 
-    from : (c m : ℕ) → o ≤ c → c < o + length w → Past (length w) c i → o + m ≡ c → seen (length w) 16 (arcsFrom 16 o v) u ≡ get_or v m 0
+    from : (c m : ℕ) → o ≤ c → c < o + length w → Past (length w) c i → o + m ≡ c → seen (length w) 16 (arcs_from 16 o v) u ≡ get_or v m 0
     from c m oc co r e =
         seen-from (length w) o i u c most p q l oc co r 16 o 16 v m (omega arith) (omega (arith, long)) e (omega (arith, long)) (λ y. refl)
 
-    near : o ≤ i → seen (length w) 16 (arcsFrom 16 o v) u ≡ get_or w i 0
+    near : o ≤ i → seen (length w) 16 (arcs_from 16 o v) u ≡ get_or w i 0
     near h = from i (i - o) h (omega (arith, some)) (short refl) (omega arith) ∙ turn_low o w (i - o) i (omega arith) l
 
-    far : i < o → seen (length w) 16 (arcsFrom 16 o v) u ≡ get_or w i 0
+    far : i < o → seen (length w) 16 (arcs_from 16 o v) u ≡ get_or w i 0
     far h = from (length w + i) (length w - o + i) (omega (arith, most)) (omega (arith, h)) (past refl) (omega (arith, most)) ∙ turn-high o w most (length w - o + i) i (omega
         (arith, most)) (omega (arith, h, most))

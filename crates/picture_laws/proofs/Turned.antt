@@ -7,7 +7,7 @@ use Rattle.words.specs.Turn.{turn}
 use Rattle.words.proofs.Turn.{length-turn, turn_low, turn-high}
 use Rattle.rings.specs.Home.{shift, home}
 use Rattle.ring_home_laws.proofs.Home.{home-turn-of, shift-lt}
-use Rattle.picture_laws.specs.Seen.{shownAt}
+use Rattle.picture_laws.specs.Seen.{shown_at}
 use Rattle.picture_laws.proofs.Seen.{shown-sector}
 
 abbrev pub On : ℕ → ℕ → ℕ → ℕ → Type 0
@@ -19,11 +19,11 @@ module _ (w : List ℕ) (i : ℕ) (il : i ≤ length w) (u t : ℕ) (ul : u < 71
   sectors (inl e) = turn_low i w (u / 710) (t / 710) (omega arith) (omega arith)
   sectors (inr e) = turn-high i w il (u / 710) (t / 710) (omega arith) (omega arith)
 
-  pub shown-turn : On (length w) i u t → shownAt (turn i w) u ≡ shownAt w t
+  pub shown-turn : On (length w) i u t → shown_at (turn i w) u ≡ shown_at w t
   shown-turn e =
       let l = length-turn i w il in
       shown-sector (turn i w) (u / 710) u (omega (arith, l)) (omega arith) (omega arith) ∙ sectors e
       ∙ sym (shown-sector w (t / 710) t (omega arith) (omega arith) (omega arith))
 
-pub shown-home : (w : List ℕ) → 0 < length w → (u t : ℕ) → u < 710 * length w → t < 710 * length w → On (length w) (shift w) u t → shownAt (home w) u ≡ shownAt w t
+pub shown-home : (w : List ℕ) → 0 < length w → (u t : ℕ) → u < 710 * length w → t < 710 * length w → On (length w) (shift w) u t → shown_at (home w) u ≡ shown_at w t
 shown-home w z u t ul tl e = rw (home-turn-of w) (shown-turn w (shift w) (omega (arith, shift-lt w z)) u t ul tl e)

@@ -3,7 +3,7 @@
 --     within s d u       u lies on the d units from s on
 --     on n a u           u lies on the dash of the arc a
 --     seen n z ys u      the shade at place u of the arcs ys, where a later one covers an earlier one and z was before
---     shownAt w u          the shade that the picture of w shows at place u
+--     shown_at w u          the shade that the picture of w shows at place u
 use Rattle.std.specs.Prelude.{ℕ, ◌+◌, ◌*◌, ◌%◌, Bool, true, false, not, ◌&&◌, ◌||◌, List, [], ◌∷◌, ltb, length}
 use Rattle.picture_spec.specs.Arcs.{Arc, arcs}
 
@@ -18,5 +18,5 @@ seen n z [] u = z
 seen n z (a ∷ ys) u = elim (on n a u) [ true ↦ seen n a.shade ys u | false ↦ seen n z ys u ]
 
 -- 16, which is no shade, where there is no arc
-unfoldable pub shownAt : List ℕ → ℕ → ℕ
-shownAt w u = seen (length w) 16 (arcs w) u
+unfoldable pub shown_at : List ℕ → ℕ → ℕ
+shown_at w u = seen (length w) 16 (arcs w) u

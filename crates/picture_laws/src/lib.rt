@@ -1,1 +1,4 @@
 // What the picture of a target shows. No functions.
+
+#![tactic(auto)]
+

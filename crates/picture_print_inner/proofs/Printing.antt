@@ -1,14 +1,14 @@
 -- From what the words behind the number print to what an input prints.
---     put-line, no_number              a number in front
+--     put-line, no_number_lem              a number in front
 --     put-input, no_line               the line is all of the input, or not
 use Rattle.words.proofs.Plain.{ℕ, ◌-◌, ◌<◌, ◌≤◌, arith, ◌≡◌, ap, ◌∙◌, List, ◌∷◌, map, length, take, drop}
-use Rattle.text_spec.specs.{Decimal.decimal, Text.hexOf}
+use Rattle.text_spec.specs.{Decimal.decimal, Text.hex_of}
 use Rattle.text_words_spec.specs.Words.{PieceAt}
 use Rattle.picture_spec.specs.declared.Tone.{Tone}
 use Rattle.desk_spec.proofs.Questions.{place-one}
 use Rattle.desk_words_inner.specs.{declared.Head.TheVariants.Number, declared.Head.TheVariants.Malformed, Says.HeadSays}
 use Rattle.desk_words_inner.proofs.{Heads.rest-words, Shapes.rest_all}
-use Rattle.picture_print_spec.specs.Prints.{ToneAsked, toneWords, ReadsTarget, ReadsPicture, PictureShows, PicturePrints}
+use Rattle.picture_print_spec.specs.Prints.{ToneAsked, tone_words, ReadsTarget, ReadsPicture, PictureShows, PicturePrints}
 use Rattle.picture_words_inner.specs.Says.{PictureText, ReadsTone, WordsPrinted}
 use Rattle.picture_words_inner.proofs.Words.{print-as}
 use Rattle.picture_print_inner.specs.Says.{LinePrints}
@@ -16,8 +16,8 @@ use Rattle.picture_print_inner.specs.Says.{LinePrints}
 -- ---- the line
 
 module _ (l : List ℕ) where
-  pub no_number : HeadSays l Malformed → (q : ToneAsked) → ReadsTarget l q → ⊥
-  no_number h q x = h q.0 (map hexOf q.1) (toneWords q.2) x.short x.words
+  pub no_number_lem : HeadSays l Malformed → (q : ToneAsked) → ReadsTarget l q → ⊥
+  no_number_lem h q x = h q.0 (map hex_of q.1) (tone_words q.2) x.short x.words
 
   pub put-line : (k at : ℕ) → HeadSays l (Number k at) → (b : List ℕ) (r : ℕ) (b' : List ℕ) → WordsPrinted k (take (length l - at) (drop at l)) b r b' → LinePrints l b r b'
   put-line k at h b r b' x = print-as (ReadsTone (drop at l)) (λ q. PictureShows (k, q.0, q.1)) (ReadsTarget l) PictureShows on back b r b' (rw (rest_all l at) at x)

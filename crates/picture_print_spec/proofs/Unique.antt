@@ -8,14 +8,14 @@ use Rattle.words.proofs.Plain.{ℕ, ◌≤◌, ◌≡◌, refl, sym, ap, ◌∙�
 use Rattle.text_spec.specs.Ascii.{ascii}
 use Rattle.text_spec.proofs.Digits.{decimal-one}
 use Rattle.text_words_spec.proofs.Pieces.{first-same, behind-same, none-some}
-use Rattle.refusal.specs.Calls.{oneReading}
+use Rattle.refusal.specs.Calls.{one_reading}
 use Rattle.refusal.proofs.Unique.{one-refusal, never_both}
 use Rattle.picture_spec.specs.{declared.Tone.Tone, declared.Tone.TheVariants.Managed, declared.Tone.TheVariants.Levels}
-use Rattle.desk_spec.specs.Texts.{refusalText}
+use Rattle.desk_spec.specs.Texts.{refusal_text}
 use Rattle.desk_spec.proofs.{Questions.spelt-same, Questions.place-one, Unique.one-asked}
-use Rattle.picture_print_spec.specs.Prints.{ToneAsked, toneWords, ReadsTarget, ReadsPicture, PictureShows, drawn, refused, PicturePrints}
+use Rattle.picture_print_spec.specs.Prints.{ToneAsked, tone_words, ReadsTarget, ReadsPicture, PictureShows, drawn, refused, PicturePrints}
 
-pub tone-one : (a b : Tone) → toneWords a ≡ toneWords b → a ≡ b
+pub tone-one : (a b : Tone) → tone_words a ≡ tone_words b → a ≡ b
 tone-one Managed Managed e = refl
 tone-one Managed Levels e = absurd (none-some (ascii "levels") [] e)
 tone-one Levels Managed e = absurd (none-some (ascii "levels") [] (sym e))
@@ -35,9 +35,9 @@ one_input s p q a b = one-target (take b.at s) p q (rw (place-one 10 s a.at b.at
 
 pub one-show : (q : ToneAsked) (t u : List ℕ) → PictureShows q t → PictureShows q u → t ≡ u
 one-show q t u (drawn p e) (drawn p' f) = e ∙ sym f
-one-show q t u (drawn p e) (refused r g f) = absurd (never_both (oneReading q.1 q.0) r g p)
-one-show q t u (refused r g e) (drawn p f) = absurd (never_both (oneReading q.1 q.0) r g p)
-one-show q t u (refused r g e) (refused r' g' f) = e ∙ ap refusalText (one-refusal (oneReading q.1 q.0) r r' g g') ∙ sym f
+one-show q t u (drawn p e) (refused r g f) = absurd (never_both (one_reading q.1 q.0) r g p)
+one-show q t u (refused r g e) (drawn p f) = absurd (never_both (one_reading q.1 q.0) r g p)
+one-show q t u (refused r g e) (refused r' g' f) = e ∙ ap refusal_text (one-refusal (one_reading q.1 q.0) r r' g g') ∙ sym f
 
 pub one-picture : (s t u : List ℕ) → PicturePrints s t → PicturePrints s u → t ≡ u
 one-picture s t u x y = one-asked (ReadsPicture s) PictureShows (one_input s) one-show t u x y

@@ -1,7 +1,9 @@
 // The program of the command for one target: it reads a line, and writes the picture that it asks for. No public calls: no contract can say what is read or written.
 
+#![tactic(auto)]
+
 ghost use Rattle.std.specs.Prelude.{◌≤◌, length};
-ghost use Rattle.picture_spec.specs.Says.{pictureRoom};
+ghost use Rattle.picture_spec.specs.Says.{picture_room};
 ghost use Rattle.program_reading_inner.specs.Says.{MostSays};
 ghost use Rattle.picture_program_inner.specs.Says.{PictureInputSays};
 
@@ -12,7 +14,7 @@ use program_reading_inner::Most;
 fn output_of_input(most: Most, line: &[u8], w: &mut [u8], buf: &mut [u8]) -> usize
     requires most_says { MostSays most line.now }
     requires line_in_bounds { length line.now ≤ length w.old }
-    requires picture_room_in_bounds { pictureRoom ≤ length buf.old }
+    requires picture_room_in_bounds { picture_room ≤ length buf.old }
     ensures { PictureInputSays most line.now buf.old result buf.new }
 {
     match most {

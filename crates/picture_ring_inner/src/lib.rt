@@ -1,11 +1,13 @@
 // The ring of a target as SVG text, placed into a lent buffer. No public calls.
 
+#![tactic(auto)]
+
 ghost use Rattle.std.specs.Prelude.{◌+◌, ◌*◌, ◌≤◌, ◌<◌, ◌≡◌, length, drop};
 ghost use Rattle.refusal.specs.Calls.{Below};
 ghost use Rattle.text_form_inner.specs.Fits.{Fits};
-ghost use Rattle.picture_spec.specs.Arcs.{arcsFrom};
-ghost use Rattle.picture_spec.specs.Text.{withNumbers, arcForm, arcNumbers, arcTexts, ringPicture, headText, tailText, pictureText};
-ghost use Rattle.picture_ring_inner.specs.Parts.{RunAt, sectorArcs};
+ghost use Rattle.picture_spec.specs.Arcs.{arcs_from};
+ghost use Rattle.picture_spec.specs.Text.{with_numbers, arc_form, arc_numbers, arc_texts, ring_picture, head_text, tail_text, picture_text};
+ghost use Rattle.picture_ring_inner.specs.Parts.{RunAt, sector_arcs};
 
 use picture_spec::Tone;
 
@@ -29,7 +31,7 @@ fn run_at(ring: &[u8], i: usize) -> usize
 fn place_arc(buf: &mut [u8], at: usize, n: usize, i: usize, d: usize, g: usize) -> usize
     requires n_nonzero { (0 < n) × (n ≤ 64) × (d ≤ n) }
     requires at_in_bounds { at + 256 ≤ length buf.old }
-    ensures { Fits 256 buf.old at (withNumbers arcForm (arcNumbers n i d g)) result buf.new }
+    ensures { Fits 256 buf.old at (with_numbers arc_form (arc_numbers n i d g)) result buf.new }
 {
     let turn = 710 * n;
     let long = 710 * d;
@@ -59,7 +61,7 @@ fn place_sector(
     requires le_k { (2 ≤ k) × (k ≤ 16) × (length ring.now ≤ 64) × (o ≤ length ring.now) × (i < length ring.now) }
     requires below { Below ring.now (λ i. k) }
     requires at_in_bounds { at + 256 ≤ length buf.old }
-    ensures { Fits 256 buf.old at (arcTexts tone (length ring.now) k (sectorArcs before (o + i) (drop i ring.now))) result buf.new }
+    ensures { Fits 256 buf.old at (arc_texts tone (length ring.now) k (sector_arcs before (o + i) (drop i ring.now))) result buf.new }
 {
     let s = ring[i];
     if s == before {
@@ -75,7 +77,7 @@ fn place_arcs(buf: &mut [u8], at: usize, ring: &[u8], o: usize, k: usize, tone: 
     requires le_k { (2 ≤ k) × (k ≤ 16) × (length ring.now ≤ 64) × (o ≤ length ring.now) }
     requires below { Below ring.now (λ i. k) }
     requires at_in_bounds { at + 16384 ≤ length buf.old }
-    ensures { Fits 16384 buf.old at (arcTexts tone (length ring.now) k (arcsFrom 16 o ring.now)) result buf.new }
+    ensures { Fits 16384 buf.old at (arc_texts tone (length ring.now) k (arcs_from 16 o ring.now)) result buf.new }
 {
     let mut p = at;
     let mut before = 16u8;
@@ -93,7 +95,7 @@ pub fn place_ring(buf: &mut [u8], at: usize, ring: &[u8], k: usize, tone: Tone) 
     requires le_k { (2 ≤ k) × (k ≤ 16) × (0 < length ring.now) × (length ring.now ≤ 64) }
     requires below { Below ring.now (λ i. k) }
     requires at_in_bounds { at + 16384 ≤ length buf.old }
-    ensures { Fits 16384 buf.old at (ringPicture tone k ring.now) result buf.new }
+    ensures { Fits 16384 buf.old at (ring_picture tone k ring.now) result buf.new }
 {
     let n = ring.len();
     let o = run_at(ring, 0);

@@ -1,5 +1,5 @@
 -- The gray of each shade, from 0, black, to 255, white: shade 0 is black, shade k - 1 is white.
---     managedGrays         the grays of a colour-managed print, in 15 rows of 16 for k from 2 to 16; a row's places from k on are 0
+--     managed_grays         the grays of a colour-managed print, in 15 rows of 16 for k from 2 to 16; a row's places from k on are 0
 --     gray tone k s        the gray of shade s of k: by the table, or 255 s / (k - 1) to the nearest
 -- A gray g of an SVG is coded by the sRGB curve: it stands for the reflectance that the curve has at g / 255. The table has, for each shade, the gray nearest to the
 -- inverse of that curve at s / (k - 1). That each shade is read back from its gray: picture_gray_laws.
@@ -7,8 +7,8 @@ use Rattle.std.specs.Prelude.{ℕ, ◌+◌, ◌-◌, ◌*◌, ◌/◌, List, [],
 use Rattle.picture_spec.specs.declared.Tone.{Tone}
 use Rattle.picture_spec.specs.declared.Tone.TheVariants.{Managed, Levels}
 
-unfoldable pub managedGrays : List ℕ
-managedGrays =
+unfoldable pub managed_grays : List ℕ
+managed_grays =
     0 ∷ 255 ∷ 0 ∷ 0 ∷ 0 ∷ 0 ∷ 0 ∷ 0 ∷ 0 ∷ 0 ∷ 0 ∷ 0 ∷ 0 ∷ 0 ∷ 0 ∷ 0 ∷
     0 ∷ 188 ∷ 255 ∷ 0 ∷ 0 ∷ 0 ∷ 0 ∷ 0 ∷ 0 ∷ 0 ∷ 0 ∷ 0 ∷ 0 ∷ 0 ∷ 0 ∷ 0 ∷
     0 ∷ 156 ∷ 213 ∷ 255 ∷ 0 ∷ 0 ∷ 0 ∷ 0 ∷ 0 ∷ 0 ∷ 0 ∷ 0 ∷ 0 ∷ 0 ∷ 0 ∷ 0 ∷
@@ -28,5 +28,5 @@ managedGrays =
 
 -- to the nearest: the half of the divisor is added before dividing
 unfoldable pub gray : Tone → ℕ → ℕ → ℕ
-gray Managed k s = get_or managedGrays (16 * (k - 2) + s) 0
+gray Managed k s = get_or managed_grays (16 * (k - 2) + s) 0
 gray Levels k s = (510 * s + (k - 1)) / (2 * (k - 1))

@@ -1,5 +1,7 @@
 // What drawing a target is asked and answers. The call is `pictures`'s. No functions.
 
+#![tactic(auto)]
+
 use refusal::Refusal;
 
 // Which gray stands for a shade: the one that a colour-managed print brings to the shade's reflectance, or levels in proportion to the shades.

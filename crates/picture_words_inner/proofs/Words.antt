@@ -7,37 +7,37 @@
 use Rattle.words.proofs.Plain.{ℕ, ◌+◌, ◌-◌, ◌<◌, ◌≤◌, arith, ◌≡◌, refl, sym, ap, ◌∙◌, inl, inr, true, false, false≢true, List, [], ◌∷◌, map, length, take, drop}
 use Rattle.words.specs.Order.{same}
 use Rattle.words.proofs.Lex.{same_true, true_same}
-use Rattle.text_spec.specs.{Ascii.ascii, Text.hexOf}
+use Rattle.text_spec.specs.{Ascii.ascii, Text.hex_of}
 use Rattle.text_words_spec.specs.Words.{pieces, onto, PieceAt, Spelt}
 use Rattle.text_words_spec.proofs.Pieces.{pieces_more, pieces-single, pieces-some, behind-same, more-two, more-first, more-rest}
 use Rattle.text_words_spec.proofs.Spelling.{spelt-plain}
 use Rattle.stream_spec.specs.Blocks.{Puts}
-use Rattle.refusal.specs.{declared.Refusal.Refusal, Order.Given, Calls.oneReading}
+use Rattle.refusal.specs.{declared.Refusal.Refusal, Order.Given, Calls.one_reading}
 use Rattle.picture_spec.specs.{declared.Tone.Tone, declared.Tone.TheVariants.Managed, declared.Tone.TheVariants.Levels}
-use Rattle.picture_spec.specs.{declared.Drawn.TheVariants.Whole, declared.Drawn.TheVariants.Refused, Text.pictureText}
-use Rattle.picture_spec.specs.Says.{pictureRoom, drawOrder, DrawSays}
-use Rattle.desk_spec.specs.Texts.{refusalText, malformedText}
+use Rattle.picture_spec.specs.{declared.Drawn.TheVariants.Whole, declared.Drawn.TheVariants.Refused, Text.picture_text}
+use Rattle.picture_spec.specs.Says.{picture_room, draw_order, DrawSays}
+use Rattle.desk_spec.specs.Texts.{refusal_text, malformed_text}
 use Rattle.desk_spec.specs.Questions.{Replies, good, bad}
-use Rattle.desk_texts_inner.specs.Says.{deskRoom, LinePrinted}
+use Rattle.desk_texts_inner.specs.Says.{desk_room, LinePrinted}
 use Rattle.desk_words_inner.proofs.Shapes.{rest_all}
-use Rattle.picture_print_spec.specs.Prints.{toneWords, PictureShows, drawn, refused}
+use Rattle.picture_print_spec.specs.Prints.{tone_words, PictureShows, drawn, refused}
 use Rattle.picture_words_inner.specs.Says.{PictureText, TargetPrinted, SpeltPrinted, ReadsTone, WordsPrinted}
 
 -- ---- a target
 
 pub drawn-put : (k : ℕ) (w : List ℕ) (tone : Tone) (b : List ℕ) (m : ℕ) (b' : List ℕ) → DrawSays tone w k b (Whole m) b' → TargetPrinted k w tone b m b'
 drawn-put k w tone b m b' p =
-    record { text = pictureText tone k w; says = drawn p.0.0 refl; short = omega (arith, p.1.next, p.2); placed = p.1 }
+    record { text = picture_text tone k w; says = drawn p.0.0 refl; short = omega (arith, p.1.next, p.2); placed = p.1 }
 
 -- the room is there, so that the refusal is one of the reading
-of-reading : (k : ℕ) (w : List ℕ) (m : ℕ) (r : Refusal) → pictureRoom ≤ m → Given (drawOrder w k m) r → Given (oneReading w k) r
+of-reading : (k : ℕ) (w : List ℕ) (m : ℕ) (r : Refusal) → picture_room ≤ m → Given (draw_order w k m) r → Given (one_reading w k) r
 of-reading k w m r h (inl g) = g
 of-reading k w m r h (inr g) = absurd (g.1.1 h)
 
-pub refused-put : (k : ℕ) (w : List ℕ) (tone : Tone) (b : List ℕ) (r : Refusal) (b₁ : List ℕ) (x : ℕ) (b' : List ℕ) → pictureRoom ≤ length b → DrawSays tone w k b (Refused r) b₁ →
-    LinePrinted b₁ 0 (refusalText r) x b' → TargetPrinted k w tone b x b'
+pub refused-put : (k : ℕ) (w : List ℕ) (tone : Tone) (b : List ℕ) (r : Refusal) (b₁ : List ℕ) (x : ℕ) (b' : List ℕ) → picture_room ≤ length b → DrawSays tone w k b (Refused r) b₁ →
+    LinePrinted b₁ 0 (refusal_text r) x b' → TargetPrinted k w tone b x b'
 refused-put k w tone b r b₁ x b' h p q =
-    record { text = refusalText r; says = refused r (of-reading k w (length b) r h p.0) refl; short = omega (arith, q.short); placed = rw p.1 at q.placed }
+    record { text = refusal_text r; says = refused r (of-reading k w (length b) r h p.0) refl; short = omega (arith, q.short); placed = rw p.1 at q.placed }
 
 -- ---- questions
 
@@ -45,8 +45,8 @@ module _ {X : Type 0} (Reads : X → Type 0) (Says : X → List ℕ → Type 0) 
   pub print-good : (x : X) → Reads x → PictureText (Says x) b r b' → PictureText (Replies Reads Says) b r b'
   print-good x p q = record { text = q.text; says = good x p q.says; short = q.short; placed = q.placed }
 
-  pub print-bad : ((x : X) → Reads x → ⊥) → LinePrinted b 0 malformedText r b' → PictureText (Replies Reads Says) b r b'
-  print-bad n q = record { text = malformedText; says = bad n refl; short = omega (arith, q.short); placed = q.placed }
+  pub print-bad : ((x : X) → Reads x → ⊥) → LinePrinted b 0 malformed_text r b' → PictureText (Replies Reads Says) b r b'
+  print-bad n q = record { text = malformed_text; says = bad n refl; short = omega (arith, q.short); placed = q.placed }
 
 -- a question of another shape
 pub print-as : {X Y : Type 0} (Reads : X → Type 0) (Says : X → List ℕ → Type 0) (Reads' : Y → Type 0) (Says' : Y → List ℕ → Type 0) →
@@ -61,7 +61,7 @@ print-as Reads Says Reads' Says' f g b r b' p = record { text = p.text; says = o
 
 -- ---- the words behind the number
 
-one_word : (t w : List ℕ) → Spelt t w → pieces 32 t ≡ map hexOf w ∷ []
+one_word : (t w : List ℕ) → Spelt t w → pieces 32 t ≡ map hex_of w ∷ []
 one_word t w s = spelt-plain 32 t w (omega arith) s ∙ ap (λ (x : List ℕ). x ∷ []) s.digits
 
 levels-word : pieces 32 (ascii "levels") ≡ ascii "levels" ∷ []
@@ -94,7 +94,7 @@ module _ (k : ℕ) (t : List ℕ) (e : ℕ) (p : PieceAt 32 t e) where
         record {
           sectors = s.below;
           words =
-              pieces_more 32 t e p h ∙ ap (λ (y : List ℕ). y ∷ pieces 32 (drop (e + 1) t)) s.digits ∙ ap (λ (y : List (List ℕ)). map hexOf w ∷ y) (ap (pieces 32) l ∙ levels-word);
+              pieces_more 32 t e p h ∙ ap (λ (y : List ℕ). y ∷ pieces 32 (drop (e + 1) t)) s.digits ∙ ap (λ (y : List (List ℕ)). map hex_of w ∷ y) (ap (pieces 32) l ∙ levels-word);
         },
         λ u y. y,
       )

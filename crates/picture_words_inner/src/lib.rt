@@ -1,14 +1,16 @@
 // What the words behind the number print in the command for one target, placed at the beginning of a lent buffer that has room for a picture. No public calls.
 
+#![tactic(auto)]
+
 ghost use Rattle.std.specs.Prelude.{◌≤◌, ◌≡◌, length};
-ghost use Rattle.picture_spec.specs.Says.{pictureRoom};
+ghost use Rattle.picture_spec.specs.Says.{picture_room};
 ghost use Rattle.picture_words_inner.specs.Says.{TargetPrinted, SpeltPrinted, WordsPrinted};
 
 use picture_spec::{Drawn, Tone};
 
 // The picture of a reading, or its refusal's line.
 fn print_target(k: usize, w: &[u8], tone: Tone, buf: &mut [u8]) -> usize
-    requires { pictureRoom ≤ length buf.old }
+    requires { picture_room ≤ length buf.old }
     ensures { TargetPrinted k w.now tone buf.old result buf.new }
 {
     match pictures::draw(w, k, tone, buf) {
@@ -20,7 +22,7 @@ fn print_target(k: usize, w: &[u8], tone: Tone, buf: &mut [u8]) -> usize
 // The same of digits, which are spelt into the lent bytes w.
 fn print_spelt(k: usize, t: &[u8], tone: Tone, w: &mut [u8], buf: &mut [u8]) -> usize
     requires w_len { length w.old ≡ length t.now }
-    requires picture_room_in_bounds { pictureRoom ≤ length buf.old }
+    requires picture_room_in_bounds { picture_room ≤ length buf.old }
     ensures { SpeltPrinted k t.now tone buf.old result buf.new }
 {
     if !text_spell_inner::spell(t, w) {
@@ -32,7 +34,7 @@ fn print_spelt(k: usize, t: &[u8], tone: Tone, w: &mut [u8], buf: &mut [u8]) -> 
 // The words behind the number: digits, and `levels` or nothing.
 pub fn print_words(k: usize, t: &[u8], w: &mut [u8], buf: &mut [u8]) -> usize
     requires t_in_bounds { length t.now ≤ length w.old }
-    requires picture_room_in_bounds { pictureRoom ≤ length buf.old }
+    requires picture_room_in_bounds { picture_room ≤ length buf.old }
     ensures { WordsPrinted k t.now buf.old result buf.new }
 {
     let e = text_spell_inner::piece_end(t, b' ');

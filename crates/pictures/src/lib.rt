@@ -1,5 +1,7 @@
 // Targets as pictures: a dot inside a ring of shaded sectors, as SVG text.
 
+#![tactic(auto)]
+
 ghost use Rattle.picture_spec.specs.Says.{DrawSays};
 
 pub use picture_spec::{Drawn, Tone};

@@ -1,5 +1,7 @@
 // What a line asks for (01, 'The listing program'): k and n, or a refusal. The greatest power that is not Too many is a parameter.
 
+#![tactic(auto)]
+
 ghost use Rattle.plan_spec.specs.Plan.{PlanSays};
 
 use limits::Planned;

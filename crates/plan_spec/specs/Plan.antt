@@ -10,12 +10,12 @@ use Rattle.line_spec.specs.Line.{Spells}
 use Rattle.limits_spec.specs.declared.Planned.{Planned}
 use Rattle.limits_spec.specs.declared.Planned.TheVariants.{Accepted, Refused}
 use Rattle.refusal.specs.Order.{Given}
-use Rattle.limits_spec.specs.Limits.{Listable, numbersOrder}
+use Rattle.limits_spec.specs.Limits.{Listable, numbers_order}
 
 -- the order 11, 1, 2, 12
 pub data RefusedLine (limit : ℕ) (s : List ℕ) (r : Refusal) : Type 0 where
   malformed : r ≡ Line → ((k n : ℕ) → Spells s k n → ⊥) → RefusedLine limit s r
-  spelt : (k n : ℕ) → Spells s k n → Given (numbersOrder limit k n) r → RefusedLine limit s r
+  spelt : (k n : ℕ) → Spells s k n → Given (numbers_order limit k n) r → RefusedLine limit s r
 
 abbrev pub PlanSays : ℕ → List ℕ → Planned → Type 0
 PlanSays limit s (Accepted k n) = Spells s k n × Listable limit k n

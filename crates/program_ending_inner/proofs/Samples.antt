@@ -3,18 +3,18 @@
 --     far-sample        a place behind 4,294,967,296 bytes
 --     whole-sample      nothing is said where all is well
 use Rattle.words.proofs.Plain.{◌≡◌, refl, [], ◌∷◌, ◌++◌}
-use Rattle.text_spec.specs.{Ascii.ascii, Decimal.decimal, Decimal.decimalIn, Text.twoNumbers}
+use Rattle.text_spec.specs.{Ascii.ascii, Decimal.decimal, Decimal.decimal_in, Text.two_numbers}
 use Rattle.program_ending_inner.specs.declared.Ending.TheVariants.{Whole, Refused}
-use Rattle.program_ending_inner.specs.Text.{endingText}
+use Rattle.program_ending_inner.specs.Text.{ending_text}
 
-pub refused-sample : endingText (Refused 9 4) ≡ ascii "refused 9 at 4\n"
-unfolding endingText twoNumbers decimal decimalIn
+pub refused-sample : ending_text (Refused 9 4) ≡ ascii "refused 9 at 4\n"
+unfolding ending_text two_numbers decimal decimal_in
 refused-sample = refl
 
-pub far-sample : endingText (Refused 7 4294967306) ≡ ascii "refused 7 at 4294967306\n"
-unfolding endingText twoNumbers decimal decimalIn
+pub far-sample : ending_text (Refused 7 4294967306) ≡ ascii "refused 7 at 4294967306\n"
+unfolding ending_text two_numbers decimal decimal_in
 far-sample = refl
 
-pub whole-sample : endingText Whole ≡ []
-unfolding endingText
+pub whole-sample : ending_text Whole ≡ []
+unfolding ending_text
 whole-sample = refl

@@ -1,7 +1,9 @@
 // How a program's run ended, and what it says of that on standard error, in a lent buffer.
 
+#![tactic(auto)]
+
 ghost use Rattle.std.specs.Prelude.{◌≤◌, length};
-ghost use Rattle.program_ending_inner.specs.Text.{sayRoom, EndingSaid, SaySays};
+ghost use Rattle.program_ending_inner.specs.Text.{say_room, EndingSaid, SaySays};
 
 // How a run ended: all of the output was written, or why not.
 #[derive(Drop)]
@@ -27,7 +29,7 @@ pub enum Ending {
 const ROOM: usize = 80;
 
 fn place_ending(e: Ending, buf: &mut [u8]) -> usize
-    requires { sayRoom ≤ length buf.old }
+    requires { say_room ≤ length buf.old }
     ensures { EndingSaid e buf.old result buf.new }
 {
     match e {

@@ -1,7 +1,7 @@
 -- How a run ended, by what was read.
---     lineEnding wrote most  the run of a program that reads its input and writes one text for it; wrote: could all of it be written?
---     wholeEnding wrote most the run of one that has to read its input to its end, and cannot where it fills the buffer
---     streamEnding wrote got the run of one that answers its lines as they come: it ends behind bytes only where it can count no more reads
+--     line_ending wrote most  the run of a program that reads its input and writes one text for it; wrote: could all of it be written?
+--     whole_ending wrote most the run of one that has to read its input to its end, and cannot where it fills the buffer
+--     stream_ending wrote got the run of one that answers its lines as they come: it ends behind bytes only where it can count no more reads
 use Rattle.std.specs.Prelude.{Bool, true, false}
 use Rattle.program_ending_inner.specs.declared.Ending.{Ending}
 use Rattle.program_ending_inner.specs.declared.Ending.TheVariants as E
@@ -10,19 +10,19 @@ use Rattle.program_reading_inner.specs.declared.Got.TheVariants.{Bytes, Over, Fa
 use Rattle.program_reading_inner.specs.declared.Most.{Most}
 use Rattle.program_reading_inner.specs.declared.Most.TheVariants as M
 
-abbrev pub lineEnding : Bool → Most → Ending
-lineEnding false most = E.Unwritten
-lineEnding true M.Full = E.Whole
-lineEnding true (M.Ended n) = E.Whole
-lineEnding true M.Failed = E.Unread
+abbrev pub line_ending : Bool → Most → Ending
+line_ending false most = E.Unwritten
+line_ending true M.Full = E.Whole
+line_ending true (M.Ended n) = E.Whole
+line_ending true M.Failed = E.Unread
 
-abbrev pub wholeEnding : Bool → Most → Ending
-wholeEnding wrote M.Full = E.TooLong
-wholeEnding wrote (M.Ended n) = lineEnding wrote (M.Ended n)
-wholeEnding wrote M.Failed = lineEnding wrote M.Failed
+abbrev pub whole_ending : Bool → Most → Ending
+whole_ending wrote M.Full = E.TooLong
+whole_ending wrote (M.Ended n) = line_ending wrote (M.Ended n)
+whole_ending wrote M.Failed = line_ending wrote M.Failed
 
-abbrev pub streamEnding : Bool → Got → Ending
-streamEnding false got = E.Unwritten
-streamEnding true (Bytes n) = E.TooLong
-streamEnding true Over = E.Whole
-streamEnding true Failed = E.Unread
+abbrev pub stream_ending : Bool → Got → Ending
+stream_ending false got = E.Unwritten
+stream_ending true (Bytes n) = E.TooLong
+stream_ending true Over = E.Whole
+stream_ending true Failed = E.Unread

@@ -1,14 +1,16 @@
 // How a run ended, by what was read and by whether all of the output could be written. No public calls.
 
+#![tactic(auto)]
+
 ghost use Rattle.std.specs.Prelude.{◌≡◌};
-ghost use Rattle.program_outcome_inner.specs.Says.{lineEnding, wholeEnding, streamEnding};
+ghost use Rattle.program_outcome_inner.specs.Says.{line_ending, whole_ending, stream_ending};
 
 use program_ending_inner::Ending;
 use program_reading_inner::{Got, Most};
 
 // How a run ended that read its input and then wrote the text for it: `wrote` tells whether all of it could be written.
 pub fn line_ending(most: Most, wrote: bool) -> Ending
-    ensures { result ≡ lineEnding wrote most }
+    ensures { result ≡ line_ending wrote most }
 {
     if !wrote {
         return Ending::Unwritten;
@@ -22,7 +24,7 @@ pub fn line_ending(most: Most, wrote: bool) -> Ending
 
 // How a run ended that has to read its input to its end before it writes: an input that fills the buffer is too long.
 pub fn whole_ending(most: Most, wrote: bool) -> Ending
-    ensures { result ≡ wholeEnding wrote most }
+    ensures { result ≡ whole_ending wrote most }
 {
     match most {
         Most::Full => Ending::TooLong,
@@ -33,7 +35,7 @@ pub fn whole_ending(most: Most, wrote: bool) -> Ending
 
 // How a run ended that wrote the texts of its lines as they came, where `got` is what its last read gave.
 pub fn stream_ending(got: Got, wrote: bool) -> Ending
-    ensures { result ≡ streamEnding wrote got }
+    ensures { result ≡ stream_ending wrote got }
 {
     if !wrote {
         return Ending::Unwritten;

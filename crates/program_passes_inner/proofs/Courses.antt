@@ -11,7 +11,7 @@ use Rattle.program_reading_inner.specs.{declared.Most.Most, Says.MostSays}
 use Rattle.program_reading_inner.specs.declared.Most.TheVariants as M
 use Rattle.program_passes_inner.specs.{declared.Part.Part, declared.Then.Then, declared.Turn.Turn}
 use Rattle.program_passes_inner.specs.declared.Then.TheVariants.{More, Over, Stop}
-use Rattle.program_passes_inner.specs.Passes.{limit, part_of, PartSays, ReadTo, Course, courseBy, courseOf, goesFurther, sameEnd}
+use Rattle.program_passes_inner.specs.Passes.{limit, part_of, PartSays, ReadTo, Course, course_by, course_of, goes_further, same_end}
 use Rattle.program_passes_inner.specs.Passes.Course.{On, Done, Stopped}
 
 -- ---- what was read
@@ -33,23 +33,23 @@ part-within b r h f = read-within b r.last r.len (part-read b r h f)
 
 -- ---- which course
 
-more_by : (h : Then) (m : ℕ) (t : Ending) (p : ℕ) → goesFurther p (courseBy h m t) ≡ true → (courseBy h m t ≡ On m) × (p + m < limit)
+more_by : (h : Then) (m : ℕ) (t : Ending) (p : ℕ) → goes_further p (course_by h m t) ≡ true → (course_by h m t ≡ On m) × (p + m < limit)
 more_by More m t p e = (refl, omega (arith, ltb-true m (limit - p) e))
 more_by Over m t p e = absurd (false≢true e)
 more_by Stop m t p e = absurd (false≢true e)
 
-pub course-more : (v : Turn) (p : ℕ) → goesFurther p (courseOf v) ≡ true → (courseOf v ≡ On v.used) × (p + v.used < limit)
+pub course-more : (v : Turn) (p : ℕ) → goes_further p (course_of v) ≡ true → (course_of v ≡ On v.used) × (p + v.used < limit)
 course-more v p e = more_by v.then v.used v.why p e
 
-pub too_far : (p m : ℕ) → goesFurther p (On m) ≡ false → limit ≤ p + m
+pub too_far : (p m : ℕ) → goes_further p (On m) ≡ false → limit ≤ p + m
 too_far p m e = omega (arith, ltb-false m (limit - p) e)
 
 -- ---- both ends
 
-pub same_whole : (a b : ℕ) → a ≡ b → E.Whole ≡ sameEnd a b
-unfolding sameEnd
-same_whole a b e = rw (eq-eqb a b e, sameEnd) refl
+pub same_whole : (a b : ℕ) → a ≡ b → E.Whole ≡ same_end a b
+unfolding same_end
+same_whole a b e = rw (eq-eqb a b e, same_end) refl
 
-pub same-changed : (a b : ℕ) → (a ≡ b → ⊥) → E.Changed ≡ sameEnd a b
-unfolding sameEnd
-same-changed a b e = rw (ne_eqb a b e, sameEnd) refl
+pub same-changed : (a b : ℕ) → (a ≡ b → ⊥) → E.Changed ≡ same_end a b
+unfolding same_end
+same-changed a b e = rw (ne_eqb a b e, same_end) refl

@@ -3,15 +3,15 @@
 --     part_of most m            what was read to a block of m bytes
 --     PartSays b r             the same of the block b, as it was left
 --     ReadTo b last m          the first m bytes of b were read: all of it, or (last) fewer, and then the input ended
---     Course, courseOf t       what becomes of a block, as the record t tells it: so many bytes of it are done, and another follows; or all is done with so many bytes of it;
+--     Course, course_of t       what becomes of a block, as the record t tells it: so many bytes of it are done, and another follows; or all is done with so many bytes of it;
 --                              or that is as far as it goes
---     goneBy last m            m bytes are done of a block that is or is not the last
---     Finish, finishOf v       how a time through ended, as the record v tells it: at the end, which is at that place; or before it
---     goesFurther p c          is another block read behind one that began at p?
+--     gone_by last m            m bytes are done of a block that is or is not the last
+--     Finish, finish_of v       how a time through ended, as the record v tells it: at the end, which is at that place; or before it
+--     goes_further p c          is another block read behind one that began at p?
 --     EndWithin p c            where the file ends with it, the place of its end is below 2 to the power 63
---     finishAt p c             how a time ends with a block that began at p, behind which none is read
---     failedOf w               how a run ends where a read fails, the first time and (w) the second
---     sameEnd a b              how a run ends whose first time ended at a and the second at b
+--     finish_at p c             how a time ends with a block that began at p, behind which none is read
+--     failed_of w               how a run ends where a read fails, the first time and (w) the second
+--     same_end a b              how a run ends whose first time ended at a and the second at b
 use Rattle.std.specs.Prelude.{ℕ, ◌+◌, ◌-◌, ◌<◌, ◌≡◌, Bool, true, false, List, eqb, ltb, length}
 use Rattle.program_ending_inner.specs.declared.Ending.{Ending}
 use Rattle.program_ending_inner.specs.declared.Ending.TheVariants as E
@@ -53,17 +53,17 @@ pub data Course : Type 0 where
   Done : ℕ → Course
   Stopped : Ending → Course
 
-abbrev pub courseBy : Then → ℕ → Ending → Course
-courseBy More m t = On m
-courseBy Over m t = Done m
-courseBy Stop m t = Stopped t
+abbrev pub course_by : Then → ℕ → Ending → Course
+course_by More m t = On m
+course_by Over m t = Done m
+course_by Stop m t = Stopped t
 
-abbrev pub courseOf : Turn → Course
-courseOf v = courseBy v.then v.used v.why
+abbrev pub course_of : Turn → Course
+course_of v = course_by v.then v.used v.why
 
-abbrev pub goneBy : Bool → ℕ → Course
-goneBy false m = On m
-goneBy true m = Done m
+abbrev pub gone_by : Bool → ℕ → Course
+gone_by false m = On m
+gone_by true m = Done m
 
 -- ---- a time through
 
@@ -71,17 +71,17 @@ pub data Finish : Type 0 where
   Through : ℕ → Finish
   Ended : Ending → Finish
 
-abbrev pub finishBy : Bool → ℕ → Ending → Finish
-finishBy true e t = Through e
-finishBy false e t = Ended t
+abbrev pub finish_by : Bool → ℕ → Ending → Finish
+finish_by true e t = Through e
+finish_by false e t = Ended t
 
-abbrev pub finishOf : Pass → Finish
-finishOf v = finishBy v.through v.at v.why
+abbrev pub finish_of : Pass → Finish
+finish_of v = finish_by v.through v.at v.why
 
-abbrev pub goesFurther : ℕ → Course → Bool
-goesFurther p (On m) = ltb m (limit - p)
-goesFurther p (Done m) = false
-goesFurther p (Stopped t) = false
+abbrev pub goes_further : ℕ → Course → Bool
+goes_further p (On m) = ltb m (limit - p)
+goes_further p (Done m) = false
+goes_further p (Stopped t) = false
 
 -- so that it is a number of this machine
 abbrev pub EndWithin : ℕ → Course → Type 0
@@ -89,16 +89,16 @@ EndWithin p (On m) = Unit
 EndWithin p (Done m) = p + m < furthest
 EndWithin p (Stopped t) = Unit
 
-abbrev pub finishAt : ℕ → Course → Finish
-finishAt p (On m) = Ended E.TooLong
-finishAt p (Done m) = Through (p + m)
-finishAt p (Stopped t) = Ended t
+abbrev pub finish_at : ℕ → Course → Finish
+finish_at p (On m) = Ended E.TooLong
+finish_at p (Done m) = Through (p + m)
+finish_at p (Stopped t) = Ended t
 
 -- ---- both times
 
-abbrev pub failedOf : Bool → Ending
-failedOf false = E.Unread
-failedOf true = E.Lost
+abbrev pub failed_of : Bool → Ending
+failed_of false = E.Unread
+failed_of true = E.Lost
 
-unfoldable pub sameEnd : ℕ → ℕ → Ending
-sameEnd a b = elim (eqb a b) [ true ↦ E.Whole | false ↦ E.Changed ]
+unfoldable pub same_end : ℕ → ℕ → Ending
+same_end a b = elim (eqb a b) [ true ↦ E.Whole | false ↦ E.Changed ]

@@ -1,9 +1,11 @@
 // What the programs share that go through a file on standard input block after block, once or twice. No public calls: no contract can say what is read.
 // A block begins where the last whole piece of the one before it ended, and is read from there.
 
+#![tactic(auto)]
+
 ghost use Rattle.std.specs.Prelude.{◌<◌, ◌≡◌};
 ghost use Rattle.program_reading_inner.specs.Says.{MostSays};
-ghost use Rattle.program_passes_inner.specs.Passes.{limit, failedOf, sameEnd, part_of, PartSays, Stopped, courseOf, goneBy, goesFurther, EndWithin, finishOf, finishAt};
+ghost use Rattle.program_passes_inner.specs.Passes.{limit, failed_of, same_end, part_of, PartSays, Stopped, course_of, gone_by, goes_further, EndWithin, finish_of, finish_at};
 
 use libc::{SEEK_SET, STDIN_FILENO};
 use program_ending_inner::Ending;
@@ -46,7 +48,7 @@ pub struct Pass {
 
 // So many bytes of a block are done; where it was the last, that is all.
 pub fn turn_by(last: bool, used: usize) -> Turn
-    ensures { courseOf result ≡ goneBy last used }
+    ensures { course_of result ≡ gone_by last used }
 {
     if last {
         return Turn {
@@ -64,7 +66,7 @@ pub fn turn_by(last: bool, used: usize) -> Turn
 
 // That is as far as it goes.
 pub fn stop(why: Ending) -> Turn
-    ensures { courseOf result ≡ Stopped why }
+    ensures { course_of result ≡ Stopped why }
 {
     Turn {
         then: Then::Stop,
@@ -76,7 +78,7 @@ pub fn stop(why: Ending) -> Turn
 // Whether another block is read behind one that began at `at`.
 pub fn goes_on(at: usize, t: Turn) -> bool
     requires { at < limit }
-    ensures { result ≡ goesFurther at (courseOf t) }
+    ensures { result ≡ goes_further at (course_of t) }
 {
     let then = t.then;
     match then {
@@ -88,8 +90,8 @@ pub fn goes_on(at: usize, t: Turn) -> bool
 
 // How a time through the file ended with a block that began at `at`, behind which none is read.
 pub fn finish(at: usize, t: Turn) -> Pass
-    requires { EndWithin at (courseOf t) }
-    ensures { finishOf result ≡ finishAt at (courseOf t) }
+    requires { EndWithin at (course_of t) }
+    ensures { finish_of result ≡ finish_at at (course_of t) }
 {
     let then = t.then;
     let why = t.why;
@@ -114,7 +116,7 @@ pub fn finish(at: usize, t: Turn) -> Pass
 
 // How a run ends where a read fails, the first time through and the second.
 pub fn failed(second: bool) -> Ending
-    ensures { result ≡ failedOf second }
+    ensures { result ≡ failed_of second }
 {
     if second {
         return Ending::Lost;
@@ -168,7 +170,7 @@ pub fn read_block(at: usize, block: &mut [u8]) -> Part
 
 // A file that ends elsewhere the second time is not the one that was checked.
 pub fn same_end(first: usize, second: usize) -> Ending
-    ensures { result ≡ sameEnd first second }
+    ensures { result ≡ same_end first second }
 {
     if first == second {
         return Ending::Whole;

@@ -11,30 +11,30 @@ use Rattle.io.specs.Counts.{clamp_len}
 use Rattle.libc.specs.Io.{Moved}
 use Rattle.program_reading_inner.specs.{declared.Got.Got, declared.Most.Most}
 use Rattle.program_reading_inner.specs.declared.Got.TheVariants.{Bytes, Over, Failed}
-use Rattle.program_reading_inner.specs.Says.{toldOf, GotSays, ended_of, MostSays}
+use Rattle.program_reading_inner.specs.Says.{told_of, GotSays, ended_of, MostSays}
 
 -- z is the answer as it was handed over
 module _ (got z : ℤ) (same : z ≡ got) where
-  pub told-failed : lt_z z (pos 0) ≡ true → Failed ≡ toldOf got
+  pub told-failed : lt_z z (pos 0) ≡ true → Failed ≡ told_of got
   told-failed h = go got (rw same at h)
     where
-      go : (x : ℤ) → lt_z x (pos 0) ≡ true → Failed ≡ toldOf x
+      go : (x : ℤ) → lt_z x (pos 0) ≡ true → Failed ≡ told_of x
       go (pos k) e = absurd (omega (arith, ltb-true k 0 e))
       go (negsuc k) e = refl
 
   module _ (h : lt_z z (pos 0) ≡ false) (most : ℕ) (m : Moved most got) (n : ℕ) (e : n ≡ clamp_len z most) where
-    pub told_over : n ≡ 0 → Over ≡ toldOf got
+    pub told_over : n ≡ 0 → Over ≡ told_of got
     told_over q = go got (rw same at h) m (sym q ∙ (rw same at e))
       where
-        go : (x : ℤ) → lt_z x (pos 0) ≡ false → Moved most x → 0 ≡ clamp_len x most → Over ≡ toldOf x
+        go : (x : ℤ) → lt_z x (pos 0) ≡ false → Moved most x → 0 ≡ clamp_len x most → Over ≡ told_of x
         go (pos zero) a b d = refl
         go (pos (suc k)) a b d = absurd (omega (arith, b, d))
         go (negsuc k) a b d = absurd (false≢true (sym a))
 
-    pub told-bytes : (n ≡ 0 → ⊥) → Bytes n ≡ toldOf got
+    pub told-bytes : (n ≡ 0 → ⊥) → Bytes n ≡ told_of got
     told-bytes q = go got (rw same at h) m (rw same at e)
       where
-        go : (x : ℤ) → lt_z x (pos 0) ≡ false → Moved most x → n ≡ clamp_len x most → Bytes n ≡ toldOf x
+        go : (x : ℤ) → lt_z x (pos 0) ≡ false → Moved most x → n ≡ clamp_len x most → Bytes n ≡ told_of x
         go (pos zero) a b d = absurd (q (omega (arith, d)))
         go (pos (suc k)) a b d = ap Bytes (omega (arith, b, d))
         go (negsuc k) a b d = absurd (false≢true (sym a))
@@ -43,7 +43,7 @@ module _ (got z : ℤ) (same : z ≡ got) where
 pub moved_back : (got z : ℤ) (m n : ℕ) → z ≡ got → m ≡ n → Moved n got → Moved m z
 moved_back got z m n e l h = rw (e, l) h
 
-pub says-told : (got : ℤ) (r : Got) (s : List ℕ) → r ≡ toldOf got → Moved (length s) got → GotSays r s
+pub says-told : (got : ℤ) (r : Got) (s : List ℕ) → r ≡ told_of got → Moved (length s) got → GotSays r s
 says-told (pos zero) r s e m = rw e tt
 says-told (pos (suc k)) r s e m = rw e (omega arith, m, simp length-take (omega (arith, m)))
 says-told (negsuc k) r s e m = rw e tt

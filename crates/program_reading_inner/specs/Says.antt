@@ -1,5 +1,5 @@
 -- What reading promises. How a run ended by it: `program_outcome_inner`.
---     toldOf got             what the system's answer says: -1 that the read failed, 0 that the input is over
+--     told_of got             what the system's answer says: -1 that the read failed, 0 that the input is over
 --     GotSays r s            some bytes, and no more than the block s has
 --     ended_of got at         behind `at` bytes a read that gave none: the input is over, or the read failed
 --     MostSays r s           the buffer s is full, or the input ended before it was
@@ -10,10 +10,10 @@ use Rattle.program_reading_inner.specs.declared.Got.TheVariants.{Bytes, Over, Fa
 use Rattle.program_reading_inner.specs.declared.Most.{Most}
 use Rattle.program_reading_inner.specs.declared.Most.TheVariants as M
 
-abbrev pub toldOf : ℤ → Got
-toldOf (negsuc k) = Failed
-toldOf (pos zero) = Over
-toldOf (pos (suc k)) = Bytes (suc k)
+abbrev pub told_of : ℤ → Got
+told_of (negsuc k) = Failed
+told_of (pos zero) = Over
+told_of (pos (suc k)) = Bytes (suc k)
 
 abbrev pub GotSays : Got → List ℕ → Type 0
 GotSays (Bytes n) s = (0 < n) × (n ≤ length s) × (n ≡ length (take n s))

@@ -1,8 +1,10 @@
 // Reading standard input, with a read that failed told apart from the end of the input. No public calls: no contract can say what is read.
 
+#![tactic(auto)]
+
 ghost use Rattle.std.specs.Prelude.{◌≡◌, length};
 ghost use Rattle.libc.specs.Io.{Moved};
-ghost use Rattle.program_reading_inner.specs.Says.{toldOf, GotSays, ended_of, MostSays};
+ghost use Rattle.program_reading_inner.specs.Says.{told_of, GotSays, ended_of, MostSays};
 
 use libc::STDIN_FILENO;
 
@@ -25,7 +27,7 @@ pub enum Most {
 // What the system's answer to a read says.
 fn told(got: isize, block: &[u8]) -> Got
     requires { Moved (length block.now) got }
-    ensures { result ≡ toldOf got }
+    ensures { result ≡ told_of got }
 {
     if got < 0 {
         return Got::Failed;

@@ -1,6 +1,6 @@
 -- How long what is said of a refused line may be.
---     refusedLineRoom      it is no longer
+--     refused_line_room      it is no longer
 use Rattle.std.specs.Prelude.{ℕ}
 
-abbrev pub refusedLineRoom : ℕ
-refusedLineRoom = 100
+abbrev pub refused_line_room : ℕ
+refused_line_room = 100

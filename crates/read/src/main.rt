@@ -1,5 +1,7 @@
 // The program that tells a catalogue's records, a line each: `./rings read < catalogue`. It is run here with a catalogue of both forms, which takes several blocks.
 
+#![tactic(auto)]
+
 use files_spec::Job;
 
 fn main() {

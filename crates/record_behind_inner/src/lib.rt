@@ -1,8 +1,10 @@
 // What stands behind a record's mark, whatever its kind: n and k, whether the bytes of the sectors are all there, and then those bytes: 1, 2, 7, 3, 17, 9. No public calls.
 
+#![tactic(auto)]
+
 ghost use Rattle.std.specs.Prelude.{◌+◌, ◌≤◌, ◌≡◌, length};
 ghost use Rattle.words.specs.Readings.{Sized, Shaded};
-ghost use Rattle.record_spec.specs.Layout.{bodyLength};
+ghost use Rattle.record_spec.specs.Layout.{body_length};
 ghost use Rattle.record_body_inner.specs.Steps.{Held, HeadNumbersSay, BodySays, BehindSays};
 
 use record_spec::{HEAD, Kind};
@@ -47,7 +49,7 @@ pub fn check_behind(kind: Kind, rest: &[u8], start: usize) -> Checked
 
 // The bytes of the sectors, in the form of the kind.
 fn check_bytes(kind: Kind, bytes: &[u8], start: usize, n: usize, k: usize) -> Checked
-    requires { Held (start + (4 + length bytes.now)) × Sized n × Shaded k × (length bytes.now ≡ bodyLength kind n k) }
+    requires { Held (start + (4 + length bytes.now)) × Sized n × Shaded k × (length bytes.now ≡ body_length kind n k) }
     ensures { BodySays kind n k bytes.now start result }
 {
     match kind {

@@ -12,7 +12,7 @@ use Rattle.record_spec.specs.declared.Kind.{Kind}
 use Rattle.record_spec.specs.declared.Kind.TheVariants.{Front}
 use Rattle.record_spec.specs.declared.Entry.{Entry}
 use Rattle.record_spec.specs.declared.Entry.TheVariants.{Record, End, Refused}
-use Rattle.record_spec.specs.Order.{sizeOrder, bodyOrder, behindOrder, recordOrder}
+use Rattle.record_spec.specs.Order.{size_order, body_order, behind_order, record_order}
 use Rattle.record_spec.specs.Says.{Read}
 
 -- m is below 2 to the power 64
@@ -20,13 +20,13 @@ abbrev pub Held : ℕ → Type 0
 Held m = m < 18446744073709551616
 
 abbrev pub HeadNumbersSay : List ℕ → ℕ → Checked → Type 0
-HeadNumbersSay t s v = CheckSays (sizeOrder t s) v
+HeadNumbersSay t s v = CheckSays (size_order t s) v
 
 abbrev pub BodySays : Kind → ℕ → ℕ → List ℕ → ℕ → Checked → Type 0
-BodySays x n k b s v = CheckSays (bodyOrder x n k b s) v
+BodySays x n k b s v = CheckSays (body_order x n k b s) v
 
 abbrev pub BehindSays : Kind → List ℕ → ℕ → Checked → Type 0
-BehindSays x t s v = CheckSays (behindOrder x t s) v
+BehindSays x t s v = CheckSays (behind_order x t s) v
 
 abbrev pub RestSays : List ℕ → ℕ → Checked → Type 0
 RestSays t s v = BehindSays Front t s v
@@ -34,4 +34,4 @@ RestSays t s v = BehindSays Front t s v
 abbrev pub RecordSays : List ℕ → ℕ → List ℕ → Entry → List ℕ → Type 0
 RecordSays t s b (Record n k x next) d = Read t s b n k x next d
 RecordSays t s b End d = ⊥
-RecordSays t s b (Refused r) d = Given (recordOrder t s) r × (d ≡ b)
+RecordSays t s b (Refused r) d = Given (record_order t s) r × (d ≡ b)

@@ -1,5 +1,7 @@
 // The sectors of a record, whose numbers are good: what they are, and in a front record the refusals 3 and 9. No public calls.
 
+#![tactic(auto)]
+
 ghost use Rattle.std.specs.Prelude.{◌+◌, length};
 ghost use Rattle.words.specs.Readings.{Sized, Shaded};
 ghost use Rattle.record_spec.specs.declared.Kind.TheVariants.{Front};

@@ -1,5 +1,7 @@
 // A record read: its head and its mark, 7, 8, 16, then what stands behind the mark, and then its ring (`record_ring_inner`). No public calls.
 
+#![tactic(auto)]
+
 ghost use Rattle.std.specs.Prelude.{◌≡◌, ◌+◌, ◌≤◌, length, get_or, eqb};
 ghost use Rattle.record_spec.specs.Layout.{Marked};
 ghost use Rattle.record_body_inner.specs.Steps.{Held, RecordSays};

@@ -1,9 +1,11 @@
 // The bytes behind the head of a packed record, whose numbers are good: 3, 17, 9. No public calls.
 
+#![tactic(auto)]
+
 ghost use Rattle.std.specs.Prelude.{◌≡◌, ◌+◌, length};
 ghost use Rattle.words.specs.Readings.{Sized, Shaded};
 ghost use Rattle.record_spec.specs.declared.Kind.TheVariants.{Packed};
-ghost use Rattle.record_spec.specs.Layout.{bodyLength, shown};
+ghost use Rattle.record_spec.specs.Layout.{body_length, shown};
 ghost use Rattle.record_body_inner.specs.Steps.{Held, BodySays};
 
 use record_body_inner::Looked;
@@ -12,7 +14,7 @@ use refusal::{Checked, Refusal};
 
 // The sectors are unpacked, and then checked.
 pub fn check_packed_body(bytes: &[u8], start: usize, n: usize, k: usize) -> Checked
-    requires { Held (start + (4 + length bytes.now)) × Sized n × Shaded k × (length bytes.now ≡ bodyLength Packed n k) }
+    requires { Held (start + (4 + length bytes.now)) × Sized n × Shaded k × (length bytes.now ≡ body_length Packed n k) }
     ensures { BodySays Packed n k bytes.now start result }
 {
     let mut sectors = [0u8; 64];
@@ -22,7 +24,7 @@ pub fn check_packed_body(bytes: &[u8], start: usize, n: usize, k: usize) -> Chec
 
 // The sectors that the bytes hold are looked at as those of a front record are; the place of a sector is that of the byte that holds its first bit.
 fn check_unpacked(sectors: &[u8], bytes: &[u8], start: usize, k: usize) -> Checked
-    requires { Held (start + (4 + length bytes.now)) × Sized (length sectors.now) × Shaded k × (length bytes.now ≡ bodyLength Packed (length sectors.now) k)
+    requires { Held (start + (4 + length bytes.now)) × Sized (length sectors.now) × Shaded k × (length bytes.now ≡ body_length Packed (length sectors.now) k)
         × (sectors.now ≡ shown Packed (length sectors.now) k bytes.now) }
     ensures { BodySays Packed (length sectors.now) k bytes.now start result }
 {

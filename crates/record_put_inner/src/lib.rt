@@ -1,10 +1,12 @@
 // A record written at the front of a part of a buffer, which has room for it: its head, and its sectors behind it, in either form. No public calls: `writer` checks what these
 // ask for.
 
+#![tactic(auto)]
+
 ghost use Rattle.std.specs.Prelude.{◌≡◌, ◌+◌, ◌≤◌, length};
 ghost use Rattle.refusal.specs.Order.{Passed};
-ghost use Rattle.refusal.specs.Calls.{oneReading};
-ghost use Rattle.record_spec.specs.Layout.{secondByte, bodyLength};
+ghost use Rattle.refusal.specs.Calls.{one_reading};
+ghost use Rattle.record_spec.specs.Layout.{second_byte, body_length};
 ghost use Rattle.record_spec.specs.Writes.{RecordPlaced};
 ghost use Rattle.record_put_inner.specs.Head.{headed};
 
@@ -12,7 +14,7 @@ use record_spec::{FRONT_MARK, HEAD, Kind, MARK, PACKED_MARK};
 
 // Writes the record to the front of `rest`.
 pub fn put_record(reading: &[u8], k: usize, kind: Kind, rest: &mut [u8])
-    requires { Passed (oneReading reading.now k) × (4 + bodyLength kind (length reading.now) k ≤ length rest.old) }
+    requires { Passed (one_reading reading.now k) × (4 + body_length kind (length reading.now) k ≤ length rest.old) }
     ensures { RecordPlaced reading.now k kind rest.old rest.new }
 {
     let n = reading.len();
@@ -34,7 +36,7 @@ fn put_head(rest: &mut [u8], second: u8, n: usize, k: usize)
 
 // The second byte of the mark.
 fn second_byte(kind: Kind) -> u8
-    ensures { result ≡ secondByte kind }
+    ensures { result ≡ second_byte kind }
 {
     match kind {
         Kind::Front => FRONT_MARK,

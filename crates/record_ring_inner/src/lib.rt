@@ -1,8 +1,10 @@
 // The ring of a good record, written, and what the record is. No public calls.
 
+#![tactic(auto)]
+
 ghost use Rattle.std.specs.Prelude.{◌≡◌, ◌+◌, length};
 ghost use Rattle.words.specs.Readings.{Shaded};
-ghost use Rattle.record_spec.specs.Layout.{bodyLength, shown, Marked};
+ghost use Rattle.record_spec.specs.Layout.{body_length, shown, Marked};
 ghost use Rattle.record_spec.specs.Order.{GoodRecord};
 ghost use Rattle.record_body_inner.specs.Steps.{Held, RecordSays};
 
@@ -27,7 +29,7 @@ pub fn read_good(kind: Kind, rest: &[u8], start: usize, out: &mut [u8]) -> Entry
 
 // Writes the sectors that the bytes behind the head hold, in the form of the kind.
 fn show(kind: Kind, body: &[u8], k: usize, out: &mut [u8])
-    requires { Shaded k × (length body.now ≡ bodyLength kind (length out.old) k) }
+    requires { Shaded k × (length body.now ≡ body_length kind (length out.old) k) }
     ensures { out.new ≡ shown kind (length out.old) k body.now }
 {
     match kind {

@@ -1,7 +1,7 @@
 -- The reader's order computes its answer: `entry_of c s m` is the answer for the catalogue c, the start s and an output of m bytes.
 --     end-passed, good-passed   where the start is the end, and where a good record stands there, every check has passed
 --     begins t y, known t       the mark, as tests
---     behindTests, recordTests, readTests    the tests of the checks
+--     behind_tests, record_tests, read_tests    the tests of the checks
 --     entry_of c s m             the answer
 --     fixed                     an answer that the contract allows is that one
 use Rattle.words.proofs.Plain.{ℕ, ◌+◌, ◌<◌, arith, ◌≡◌, ◌∙◌, ◌⊎◌, inl, inr, Bool, true, false, not, ◌&&◌, ◌||◌, Option, none, some, List, leb, ltb, eqb, length}
@@ -13,15 +13,15 @@ use Rattle.refusal.proofs.Tests.{Tests, one, all, when, ◌▹◌, answer, given
 use Rattle.record_spec.specs.{declared.Kind.Kind, declared.Kind.TheVariants.Front, declared.Kind.TheVariants.Packed}
 use Rattle.record_spec.specs.{declared.Entry.Entry, Says.ReadSays}
 use Rattle.record_spec.specs.declared.Entry.TheVariants.{Record, End, Refused}
-use Rattle.record_spec.specs.Layout.{MarkBegins, Marked, kindByMark, bodyLength, isClear, n_of, k_of, body_of, storedRing}
-use Rattle.record_spec.specs.Order.{Known, behindOrder, recordOrder, readOrder, GoodRecord}
+use Rattle.record_spec.specs.Layout.{MarkBegins, Marked, kind_by_mark, body_length, is_clear, n_of, k_of, body_of, stored_ring}
+use Rattle.record_spec.specs.Order.{Known, behind_order, record_order, read_order, GoodRecord}
 use Rattle.record_spec.proofs.Forms.{kind-is, behind-passed}
 
 -- at the end every check has passed, and in a good record too
-pub end-passed : (c : List ℕ) (s m : ℕ) → m ≡ 64 → s ≡ length c → Passed (readOrder c s m)
+pub end-passed : (c : List ℕ) (s m : ℕ) → m ≡ 64 → s ≡ length c → Passed (read_order c s m)
 end-passed c s m e l = ((e, omega arith), λ h. absurd (omega arith))
 
-pub good-passed : (c : List ℕ) (s m : ℕ) (x : Kind) → m ≡ 64 → s < length c → Marked (drop s c) x → GoodRecord x (drop s c) → Passed (readOrder c s m)
+pub good-passed : (c : List ℕ) (s m : ℕ) (x : Kind) → m ≡ 64 → s < length c → Marked (drop s c) x → GoodRecord x (drop s c) → Passed (read_order c s m)
 good-passed c s m x e l k g = ((e, omega arith), λ h. behind-passed x (drop s c) s k g)
 
 -- ---- the mark
@@ -54,49 +54,49 @@ known_tells t = record { passed = λ k. both.passed (to k.0 k.1); holds = λ e. 
 
 -- ---- the tests
 
-unfoldable pub behindTests : (x : Kind) (t : List ℕ) (s : ℕ) → Tests (behindOrder x t s)
-behindTests x t s =
+unfoldable pub behind_tests : (x : Kind) (t : List ℕ) (s : ℕ) → Tests (behind_order x t s)
+behind_tests x t s =
     (one (within 1 (n_of t) 64) (within-tells 1 (n_of t) 64)
     ▹ one (within 2 (k_of t) 16) (within-tells 2 (k_of t) 16)
-    ▹ one (leb (4 + bodyLength x (n_of t) (k_of t)) (length t)) (at-most-tells (4 + bodyLength x (n_of t) (k_of t)) (length t)))
-    ▹ (all (λ i. ltb (get_or (storedRing x t) i 0) (k_of t)) (λ i. below-tells (get_or (storedRing x t) i 0) (k_of t))
-    ▹ one (isClear x (n_of t) (k_of t) (body_of x t)) (same-tells (isClear x (n_of t) (k_of t) (body_of x t)))
-    ▹ one (necklace (storedRing x t)) (same-tells (necklace (storedRing x t))))
+    ▹ one (leb (4 + body_length x (n_of t) (k_of t)) (length t)) (at-most-tells (4 + body_length x (n_of t) (k_of t)) (length t)))
+    ▹ (all (λ i. ltb (get_or (stored_ring x t) i 0) (k_of t)) (λ i. below-tells (get_or (stored_ring x t) i 0) (k_of t))
+    ▹ one (is_clear x (n_of t) (k_of t) (body_of x t)) (same-tells (is_clear x (n_of t) (k_of t) (body_of x t)))
+    ▹ one (necklace (stored_ring x t)) (same-tells (necklace (stored_ring x t))))
 
-unfoldable pub recordTests : (t : List ℕ) (s : ℕ) → Tests (recordOrder t s)
-recordTests t s =
+unfoldable pub record_tests : (t : List ℕ) (s : ℕ) → Tests (record_order t s)
+record_tests t s =
     one (leb 4 (length t)) (at-most-tells 4 (length t))
     ▹ one (known t || begins t 0x42) (either-tell (known_tells t) (begins-tells t 0x42))
     ▹ one (not (begins t 0x42)) (not-tell (begins-tells t 0x42))
-    ▹ behindTests (kindByMark t) t s
+    ▹ behind_tests (kind_by_mark t) t s
 
-unfoldable pub readTests : (c : List ℕ) (s m : ℕ) → Tests (readOrder c s m)
-readTests c s m =
+unfoldable pub read_tests : (c : List ℕ) (s m : ℕ) → Tests (read_order c s m)
+read_tests c s m =
     one (eqb m 64) (equal-tells m 64)
     ▹ one (leb s (length c)) (at-most-tells s (length c))
-    ▹ when (ltb s (length c)) (below-tells s (length c)) (recordTests (drop s c) s)
+    ▹ when (ltb s (length c)) (below-tells s (length c)) (record_tests (drop s c) s)
 
 -- ---- the answer
 
 -- the refusal, or else the record, or the end
-unfoldable pub refusedOr : Option Refusal → Entry → Entry
-refusedOr none e = e
-refusedOr (some r) e = Refused r
+unfoldable pub refused_or : Option Refusal → Entry → Entry
+refused_or none e = e
+refused_or (some r) e = Refused r
 
-unfoldable pub recordEntry : List ℕ → ℕ → Entry
-recordEntry t s = Record (n_of t) (k_of t) (kindByMark t) (s + 4 + bodyLength (kindByMark t) (n_of t) (k_of t))
+unfoldable pub record_entry : List ℕ → ℕ → Entry
+record_entry t s = Record (n_of t) (k_of t) (kind_by_mark t) (s + 4 + body_length (kind_by_mark t) (n_of t) (k_of t))
 
 unfoldable pub entry_of : List ℕ → ℕ → ℕ → Entry
-entry_of c s m = refusedOr (answer (readTests c s m)) (elim (ltb s (length c)) [ true ↦ recordEntry (drop s c) s | false ↦ End ])
+entry_of c s m = refused_or (answer (read_tests c s m)) (elim (ltb s (length c)) [ true ↦ record_entry (drop s c) s | false ↦ End ])
 
 -- where every check has passed
-passed_entry : (c : List ℕ) (s m : ℕ) → Passed (readOrder c s m) → entry_of c s m ≡ elim (ltb s (length c)) [ true ↦ recordEntry (drop s c) s | false ↦ End ]
-unfolding entry_of refusedOr
-passed_entry c s m p = rw (passed-answer (readTests c s m) p)
+passed_entry : (c : List ℕ) (s m : ℕ) → Passed (read_order c s m) → entry_of c s m ≡ elim (ltb s (length c)) [ true ↦ record_entry (drop s c) s | false ↦ End ]
+unfolding entry_of refused_or
+passed_entry c s m p = rw (passed-answer (read_tests c s m) p)
 
 -- an answer that the contract allows is the computed one
 pub fixed : (c : List ℕ) (s : ℕ) (b : List ℕ) (r : Entry) (d : List ℕ) → ReadSays c s b r d → entry_of c s (length b) ≡ r
-unfolding entry_of recordEntry refusedOr
+unfolding entry_of record_entry refused_or
 fixed c s b (Record n k x next) d h =
     let t = drop s c in
     let g = h.2 in
@@ -105,4 +105,4 @@ fixed c s b (Record n k x next) d h =
 fixed c s b End d h =
     passed_entry c s (length b) (end-passed c s (length b) h.0 h.1)
     ∙ rw (le-ltb s (length c) (omega (arith, h.1)))
-fixed c s b (Refused r) d h = rw (given-answer (readTests c s (length b)) r h.0)
+fixed c s b (Refused r) d h = rw (given-answer (read_tests c s (length b)) r h.0)

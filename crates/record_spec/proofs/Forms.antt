@@ -19,16 +19,16 @@ use Rattle.packing_laws.proofs.Width.{shades-fit, narrow}
 use Rattle.packing_laws.proofs.Lengths.{packed-some, packed-le, byte-of-lt}
 use Rattle.packing_laws.proofs.Packing.{length-packed, length-unpacked, packed-clear, unpacked-packed, packed-unpacked}
 use Rattle.record_spec.specs.{declared.Kind.Kind, declared.Kind.TheVariants.Front, declared.Kind.TheVariants.Packed}
-use Rattle.record_spec.specs.Layout.{Marked, MarkedBack, kindByMark, bodyLength, stored, shown, byte_at, isClear, n_of, k_of, body_of}
-use Rattle.record_spec.specs.Order.{recordOrder, bodyOrder, behindOrder, After7, GoodRecord}
+use Rattle.record_spec.specs.Layout.{Marked, MarkedBack, kind_by_mark, body_length, stored, shown, byte_at, is_clear, n_of, k_of, body_of}
+use Rattle.record_spec.specs.Order.{record_order, body_order, behind_order, After7, GoodRecord}
 
 -- ---- bytes and sectors
 
-pub length-stored : (x : Kind) (k : ℕ) (v : List ℕ) → length (stored x k v) ≡ bodyLength x (length v) k
+pub length-stored : (x : Kind) (k : ℕ) (v : List ℕ) → length (stored x k v) ≡ body_length x (length v) k
 length-stored Front k v = refl
 length-stored Packed k v = length-packed (width k) v
 
-pub length-shown : (x : Kind) (n k : ℕ) (b : List ℕ) → length b ≡ bodyLength x n k → length (shown x n k b) ≡ n
+pub length-shown : (x : Kind) (n k : ℕ) (b : List ℕ) → length b ≡ body_length x n k → length (shown x n k b) ≡ n
 length-shown Front n k b l = l
 length-shown Packed n k b l = length-unpacked (width k) n b
 
@@ -36,36 +36,36 @@ pub shown-stored : (x : Kind) (k : ℕ) (v : List ℕ) → Below v (λ i. k) →
 shown-stored Front k v h = refl
 shown-stored Packed k v h = unpacked-packed (width k) v (shades-fit k v h)
 
-pub stored-shown : (x : Kind) (n k : ℕ) (b : List ℕ) → length b ≡ bodyLength x n k → Bytes b → isClear x n k b ≡ true → stored x k (shown x n k b) ≡ b
+pub stored-shown : (x : Kind) (n k : ℕ) (b : List ℕ) → length b ≡ body_length x n k → Bytes b → is_clear x n k b ≡ true → stored x k (shown x n k b) ≡ b
 stored-shown Front n k b l h c = refl
 stored-shown Packed n k b l h c = packed-unpacked (width k) n b l h c
 
-pub clear-stored : (x : Kind) (k : ℕ) (v : List ℕ) → Below v (λ i. k) → isClear x (length v) k (stored x k v) ≡ true
+pub clear-stored : (x : Kind) (k : ℕ) (v : List ℕ) → Below v (λ i. k) → is_clear x (length v) k (stored x k v) ≡ true
 clear-stored Front k v h = refl
 clear-stored Packed k v h = packed-clear (width k) v (shades-fit k v h)
 
 -- ---- how many bytes
 
 module _ (n k : ℕ) where
-  pub some_bytes : (x : Kind) → 1 ≤ n → Shaded k → 1 ≤ bodyLength x n k
+  pub some_bytes : (x : Kind) → 1 ≤ n → Shaded k → 1 ≤ body_length x n k
   some_bytes Front z h = z
   some_bytes Packed z h = packed-some (width k) n (narrow k h).0 z
 
-  pub few_bytes : (x : Kind) → Shaded k → bodyLength x n k ≤ n
+  pub few_bytes : (x : Kind) → Shaded k → body_length x n k ≤ n
   few_bytes Front h = omega arith
   few_bytes Packed h = packed-le (width k) n (omega (arith, narrow k h))
 
-  pub byte-within : (x : Kind) (i : ℕ) → i < n → Shaded k → byte_at x k i < bodyLength x n k
+  pub byte-within : (x : Kind) (i : ℕ) → i < n → Shaded k → byte_at x k i < body_length x n k
   byte-within Front i l h = l
   byte-within Packed i l h = byte-of-lt (width k) n i (narrow k h).0 l
 
 -- ---- the order
 
 -- a known mark tells its kind
-pub kind-is : (t : List ℕ) (x : Kind) → Marked t x → kindByMark t ≡ x
-unfolding kindByMark
-kind-is t Front m = rw (m.1, kindByMark)
-kind-is t Packed m = rw (m.1, kindByMark)
+pub kind-is : (t : List ℕ) (x : Kind) → Marked t x → kind_by_mark t ≡ x
+unfolding kind_by_mark
+kind-is t Front m = rw (m.1, kind_by_mark)
+kind-is t Packed m = rw (m.1, kind_by_mark)
 
 -- and is not the retired one
 pub not_back : (t : List ℕ) (x : Kind) → Marked t x → MarkedBack t → ⊥
@@ -74,13 +74,13 @@ not_back t Packed q m = omega (arith, m.1, q.1)
 
 -- under a known mark a record is good, or refused, as what stands behind the mark is
 module _ (x : Kind) (t : List ℕ) (s : ℕ) (m : Marked t x) where
-  pub behind-passed : GoodRecord x t → Passed (recordOrder t s)
+  pub behind-passed : GoodRecord x t → Passed (record_order t s)
   behind-passed g = (((omega (arith, g.0.1), inl (x, m)), not_back t x m), rw (kind-is t x m) g)
 
-  pub behind-given : (r : Refusal) → 4 ≤ length t → Given (behindOrder x t s) r → Given (recordOrder t s) r
+  pub behind-given : (r : Refusal) → 4 ≤ length t → Given (behind_order x t s) r → Given (record_order t s) r
   behind-given r l g = inr (((l, inl (x, m)), not_back t x m), rw (kind-is t x m) g)
 
 -- a record whose numbers and length are good is good, or refused, as its bytes are
-pub good-behind : (x : Kind) (t : List ℕ) (s : ℕ) (v : Checked) → After7 x t → CheckSays (bodyOrder x (n_of t) (k_of t) (body_of x t) s) v → CheckSays (behindOrder x t s) v
+pub good-behind : (x : Kind) (t : List ℕ) (s : ℕ) (v : Checked) → After7 x t → CheckSays (body_order x (n_of t) (k_of t) (body_of x t) s) v → CheckSays (behind_order x t s) v
 good-behind x t s C.Good a g = (a, g)
 good-behind x t s (C.Refused r) a g = inr (a, g)

@@ -8,43 +8,43 @@
 use Rattle.words.proofs.Plain.{ℕ, ◌+◌, ◌<◌, ◌≤◌, arith, ◌≡◌, sym, ap, ◌∙◌, true, List, length, take, drop, length-drop, length-take-le, take_at, drop_at}
 use Rattle.rings.specs.Necklace.{necklace}
 use Rattle.record_spec.specs.{declared.Kind.Kind, declared.Kind.TheVariants.Front, declared.Entry.TheVariants.Record}
-use Rattle.record_spec.specs.Layout.{bodyLength, n_of, k_of, body_of, storedRing, sectorsOf}
+use Rattle.record_spec.specs.Layout.{body_length, n_of, k_of, body_of, stored_ring, sectors_of}
 use Rattle.record_spec.specs.Says.{ReadSays}
 use Rattle.record_spec.proofs.Forms.{length-shown}
 
 -- a record that is not cut has the bytes of n sectors
-pub length-body : (x : Kind) (t : List ℕ) → 4 + bodyLength x (n_of t) (k_of t) ≤ length t → length (body_of x t) ≡ bodyLength x (n_of t) (k_of t)
-length-body x t h = length-take-le (bodyLength x (n_of t) (k_of t)) (drop 4 t) (simp length-drop (omega arith))
+pub length-body : (x : Kind) (t : List ℕ) → 4 + body_length x (n_of t) (k_of t) ≤ length t → length (body_of x t) ≡ body_length x (n_of t) (k_of t)
+length-body x t h = length-take-le (body_length x (n_of t) (k_of t)) (drop 4 t) (simp length-drop (omega arith))
 
 -- and n sectors
-pub length-ring : (x : Kind) (t : List ℕ) → 4 + bodyLength x (n_of t) (k_of t) ≤ length t → length (storedRing x t) ≡ n_of t
+pub length-ring : (x : Kind) (t : List ℕ) → 4 + body_length x (n_of t) (k_of t) ≤ length t → length (stored_ring x t) ≡ n_of t
 length-ring x t h = length-shown x (n_of t) (k_of t) (body_of x t) (length-body x t h)
 
 -- where a sector is a byte
-pub length-sectors : (t : List ℕ) → 4 + n_of t ≤ length t → length (sectorsOf t) ≡ n_of t
+pub length-sectors : (t : List ℕ) → 4 + n_of t ≤ length t → length (sectors_of t) ≡ n_of t
 length-sectors t h = length-ring Front t h
 
 -- ---- the front ring
 
 module _ (c : List ℕ) (s : ℕ) (b : List ℕ) (n k : ℕ) (x : Kind) (next : ℕ) (d : List ℕ) (h : ReadSays c s b (Record n k x next) d) where
   -- the record is not cut
-  pub uncut : 4 + bodyLength x (n_of (drop s c)) (k_of (drop s c)) ≤ length (drop s c)
+  pub uncut : 4 + body_length x (n_of (drop s c)) (k_of (drop s c)) ≤ length (drop s c)
   uncut = h.2.good.0.1
 
   -- the numbers of the answer are those of the record
-  pub read_length : bodyLength x n k ≡ bodyLength x (n_of (drop s c)) (k_of (drop s c))
-  read_length = ap (λ (i : ℕ). bodyLength x i k) h.2.sectors ∙ ap (λ (i : ℕ). bodyLength x (n_of (drop s c)) i) h.2.shades
+  pub read_length : body_length x n k ≡ body_length x (n_of (drop s c)) (k_of (drop s c))
+  read_length = ap (λ (i : ℕ). body_length x i k) h.2.sectors ∙ ap (λ (i : ℕ). body_length x (n_of (drop s c)) i) h.2.shades
 
-  long : length (storedRing x (drop s c)) ≡ n
+  long : length (stored_ring x (drop s c)) ≡ n
   long = length-ring x (drop s c) uncut ∙ sym h.2.sectors
 
   -- the first n bytes of the output are the front ring
-  pub output-front : take n d ≡ storedRing x (drop s c)
-  output-front = rw h.2.ring (take_at (storedRing x (drop s c)) (drop n b) n long)
+  pub output-front : take n d ≡ stored_ring x (drop s c)
+  output-front = rw h.2.ring (take_at (stored_ring x (drop s c)) (drop n b) n long)
 
   -- the others are as they were
   pub output-rest : drop n d ≡ drop n b
-  output-rest = rw h.2.ring (drop_at (storedRing x (drop s c)) (drop n b) n long)
+  output-rest = rw h.2.ring (drop_at (stored_ring x (drop s c)) (drop n b) n long)
 
   -- the front ring is a necklace
   pub front-necklace : necklace (take n d) ≡ true

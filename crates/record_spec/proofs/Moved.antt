@@ -8,7 +8,7 @@ use Rattle.words.proofs.Plain.{ℕ, ◌+◌, ◌≡◌, sym, ap, ◌∙◌, subs
 use Rattle.rings.specs.Home.{home}
 use Rattle.packing_spec.specs.Packing.{Bytes}
 use Rattle.record_spec.specs.{declared.Kind.Kind, declared.Entry.Entry, declared.Entry.TheVariants.Record}
-use Rattle.record_spec.specs.{declared.Written.Written, declared.Written.TheVariants.After, Layout.bodyLength}
+use Rattle.record_spec.specs.{declared.Written.Written, declared.Written.TheVariants.After, Layout.body_length}
 use Rattle.record_spec.specs.{Says.ReadSays, Writes.WriteSays}
 use Rattle.record_spec.proofs.Rounds.{written_read, length-answer, answer-home, copied, read-written}
 
@@ -28,7 +28,7 @@ module _ (c : List ℕ) (s : ℕ) (b : List ℕ) (n k : ℕ) (x : Kind) (next : 
 
   module _ (q : Bytes c) where
     -- wherever it is written in the form that it had, the same bytes stand as at s
-    pub moved_back : (v' : List ℕ) (p' e' : ℕ) (f' : List ℕ) → WriteSays (take n u) k x v' p' (After e') f' → take (4 + bodyLength x n k) (drop p' f') ≡ take (4 + bodyLength x n k) (drop s c)
+    pub moved_back : (v' : List ℕ) (p' e' : ℕ) (f' : List ℕ) → WriteSays (take n u) k x v' p' (After e') f' → take (4 + body_length x n k) (drop p' f') ≡ take (4 + body_length x n k) (drop s c)
     moved_back v' p' e' f' m =
         copied c s b n k x next d h q v' p' e' f' (subst (λ (z : List ℕ). WriteSays z k x v' p' (After e') f') moved-read.1 m)
 

@@ -11,8 +11,8 @@ use Rattle.words.proofs.Plain.{replicate, length-append, length-take, length-dro
 use Rattle.refusal.specs.{declared.Refusal.Refusal, declared.Refusal.TheVariants.Cut, Order.Given}
 use Rattle.record_spec.specs.{declared.Kind.Kind, declared.Entry.Entry, Says.Read, Says.ReadSays}
 use Rattle.record_spec.specs.declared.Entry.TheVariants.{Record, End, Refused}
-use Rattle.record_spec.specs.Layout.{Marked, MarkedBack, kindByMark, bodyLength, n_of, k_of, body_of, storedRing}
-use Rattle.record_spec.specs.Order.{Known, behindOrder, recordOrder, readOrder, After2, After7, GoodRecord}
+use Rattle.record_spec.specs.Layout.{Marked, MarkedBack, kind_by_mark, body_length, n_of, k_of, body_of, stored_ring}
+use Rattle.record_spec.specs.Order.{Known, behind_order, record_order, read_order, After2, After7, GoodRecord}
 use Rattle.record_spec.proofs.{Forms.few_bytes, Unique.one-read}
 
 -- what is left of a beginning is a beginning of what is left
@@ -40,13 +40,13 @@ module _ (t : List ℕ) where
   same-k = at 3 (omega arith)
 
   -- the bytes behind the head, and the sectors that they hold, where n and k are good
-  few : (x : Kind) → After2 t → bodyLength x (n_of t) (k_of t) ≤ 64
+  few : (x : Kind) → After2 t → body_length x (n_of t) (k_of t) ≤ 64
   few x h = omega (arith, few_bytes (n_of t) (k_of t) x h.1)
 
   same_body : (x : Kind) → After2 t → body_of x (opening t) ≡ body_of x t
-  same_body x h = rw (same-n, same-k, drop-take 4 64 t) (take-take (bodyLength x (n_of t) (k_of t)) 64 (drop 4 t) (few x h))
+  same_body x h = rw (same-n, same-k, drop-take 4 64 t) (take-take (body_length x (n_of t) (k_of t)) 64 (drop 4 t) (few x h))
 
-  same-ring : (x : Kind) → After2 t → storedRing x (opening t) ≡ storedRing x t
+  same-ring : (x : Kind) → After2 t → stored_ring x (opening t) ≡ stored_ring x t
   same-ring x h = rw (same_body x h, same-n, same-k)
 
   -- each check tells the same of both
@@ -70,9 +70,9 @@ module _ (t : List ℕ) where
   after-head : 4 ≤ length t → 4 ≤ length (opening t)
   after-head h = simp length-take (omega arith)
 
-  same_kind : kindByMark (opening t) ≡ kindByMark t
-  unfolding kindByMark
-  same_kind = rw (at 1 (omega arith), kindByMark)
+  same_kind : kind_by_mark (opening t) ≡ kind_by_mark t
+  unfolding kind_by_mark
+  same_kind = rw (at 1 (omega arith), kind_by_mark)
 
   after2 : After2 t → After2 (opening t)
   after2 h = (rw same-n h.0, rw same-k h.1)
@@ -96,7 +96,7 @@ module _ (t : List ℕ) where
       }
 
   -- what stands behind the mark is refused so there
-  opening-behind : (x : Kind) (s : ℕ) (r : Refusal) → Given (behindOrder x t s) r → Given (behindOrder x (opening t) s) r
+  opening-behind : (x : Kind) (s : ℕ) (r : Refusal) → Given (behind_order x t s) r → Given (behind_order x (opening t) s) r
   opening-behind x s r (inl (inl (inl (e, k)))) = inl (inl (inl (e, rw same-n k)))
   opening-behind x s r (inl (inl (inr (h, (e, k))))) = inl (inl (inr (rw same-n h, (e, rw same-k k))))
   opening-behind x s r (inl (inr (h, (e, k)))) =
@@ -104,12 +104,12 @@ module _ (t : List ℕ) where
   opening-behind x s r (inr (h, u)) = inr (after7 x h, rw (same_body x h.0, same-n, same-k) u)
 
   -- a record that is refused is refused so there
-  pub opening-given : (s : ℕ) (r : Refusal) → Given (recordOrder t s) r → Given (recordOrder (opening t) s) r
+  pub opening-given : (s : ℕ) (r : Refusal) → Given (record_order t s) r → Given (record_order (opening t) s) r
   opening-given s r (inl (inl (inl (e, h)))) = inl (inl (inl (e, λ l. h (omega (arith, rw length-take at l)))))
   opening-given s r (inl (inl (inr (h, (e, k))))) = inl (inl (inr (after-head h, (e, λ q. k (known-here q)))))
   opening-given s r (inl (inr ((h, m), (e, k)))) = inl (inr ((after-head h, known-there m), (e, λ q. k (λ b. q (back-there b)))))
   opening-given s r (inr (((h, m), q), u)) =
-      inr (((after-head h, known-there m), λ b. q (back-here b)), rw same_kind (opening-behind (kindByMark t) s r u))
+      inr (((after-head h, known-there m), λ b. q (back-here b)), rw same_kind (opening-behind (kind_by_mark t) s r u))
 
 -- ---- any catalogue
 
@@ -134,7 +134,7 @@ trimmed c s b r d l = go r
     go End (e, h, f) = (e, omega (arith, long, length-take 68 t, length-drop s c), f)
     go (Refused r) (g, f) = (refuse g, f)
       where
-        refuse : Given (readOrder c s (length b)) r → Given (readOrder (replicate s 0 ++ opening t) s (length b)) r
+        refuse : Given (read_order c s (length b)) r → Given (read_order (replicate s 0 ++ opening t) s (length b)) r
         refuse (inl (inl g)) = inl (inl g)
         refuse (inl (inr (h, (e, k)))) = absurd (k l)
         refuse (inr (h, (i, k))) = inr ((h.0, omega (arith, long)), (some i, rw part (opening-given t s r k)))

@@ -12,28 +12,28 @@ use Rattle.words.proofs.Plain.{length-drop, take_at, get_or-take, get_or-drop}
 use Rattle.words.specs.Readings.{Sized, Shaded, Reading}
 use Rattle.rings.specs.{Necklace.necklace, Home.home}
 use Rattle.ring_home_laws.proofs.Home.{length-home, home-necklace, necklace-home}
-use Rattle.refusal.specs.{Order.Passed, Calls.Below, Calls.oneReading}
+use Rattle.refusal.specs.{Order.Passed, Calls.Below, Calls.one_reading}
 use Rattle.packing_spec.specs.Packing.{Bytes}
 use Rattle.record_spec.specs.{declared.Kind.Kind, declared.Entry.Entry, declared.Entry.TheVariants.Record}
 use Rattle.record_spec.specs.{declared.Written.Written, declared.Written.TheVariants.After, Says.Read, Says.ReadSays}
-use Rattle.record_spec.specs.Layout.{bodyLength, stored, shown, isClear, n_of, k_of, body_of, storedRing}
+use Rattle.record_spec.specs.Layout.{body_length, stored, shown, is_clear, n_of, k_of, body_of, stored_ring}
 use Rattle.record_spec.specs.Writes.{Wrote, WriteSays}
 use Rattle.record_spec.proofs.Forms.{shown-stored, stored-shown, clear-stored}
 use Rattle.record_spec.proofs.{Unique.one-read, Laid.laid-sectors, Laid.whole}
 use Rattle.record_spec.proofs.Laws.{length-body, length-ring, uncut, read_length, output-front}
-use Rattle.record_spec.proofs.Wrote.{recordBytes, home_below, length-home-stored, length-record, placed-bytes, bytes-placed, one-write}
+use Rattle.record_spec.proofs.Wrote.{record_bytes, home_below, length-home-stored, length-record, placed-bytes, bytes-placed, one-write}
 
 -- ---- a reading of good numbers
 
-pub reading-passed : (w : List ℕ) (k n : ℕ) → Sized n → Shaded k → Reading n k w → Passed (oneReading w k)
+pub reading-passed : (w : List ℕ) (k n : ℕ) → Sized n → Shaded k → Reading n k w → Passed (one_reading w k)
 reading-passed w k n z h r = ((((((rw r.long z, tt), h), λ i l. r.shades i (omega (arith, r.long))), tt), tt), refl)
 
 -- ---- written, and then read
 
 -- a record that stands at the front of u, before any bytes z
-module _ (w : List ℕ) (k : ℕ) (x : Kind) (z : List ℕ) (g : Passed (oneReading w k)) where
+module _ (w : List ℕ) (k : ℕ) (x : Kind) (z : List ℕ) (g : Passed (one_reading w k)) where
   abbrev u : List ℕ
-  u = recordBytes x k w ++ z
+  u = record_bytes x k w ++ z
 
   some : 0 < length w
   some = g.0.0.0.0.0.0.0
@@ -44,23 +44,23 @@ module _ (w : List ℕ) (k : ℕ) (x : Kind) (z : List ℕ) (g : Passed (oneRead
   body : body_of x u ≡ stored x k (home w)
   body = laid-sectors x (length w) k (stored x k (home w)) z (length-home-stored w k x g)
 
-  ring : storedRing x u ≡ home w
+  ring : stored_ring x u ≡ home w
   ring =
       ap (λ (b : List ℕ). shown x (length w) k b) body
       ∙ ap (λ (i : ℕ). shown x i k (stored x k (home w))) (sym (length-home w some))
       ∙ shown-stored x k (home w) homely
 
-  clear : isClear x (length w) k (body_of x u) ≡ true
+  clear : is_clear x (length w) k (body_of x u) ≡ true
   clear =
-      ap (λ (b : List ℕ). isClear x (length w) k b) body
-      ∙ ap (λ (i : ℕ). isClear x i k (stored x k (home w))) (sym (length-home w some))
+      ap (λ (b : List ℕ). is_clear x (length w) k b) body
+      ∙ ap (λ (i : ℕ). is_clear x i k (stored x k (home w))) (sym (length-home w some))
       ∙ clear-stored x k (home w) homely
 
-  long : length u ≡ 4 + bodyLength x (length w) k + length z
-  long = omega (arith, length-append (recordBytes x k w) z, length-record w k x g)
+  long : length u ≡ 4 + body_length x (length w) k + length z
+  long = omega (arith, length-append (record_bytes x k w) z, length-record w k x g)
 
   -- it is read
-  reads_here : (p : ℕ) (o : List ℕ) → Read u p o (length w) k x (p + 4 + bodyLength x (length w) k) (home w ++ drop (length w) o)
+  reads_here : (p : ℕ) (o : List ℕ) → Read u p o (length w) k x (p + 4 + body_length x (length w) k) (home w ++ drop (length w) o)
   reads_here p o =
       record {
         good =
@@ -74,18 +74,18 @@ module _ (w : List ℕ) (k : ℕ) (x : Kind) (z : List ℕ) (g : Passed (oneRead
 
 module _ (w : List ℕ) (k : ℕ) (x : Kind) (b : List ℕ) (p e : ℕ) (d : List ℕ) (h : Wrote w k x b p e d) where
   -- the record stands at p
-  here : drop p d ≡ recordBytes x k w ++ drop (4 + bodyLength x (length w) k) (drop p b)
+  here : drop p d ≡ record_bytes x k w ++ drop (4 + body_length x (length w) k) (drop p b)
   here = placed-bytes w k x h.passed (drop p b) (drop p d) h.here
 
   -- p is in the buffer
   within : p < length d
   within =
-      let l : length (drop p d) ≡ length (recordBytes x k w ++ drop (4 + bodyLength x (length w) k) (drop p b)) = ap (λ (v : List ℕ). length v) here in
+      let l : length (drop p d) ≡ length (record_bytes x k w ++ drop (4 + body_length x (length w) k) (drop p b)) = ap (λ (v : List ℕ). length v) here in
       omega (arith, l, length-drop p d)
 
   -- what the reader may answer
   pub written-reads : (o : List ℕ) → length o ≡ 64 → ReadSays d p o (Record (length w) k x e) (home w ++ drop (length w) o)
-  written-reads o l = (l, within, rw (here, h.follows) (reads_here w k x (drop (4 + bodyLength x (length w) k) (drop p b)) h.passed p o))
+  written-reads o l = (l, within, rw (here, h.follows) (reads_here w k x (drop (4 + body_length x (length w) k) (drop p b)) h.passed p o))
 
   -- and what it does
   pub written_read : (o : List ℕ) (r : Entry) (u : List ℕ) → length o ≡ 64 → ReadSays d p o r u → (r ≡ Record (length w) k x e) × (u ≡ home w ++ drop (length w) o)
@@ -97,71 +97,71 @@ module _ (c : List ℕ) (s : ℕ) (b : List ℕ) (n k : ℕ) (x : Kind) (next : 
   abbrev t : List ℕ
   t = drop s c
 
-  cut : 4 + bodyLength x (n_of t) (k_of t) ≤ length t
+  cut : 4 + body_length x (n_of t) (k_of t) ≤ length t
   cut = uncut c s b n k x next d h
 
-  same : bodyLength x n k ≡ bodyLength x (n_of t) (k_of t)
+  same : body_length x n k ≡ body_length x (n_of t) (k_of t)
   same = read_length c s b n k x next d h
 
-  longRing : length (storedRing x t) ≡ n
-  longRing = length-ring x t cut ∙ sym h.2.sectors
+  long_ring : length (stored_ring x t) ≡ n
+  long_ring = length-ring x t cut ∙ sym h.2.sectors
 
   sized : Sized n
   sized = rw h.2.sectors h.2.good.0.0.0
 
-  front : take n d ≡ storedRing x t
+  front : take n d ≡ stored_ring x t
   front = output-front c s b n k x next d h
 
   -- what was answered has n sectors
   pub length-answer : length (take n d) ≡ n
-  length-answer = ap (λ (v : List ℕ). length v) front ∙ longRing
+  length-answer = ap (λ (v : List ℕ). length v) front ∙ long_ring
 
   -- and is its own home reading
   pub answer-home : home (take n d) ≡ take n d
-  answer-home = ap home front ∙ necklace-home (storedRing x t) (omega (arith, longRing, sized.0)) h.2.good.1.1 ∙ sym front
+  answer-home = ap home front ∙ necklace-home (stored_ring x t) (omega (arith, long_ring, sized.0)) h.2.good.1.1 ∙ sym front
 
   -- it passes the writer's checks
-  pub answer-passes : Passed (oneReading (take n d) k)
+  pub answer-passes : Passed (one_reading (take n d) k)
   answer-passes =
-      rw front (reading-passed (storedRing x t) k n sized (rw h.2.shades h.2.good.0.0.1)
-      (record { long = longRing; shades = λ i l. rw h.2.shades (h.2.good.1.0.0 i (omega (arith, longRing))) }))
+      rw front (reading-passed (stored_ring x t) k n sized (rw h.2.shades h.2.good.0.0.1)
+      (record { long = long_ring; shades = λ i l. rw h.2.shades (h.2.good.1.0.0 i (omega (arith, long_ring))) }))
 
   module _ (q : Bytes c) where
     -- the bytes behind the head are bytes
-    bodyBytes : Bytes (body_of x t)
-    bodyBytes i l =
-        let m : i < bodyLength x (n_of t) (k_of t) = omega (arith, length-body x t cut) in
-        rw (get_or-take (bodyLength x (n_of t) (k_of t)) (drop 4 t) i 0 m, get_or-drop 4 t i 0, get_or-drop s c (4 + i) 0) (q (s + (4 + i)) (omega (arith, cut, length-drop s c)))
+    body_bytes : Bytes (body_of x t)
+    body_bytes i l =
+        let m : i < body_length x (n_of t) (k_of t) = omega (arith, length-body x t cut) in
+        rw (get_or-take (body_length x (n_of t) (k_of t)) (drop 4 t) i 0 m, get_or-drop 4 t i 0, get_or-drop s c (4 + i) 0) (q (s + (4 + i)) (omega (arith, cut, length-drop s c)))
 
     -- and those of the ring that was answered
     stands : stored x k (home (take n d)) ≡ body_of x t
     stands =
         ap (λ (v : List ℕ). stored x k v) (answer-home ∙ front)
-        ∙ ap (λ (i : ℕ). stored x i (storedRing x t)) h.2.shades
-        ∙ stored-shown x (n_of t) (k_of t) (body_of x t) (length-body x t cut) bodyBytes h.2.good.1.0.1
+        ∙ ap (λ (i : ℕ). stored x i (stored_ring x t)) h.2.shades
+        ∙ stored-shown x (n_of t) (k_of t) (body_of x t) (length-body x t cut) body_bytes h.2.good.1.0.1
 
     -- the catalogue from s on
-    split : t ≡ recordBytes x k (take n d) ++ drop (4 + bodyLength x (length (take n d)) k) t
+    split : t ≡ record_bytes x k (take n d) ++ drop (4 + body_length x (length (take n d)) k) t
     split = whole x t (length (take n d)) k (stored x k (home (take n d))) (omega (arith, cut)) h.2.marked (length-answer ∙ h.2.sectors) h.2.shades stands
 
-    length-again : length (recordBytes x k (take n d)) ≡ 4 + bodyLength x n k
-    length-again = length-record (take n d) k x answer-passes ∙ ap (λ (i : ℕ). 4 + bodyLength x i k) length-answer
+    length-again : length (record_bytes x k (take n d)) ≡ 4 + body_length x n k
+    length-again = length-record (take n d) k x answer-passes ∙ ap (λ (i : ℕ). 4 + body_length x i k) length-answer
 
     -- the bytes that were read
-    pub same_bytes : recordBytes x k (take n d) ≡ take (4 + bodyLength x n k) t
+    pub same_bytes : record_bytes x k (take n d) ≡ take (4 + body_length x n k) t
     same_bytes =
-        sym (ap (take (4 + bodyLength x n k)) split ∙ take_at (recordBytes x k (take n d)) (drop (4 + bodyLength x (length (take n d)) k) t) (4 + bodyLength x n k) length-again)
+        sym (ap (take (4 + body_length x n k)) split ∙ take_at (record_bytes x k (take n d)) (drop (4 + body_length x (length (take n d)) k) t) (4 + body_length x n k) length-again)
 
     -- so that wherever it is written, the same bytes stand there
-    pub copied : (v : List ℕ) (p e : ℕ) (f : List ℕ) → WriteSays (take n d) k x v p (After e) f → take (4 + bodyLength x n k) (drop p f) ≡ take (4 + bodyLength x n k) t
+    pub copied : (v : List ℕ) (p e : ℕ) (f : List ℕ) → WriteSays (take n d) k x v p (After e) f → take (4 + body_length x n k) (drop p f) ≡ take (4 + body_length x n k) t
     copied v p e f g =
-        ap (take (4 + bodyLength x n k)) (placed-bytes (take n d) k x answer-passes (drop p v) (drop p f) g.here)
-        ∙ take_at (recordBytes x k (take n d)) (drop (4 + bodyLength x (length (take n d)) k) (drop p v)) (4 + bodyLength x n k) length-again
+        ap (take (4 + body_length x n k)) (placed-bytes (take n d) k x answer-passes (drop p v) (drop p f) g.here)
+        ∙ take_at (record_bytes x k (take n d)) (drop (4 + body_length x (length (take n d)) k) (drop p v)) (4 + body_length x n k) length-again
         ∙ same_bytes
 
     -- the number of bytes, told by the answer
-    told : bodyLength x (length (take n d)) k ≡ bodyLength x n k
-    told = ap (λ (i : ℕ). bodyLength x i k) length-answer
+    told : body_length x (length (take n d)) k ≡ body_length x n k
+    told = ap (λ (i : ℕ). body_length x i k) length-answer
 
     -- what the writer may answer
     pub read-writes : WriteSays (take n d) k x c s (After next) c

@@ -2,13 +2,13 @@
 --     written_of t b r      what the output holds after the answer r, where it held b before
 --     one-read             no two answers satisfy the contract, the output included
 use Rattle.words.proofs.Plain.{ℕ, ◌≡◌, sym, ap, ◌∙◌, List, ◌++◌, drop}
-use Rattle.record_spec.specs.{declared.Entry.Entry, Layout.storedRing, Says.ReadSays}
+use Rattle.record_spec.specs.{declared.Entry.Entry, Layout.stored_ring, Says.ReadSays}
 use Rattle.record_spec.specs.declared.Entry.TheVariants.{Record, End, Refused}
 use Rattle.record_spec.proofs.Answer.{fixed}
 
 -- the output after an answer; t is the part of the catalogue that begins at the start
 abbrev pub written_of : List ℕ → List ℕ → Entry → List ℕ
-written_of t b (Record n k x next) = storedRing x t ++ drop n b
+written_of t b (Record n k x next) = stored_ring x t ++ drop n b
 written_of t b End = b
 written_of t b (Refused r) = b
 

@@ -7,8 +7,8 @@ use Rattle.refusal.specs.Order.{Given}
 use Rattle.record_spec.specs.declared.Kind.{Kind}
 use Rattle.record_spec.specs.declared.Entry.{Entry}
 use Rattle.record_spec.specs.declared.Entry.TheVariants.{Record, End, Refused}
-use Rattle.record_spec.specs.Layout.{Marked, bodyLength, n_of, k_of, storedRing}
-use Rattle.record_spec.specs.Order.{GoodRecord, readOrder}
+use Rattle.record_spec.specs.Layout.{Marked, body_length, n_of, k_of, stored_ring}
+use Rattle.record_spec.specs.Order.{GoodRecord, read_order}
 
 -- t is the part of the catalogue that begins at s; x is the kind that its mark tells; the front ring, which is what is stored, stands in the first n bytes of the output, the others are as they were
 pub record Read (t : List ℕ) (s : ℕ) (b : List ℕ) (n k : ℕ) (x : Kind) (next : ℕ) (d : List ℕ) : Type 0 where
@@ -16,10 +16,10 @@ pub record Read (t : List ℕ) (s : ℕ) (b : List ℕ) (n k : ℕ) (x : Kind) (
   pub marked : Marked t x
   pub sectors : n ≡ n_of t
   pub shades : k ≡ k_of t
-  pub follows : next ≡ s + 4 + bodyLength x n k
-  pub ring : d ≡ storedRing x t ++ drop n b
+  pub follows : next ≡ s + 4 + body_length x n k
+  pub ring : d ≡ stored_ring x t ++ drop n b
 
 abbrev pub ReadSays : List ℕ → ℕ → List ℕ → Entry → List ℕ → Type 0
 ReadSays c s b (Record n k x next) d = (length b ≡ 64) × (s < length c) × Read (drop s c) s b n k x next d
 ReadSays c s b End d = (length b ≡ 64) × (s ≡ length c) × (d ≡ b)
-ReadSays c s b (Refused r) d = Given (readOrder c s (length b)) r × (d ≡ b)
+ReadSays c s b (Refused r) d = Given (read_order c s (length b)) r × (d ≡ b)

@@ -1,5 +1,7 @@
 // A catalogue's record (01, 'Catalogue records'; 02, k): its kind, and what reading and writing it answer. The calls are those of `catalogue` and `writer`.
 
+#![tactic(auto)]
+
 use refusal::Refusal;
 
 // The mark: its first byte, its second byte in a front record and in a packed one, and that of a back record, which is retired (02, j).

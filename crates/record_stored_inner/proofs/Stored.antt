@@ -7,21 +7,21 @@ use Rattle.words.specs.Readings.{Shaded}
 use Rattle.rings.specs.Home.{home}
 use Rattle.ring_home_laws.proofs.Home.{length-home}
 use Rattle.packing_spec.specs.Width.{width}
-use Rattle.packing_spec.specs.Packing.{BitsFit, packedLength, packed}
+use Rattle.packing_spec.specs.Packing.{BitsFit, packed_length, packed}
 use Rattle.packing_laws.proofs.Width.{shades-fit, narrow}
-use Rattle.refusal.specs.{Order.Passed, Calls.oneReading}
-use Rattle.record_spec.specs.{declared.Kind.TheVariants.Packed, Layout.bodyLength, Layout.stored}
+use Rattle.refusal.specs.{Order.Passed, Calls.one_reading}
+use Rattle.record_spec.specs.{declared.Kind.TheVariants.Packed, Layout.body_length, Layout.stored}
 use Rattle.record_spec.proofs.Wrote.{home_below}
 
 -- the number of bytes
-pub length-told : (n k u l : ℕ) → u ≡ width k → l ≡ packedLength u n → l ≡ bodyLength Packed n k
-length-told n k u l e f = f ∙ ap (λ (x : ℕ). packedLength x n) e
+pub length-told : (n k u l : ℕ) → u ≡ width k → l ≡ packed_length u n → l ≡ body_length Packed n k
+length-told n k u l e f = f ∙ ap (λ (x : ℕ). packed_length x n) e
 
 -- the home reading may be packed
-pub pack-asks : (w : List ℕ) (k u m : ℕ) (v : List ℕ) → Passed (oneReading w k) → u ≡ width k → v ≡ home w → m ≡ bodyLength Packed (length w) k →
-    (u ≤ 8) × BitsFit u v × (m ≡ packedLength u (length v))
+pub pack-asks : (w : List ℕ) (k u m : ℕ) (v : List ℕ) → Passed (one_reading w k) → u ≡ width k → v ≡ home w → m ≡ body_length Packed (length w) k →
+    (u ≤ 8) × BitsFit u v × (m ≡ packed_length u (length v))
 pack-asks w k u m v g e f l =
-    (omega (arith, e, narrow k g.0.0.0.0.1), rw (e, f) (shades-fit k (home w) (home_below w k g)), rw (e, f) (l ∙ ap (packedLength (width k)) (sym (length-home w g.0.0.0.0.0.0.0))))
+    (omega (arith, e, narrow k g.0.0.0.0.1), rw (e, f) (shades-fit k (home w) (home_below w k g)), rw (e, f) (l ∙ ap (packed_length (width k)) (sym (length-home w g.0.0.0.0.0.0.0))))
 
 -- what comes of it
 pub pack-told : (w : List ℕ) (k u : ℕ) (v o : List ℕ) → u ≡ width k → v ≡ home w → o ≡ packed u v → o ≡ stored Packed k (home w)

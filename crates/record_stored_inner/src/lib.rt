@@ -1,19 +1,21 @@
 // The bytes that a record stores of a ring, behind its head, written where they are to stand. No public calls: the callers check what this asks for.
 
+#![tactic(auto)]
+
 ghost use Rattle.std.specs.Prelude.{◌≡◌, ◌<◌, length};
 ghost use Rattle.words.specs.Readings.{Sized, Shaded};
 ghost use Rattle.rings.specs.Home.{home};
 ghost use Rattle.refusal.specs.Order.{Passed};
-ghost use Rattle.refusal.specs.Calls.{oneReading};
+ghost use Rattle.refusal.specs.Calls.{one_reading};
 ghost use Rattle.record_spec.specs.declared.Kind.TheVariants.{Packed};
-ghost use Rattle.record_spec.specs.Layout.{bodyLength, stored};
+ghost use Rattle.record_spec.specs.Layout.{body_length, stored};
 
 use record_spec::Kind;
 
 // How many bytes they are.
 pub fn body_length(kind: Kind, n: usize, k: usize) -> usize
     requires { Sized n × Shaded k }
-    ensures { result ≡ bodyLength kind n k }
+    ensures { result ≡ body_length kind n k }
 {
     match kind {
         Kind::Front => n,
@@ -23,7 +25,7 @@ pub fn body_length(kind: Kind, n: usize, k: usize) -> usize
 
 // Writes them.
 pub fn put_body(reading: &[u8], k: usize, kind: Kind, out: &mut [u8])
-    requires { Passed (oneReading reading.now k) × (length out.old ≡ bodyLength kind (length reading.now) k) }
+    requires { Passed (one_reading reading.now k) × (length out.old ≡ body_length kind (length reading.now) k) }
     ensures { out.new ≡ stored kind k (home reading.now) }
 {
     match kind {
@@ -43,7 +45,7 @@ fn put_home(reading: &[u8], out: &mut [u8])
 
 // Writes the home reading packed.
 fn put_packed(reading: &[u8], k: usize, out: &mut [u8])
-    requires { Passed (oneReading reading.now k) × (length out.old ≡ bodyLength Packed (length reading.now) k) }
+    requires { Passed (one_reading reading.now k) × (length out.old ≡ body_length Packed (length reading.now) k) }
     ensures { out.new ≡ stored Packed k (home reading.now) }
 {
     let n = reading.len();

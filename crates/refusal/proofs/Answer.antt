@@ -1,4 +1,4 @@
--- The general order computes its answer: `refusalOf a` is the refusal that a call which asks `a` is given, or none.
+-- The general order computes its answer: `refusal_of a` is the refusal that a call which asks `a` is given, or none.
 --     tests a     the tests of its checks
 --     decided     what the computed answer says holds, so that every call has one
 use Rattle.words.proofs.Plain.{◌≡◌, ◌&&◌, Option, ltb, eqb, length, get_or}
@@ -18,12 +18,12 @@ tests a =
     ▹ one (passing a.counts (λ cs. eqb (length cs) a.k && eqb (sum_of cs) a.n))
     (passing-tells a.counts (λ cs. eqb (length cs) a.k && eqb (sum_of cs) a.n) (λ cs. CountsFit cs a.k a.n)
     (λ cs. both-tell (equal-tells (length cs) a.k) (equal-tells (sum_of cs) a.n)))
-    ▹ one a.onWalk (same-tells a.onWalk)
+    ▹ one a.on_walk (same-tells a.on_walk)
 
 -- the refusal that is given, or none
-unfoldable pub refusalOf : Asked → Option Refusal
-refusalOf a = answer (tests a)
+unfoldable pub refusal_of : Asked → Option Refusal
+refusal_of a = answer (tests a)
 
-pub decided : (a : Asked) → Answers (general a) (refusalOf a)
-unfolding refusalOf
+pub decided : (a : Asked) → Answers (general a) (refusal_of a)
+unfolding refusal_of
 decided a = answered (tests a)

@@ -1,4 +1,7 @@
 // Refusals: their numbers and places. The checks that give them stand above, in `check_numbers_inner`, `check_readings_inner`, `check_counts_inner` and `walk_checks_inner`.
+
+#![tactic(auto)]
+
 ghost use Rattle.std.specs.Prelude.{◌≡◌};
 ghost use Rattle.refusal.specs.Numbers.{number_of, place_of};
 

@@ -10,24 +10,24 @@ use native.Mathlib.Nat.{div-mul-le_self}
 use Rattle.stream_spec.specs.{Lines.under, Blocks.BlockSays}
 use Rattle.stream_spec.specs.Blocks as stream
 use Rattle.report_spec.specs.{declared.Pending.Pending, declared.Fed.Fed, Lines.Answers}
-use Rattle.report_spec.specs.Blocks.{lineRoom, keep, line_of, state_of, bytesFor, FeedSays, FinishSays, small, last}
+use Rattle.report_spec.specs.Blocks.{line_room, keep, line_of, state_of, bytes_for, FeedSays, FinishSays, small, last}
 use Rattle.stream_blocks_inner.specs.Says.{smaller}
 use Rattle.stream_blocks_inner.proofs.Smaller.{smaller-first, smaller-second, smaller-left, smaller-right}
 
 -- ---- how much is taken
 
-module _ (s b : List ℕ) (m : ℕ) (e : m ≡ smaller (length b / lineRoom) (length s)) where
-  pub taken_is : m ≡ bytesFor s b
-  unfolding bytesFor smaller
+module _ (s b : List ℕ) (m : ℕ) (e : m ≡ smaller (length b / line_room) (length s)) where
+  pub taken_is : m ≡ bytes_for s b
+  unfolding bytes_for smaller
   taken_is = e
 
   -- no more than there are
   pub taken-within : m ≤ length s
-  taken-within = omega (arith, e, smaller-right (length b / lineRoom) (length s))
+  taken-within = omega (arith, e, smaller-right (length b / line_room) (length s))
 
   -- and there is room for a line each
-  pub taken-room : length (take m s) * lineRoom ≤ length b
-  taken-room = simp length-take (omega (arith, e, smaller-left (length b / lineRoom) (length s)))
+  pub taken-room : length (take m s) * line_room ≤ length b
+  taken-room = simp length-take (omega (arith, e, smaller-left (length b / line_room) (length s)))
 
 -- ---- a state
 
@@ -79,24 +79,24 @@ state-kept u = ap (λ (x : List ℕ). record { line = x ++ replicate (9 - length
 
 -- ---- a block
 
-pub feed-says : (p : Pending) (s b : List ℕ) → length p.line ≡ 9 → (m : ℕ) → m ≡ smaller (length b / lineRoom) (length s) → (len : ℕ) → len ≡ smaller p.len 9 →
+pub feed-says : (p : Pending) (s b : List ℕ) → length p.line ≡ 9 → (m : ℕ) → m ≡ smaller (length b / line_room) (length s) → (len : ℕ) → len ≡ smaller p.len 9 →
     (v : List ℕ) (r : ℕ) (b' : List ℕ) → BlockSays Answers 9 (take len p.line) (take m s) b v r b' → (state : Pending) → state ≡ state_of v →
     FeedSays p s b (record { state = state; taken = m; length = r }) b'
 feed-says p s b l m e len f v r b' t state g =
     let i = taken_is s b m e in
-    let y : BlockSays Answers 9 (line_of p) (take (bytesFor s b) s) b v r b' = rw (line-take p l len f, i) at t in
+    let y : BlockSays Answers 9 (line_of p) (take (bytes_for s b) s) b v r b' = rw (line-take p l len f, i) at t in
     record {
       text = y.text;
       taken = i;
       says = y.says;
-      state = g ∙ ap state_of y.line ∙ state-kept (under (line_of p) (take (bytesFor s b) s));
+      state = g ∙ ap state_of y.line ∙ state-kept (under (line_of p) (take (bytes_for s b) s));
       long = y.long;
       bytes = y.bytes;
     }
 
 -- ---- the end of the input
 
-pub end-says : (p : Pending) (b : List ℕ) → length p.line ≡ 9 → lineRoom ≤ length b → (len : ℕ) → len ≡ smaller p.len 9 → (r : ℕ) (b' : List ℕ) →
+pub end-says : (p : Pending) (b : List ℕ) → length p.line ≡ 9 → line_room ≤ length b → (len : ℕ) → len ≡ smaller p.len 9 → (r : ℕ) (b' : List ℕ) →
     stream.EndSays Answers (take len p.line) b r b' → FinishSays p b r b'
 end-says p b l h len f r b' t =
     let y : stream.EndSays Answers (line_of p) b r b' = rw (line-take p l len f) at t in

@@ -1,5 +1,7 @@
 // The report (02, request f): many lines of k and n, and for each the necklaces and the Lyndon words, or a refusal. The input comes in blocks, cut anywhere.
 
+#![tactic(auto)]
+
 ghost use Rattle.std.specs.Prelude.{◌≤◌, ◌≡◌, [], length, take};
 ghost use Rattle.report_spec.specs.Blocks.{state_of, FeedSays, FinishSays};
 

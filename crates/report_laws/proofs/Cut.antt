@@ -8,7 +8,7 @@ use Rattle.stream_spec.specs.{Lines.under, Texts.over, Texts.block}
 use Rattle.stream_spec.specs.Texts as stream
 use Rattle.stream_spec.proofs.Cut as cut
 use Rattle.report_spec.specs.{declared.Pending.Pending, declared.Fed.Fed, Lines.Answers, Lines.Reports}
-use Rattle.report_spec.specs.Blocks.{lineRoom, keep, line_of, state_of, bytesFor, FeedSays, FinishSays, small, last, ReportRun, ends, feeds}
+use Rattle.report_spec.specs.Blocks.{line_room, keep, line_of, state_of, bytes_for, FeedSays, FinishSays, small, last, ReportRun, ends, feeds}
 use Rattle.report_laws.proofs.Kept.{report-tells}
 
 -- the line under way of a state
@@ -24,7 +24,7 @@ pub run-run : {p : Pending} {s text : List ℕ} → ReportRun p s text → strea
 run-run {p} (ends l (small m x y)) = absurd (omega arith)
 run-run {p} (ends {b = b} {b' = b'} {r = r} l (last m t q x y)) = rw (front t b b' r y x) (over q)
 run-run {p} (feeds {s = s} {b = b} {b' = b'} {rest = rest} {text = text} {r = r} f g) =
-    let x = take (bytesFor s b) s in
+    let x = take (bytes_for s b) s in
     let i : stream.BlockRun Answers 9 (keep (under (line_of p) x)) rest text =
     subst (λ (z : List ℕ). stream.BlockRun Answers 9 z rest text) (ap line_of f.state ∙ state-line (under (line_of p) x)) (run-run g) in
     rw (front f.text b b' r.length f.bytes f.long, f.taken) (block x f.says i)

@@ -9,7 +9,7 @@ use Rattle.line_spec.specs.Line.{Spells}
 use Rattle.line_spec.proofs.Lines.{line-short}
 use Rattle.plan_spec.specs.Plan.{malformed, spelt, PlanSays}
 use Rattle.plan_spec.proofs.First.{plan-first}
-use Rattle.how_many_spec.specs.Says.{mostCounted}
+use Rattle.how_many_spec.specs.Says.{most_counted}
 use Rattle.stream_spec.specs.Texts.{Tells}
 use Rattle.report_spec.specs.Lines.{Answers, counted, refused}
 use Rattle.report_spec.specs.Blocks.{keep}
@@ -36,13 +36,13 @@ module _ (s : List ℕ) where
 
   -- what the first 9 bytes print, the line prints
   pub answer-keep : (t : List ℕ) → Answers (keep s) t → Answers s t
-  answer-keep t (counted k n p e) = counted k n (plan-first 9 s (omega arith) mostCounted (Accepted k n) p) e
-  answer-keep t (refused r p e) = refused r (plan-first 9 s (omega arith) mostCounted (Refused r) p) e
+  answer-keep t (counted k n p e) = counted k n (plan-first 9 s (omega arith) most_counted (Accepted k n) p) e
+  answer-keep t (refused r p e) = refused r (plan-first 9 s (omega arith) most_counted (Refused r) p) e
 
   -- what the line prints, its first 9 bytes print
   keep-answer : (t : List ℕ) → Answers s t → Answers (keep s) t
-  keep-answer t (counted k n p e) = counted k n (plan-kept mostCounted (Accepted k n) p) e
-  keep-answer t (refused r p e) = refused r (plan-kept mostCounted (Refused r) p) e
+  keep-answer t (counted k n p e) = counted k n (plan-kept most_counted (Accepted k n) p) e
+  keep-answer t (refused r p e) = refused r (plan-kept most_counted (Refused r) p) e
 
 -- a line prints one text, and its first 9 bytes tell which
 pub report-tells : Tells Answers 9

@@ -3,31 +3,31 @@
 --     one-report     and so does an input
 --     one-feed, one_end    a block that is taken, and the end of the input: the answer and the buffer afterwards
 use Rattle.words.proofs.Plain.{ℕ, arith, ◌≡◌, refl, sym, ap, ◌∙◌, List, [], ◌∷◌, ◌++◌, length, take, drop}
-use Rattle.rings.specs.{Necklace.necklace, Necklace.lyndon, Steps.howMany}
+use Rattle.rings.specs.{Necklace.necklace, Necklace.lyndon, Steps.how_many}
 use Rattle.refusal.specs.{declared.Refusal.Refusal, Numbers.number_of}
-use Rattle.text_spec.specs.Text.{refusedLine}
+use Rattle.text_spec.specs.Text.{refused_line}
 use Rattle.limits_spec.specs.declared.Planned.{Planned}
 use Rattle.limits_spec.specs.declared.Planned.TheVariants.{Accepted, Refused}
 use Rattle.plan_spec.proofs.Unique.{one-plan}
-use Rattle.how_many_spec.specs.Says.{mostCounted}
+use Rattle.how_many_spec.specs.Says.{most_counted}
 use Rattle.stream_spec.specs.Lines.{ended, under, last_of, lines}
 use Rattle.stream_spec.specs.Texts.{Texts}
 use Rattle.stream_spec.proofs.Unique as stream
 use Rattle.report_spec.specs.{declared.Pending.Pending, declared.Fed.Fed}
-use Rattle.report_spec.specs.Lines.{countsLine, Answers, counted, refused, Reports}
-use Rattle.report_spec.specs.Blocks.{lineRoom, line_of, state_of, bytesFor, FeedSays, FinishSays, small, last}
+use Rattle.report_spec.specs.Lines.{counts_line, Answers, counted, refused, Reports}
+use Rattle.report_spec.specs.Blocks.{line_room, line_of, state_of, bytes_for, FeedSays, FinishSays, small, last}
 
 -- the text of a plan
 abbrev text_of : Planned → List ℕ
-text_of (Accepted k n) = countsLine (howMany necklace n k) (howMany lyndon n k)
-text_of (Refused r) = refusedLine (number_of r)
+text_of (Accepted k n) = counts_line (how_many necklace n k) (how_many lyndon n k)
+text_of (Refused r) = refused_line (number_of r)
 
 -- a line prints one text
 pub one-text : (s t u : List ℕ) → Answers s t → Answers s u → t ≡ u
-one-text s t u (counted k n p e) (counted j m q f) = e ∙ ap text_of (one-plan mostCounted s (Accepted k n) (Accepted j m) p q) ∙ sym f
-one-text s t u (counted k n p e) (refused r q f) = e ∙ ap text_of (one-plan mostCounted s (Accepted k n) (Refused r) p q) ∙ sym f
-one-text s t u (refused r p e) (counted j m q f) = e ∙ ap text_of (one-plan mostCounted s (Refused r) (Accepted j m) p q) ∙ sym f
-one-text s t u (refused r p e) (refused x q f) = e ∙ ap text_of (one-plan mostCounted s (Refused r) (Refused x) p q) ∙ sym f
+one-text s t u (counted k n p e) (counted j m q f) = e ∙ ap text_of (one-plan most_counted s (Accepted k n) (Accepted j m) p q) ∙ sym f
+one-text s t u (counted k n p e) (refused r q f) = e ∙ ap text_of (one-plan most_counted s (Accepted k n) (Refused r) p q) ∙ sym f
+one-text s t u (refused r p e) (counted j m q f) = e ∙ ap text_of (one-plan most_counted s (Refused r) (Accepted j m) p q) ∙ sym f
+one-text s t u (refused r p e) (refused x q f) = e ∙ ap text_of (one-plan most_counted s (Refused r) (Refused x) p q) ∙ sym f
 
 -- lines print one text
 one-texts : (ls : List (List ℕ)) (t u : List ℕ) → Texts Answers ls t → Texts Answers ls u → t ≡ u
@@ -44,7 +44,7 @@ fed-eq r q a b c = λ i. record { state = a i; taken = b i; length = c i }
 -- a block that is taken
 pub one-feed : (p : Pending) (s b : List ℕ) (r q : Fed) (b₁ b₂ : List ℕ) → FeedSays p s b r b₁ → FeedSays p s b q b₂ → (r ≡ q) × (b₁ ≡ b₂)
 one-feed p s b r q b₁ b₂ x y =
-    let e = one-texts (ended (line_of p) (take (bytesFor s b) s)) x.text y.text x.says y.says in (
+    let e = one-texts (ended (line_of p) (take (bytes_for s b) s)) x.text y.text x.says y.says in (
       fed-eq r q (x.state ∙ sym y.state) (x.taken ∙ sym y.taken) (x.long ∙ ap length e ∙ sym y.long),
       x.bytes ∙ ap (λ (t : List ℕ). t ++ drop (length t) b) e ∙ sym y.bytes,
     )

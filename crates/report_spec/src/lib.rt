@@ -1,6 +1,8 @@
 // What the report prints (02, request f), whole and block after block, as definitions (specs/), and that they determine it (proofs/). The types that the calls of
 // `report` hand out.
 
+#![tactic(auto)]
+
 // Between two blocks of an input: the first bytes of the line under way, and how many there are. The bytes past them are 0.
 #[derive(Drop)]
 pub struct Pending {

@@ -4,8 +4,8 @@ use Rattle.words.proofs.Plain.{ℕ, ◌≡◌, refl, List, [], ◌∷◌}
 use Rattle.words.specs.Table.{Hold}
 use Rattle.rings.specs.{Necklace.necklace, Necklace.lyndon, Open.open-all}
 use Rattle.rings.proofs.Cases.{digits, ring}
-use Rattle.ring_ceiling_laws.specs.Ceiling.{stepMoves, lyndonCeiling, necklaceCeiling}
-use Rattle.ring_ceiling_laws.specs.Notched.{notch, notched, lyndonStart, necklaceStart}
+use Rattle.ring_ceiling_laws.specs.Ceiling.{step_moves, lyndon_ceiling, necklace_ceiling}
+use Rattle.ring_ceiling_laws.specs.Notched.{notch, notched, lyndon_start, necklace_start}
 
 -- the shapes of a row
 pub data Case : Type 0 where
@@ -22,11 +22,11 @@ pub data Case : Type 0 where
 
 -- what a row claims
 unfoldable pub Holds : Case → Type 0
-Holds (to-lyndon k n w m) = stepMoves lyndon k (ring n w) ≡ m
-Holds (full-lyndon k n w) = stepMoves lyndon k (ring n w) ≡ lyndonCeiling n
-Holds (full-necklace k n w) = stepMoves necklace k (ring n w) ≡ necklaceCeiling n
-Holds (ceilings n a b) = (lyndonCeiling n ≡ a) × (necklaceCeiling n ≡ b)
-Holds (starts k n w v) = (lyndonStart k n ≡ ring n w) × (necklaceStart k n ≡ ring n v)
+Holds (to-lyndon k n w m) = step_moves lyndon k (ring n w) ≡ m
+Holds (full-lyndon k n w) = step_moves lyndon k (ring n w) ≡ lyndon_ceiling n
+Holds (full-necklace k n w) = step_moves necklace k (ring n w) ≡ necklace_ceiling n
+Holds (ceilings n a b) = (lyndon_ceiling n ≡ a) × (necklace_ceiling n ≡ b)
+Holds (starts k n w v) = (lyndon_start k n ≡ ring n w) × (necklace_start k n ≡ ring n v)
 
 unfoldable pub table : List Case
 table =
@@ -58,5 +58,5 @@ table =
 
 -- the one claim
 pub cases : Hold Holds table
-unfolding digits ring Holds Hold table stepMoves notch notched open-all
+unfolding digits ring Holds Hold table step_moves notch notched open-all
 cases = (refl, (refl, (refl, (refl, (refl, (refl, (refl, (refl, (refl, (refl, (refl, (refl, ((refl, refl), ((refl, refl), ((refl, refl), ((refl, refl), tt))))))))))))))))

@@ -10,10 +10,10 @@ use native.Mathlib.Nat.{mod-lt, mod-le, mod-eq-sub-mod, div-add-mod', mul-mod_le
 use Rattle.words.proofs.Split.{lt, eq, gt, tri, passes, fails, test, clash}
 use Rattle.words.proofs.Sequence.{sec}
 use Rattle.rings.specs.{Necklace.necklace, Necklace.lyndon, Prenecklace.lyn}
-use Rattle.rings.specs.Next.{lastLow, nextPrenecklace, raised}
+use Rattle.rings.specs.Next.{last_low, next_prenecklace, raised}
 use Rattle.ring_laws.proofs.{Run.Run, Repeat.run_rep, Raise.Raised, Raise.low_first, Lyndon.lyn-run, Classes.lyndon-lyn}
 use Rattle.ring_laws.proofs.{Next.raised_at, Next.next-lyn-low, Bound.lyn-rises, Bound.bound-necklace, Sums.lyndon-prenecklace}
-use Rattle.ring_ceiling_laws.specs.Ceiling.{PrenecklaceOf, stepMoves, Ceiling, necklaceCeiling, LyndonCeilingHolds}
+use Rattle.ring_ceiling_laws.specs.Ceiling.{PrenecklaceOf, step_moves, Ceiling, necklace_ceiling, LyndonCeilingHolds}
 use Rattle.ring_ceiling_laws.proofs.FirstMove.{own-reading, own-pos, low-inside, next_of, step-none, step-one, step-more}
 
 -- ---- where copies of a run start
@@ -58,18 +58,18 @@ module _ (n k : ℕ) (w : List ℕ) (at : PrenecklaceOf n k w) where
       ]
 
   -- the place that is raised is not before the start of a copy
-  low-start : 0 < lastLow k w → (m : ℕ) → m < n → m % lyn w ≡ 0 → m < lastLow k w
+  low-start : 0 < last_low k w → (m : ℕ) → m < n → m % lyn w ≡ 0 → m < last_low k w
   low-start z m h e =
       omega (
         arith,
-        low-copy (sec w) n (lyn w) run k (lastLow k w - 1) (sec (raised (lastLow k w) w)) (rw at.reading.long at (raised_at k w z)) m h e,
+        low-copy (sec w) n (lyn w) run k (last_low k w - 1) (sec (raised (last_low k w) w)) (rw at.reading.long at (raised_at k w z)) m h e,
       )
 
-module _ (n k : ℕ) (w : List ℕ) (at : PrenecklaceOf n k w) (z : 0 < lastLow k w) where
+module _ (n k : ℕ) (w : List ℕ) (at : PrenecklaceOf n k w) (z : 0 < last_low k w) where
   -- the place that is raised next lies past the one that was raised, where no Lyndon word has come
-  low-rises : lyndon (nextPrenecklace k w) ≡ false → 0 < lastLow k (nextPrenecklace k w) → lastLow k w < lastLow k (nextPrenecklace k w)
+  low-rises : lyndon (next_prenecklace k w) ≡ false → 0 < last_low k (next_prenecklace k w) → last_low k w < last_low k (next_prenecklace k w)
   low-rises q y =
-      let v = nextPrenecklace k w in
+      let v = next_prenecklace k w in
       let next = next_of n k w at z in
       omega (
         arith,
@@ -78,12 +78,12 @@ module _ (n k : ℕ) (w : List ℕ) (at : PrenecklaceOf n k w) (z : 0 < lastLow 
       )
 
 -- each move raises a place further right, and raising the last makes a Lyndon word: at most one move for each place from the one that is raised on
-moves-past : (f n k : ℕ) (w : List ℕ) → PrenecklaceOf n k w → 0 < lastLow k w → n - lastLow k w < f → stepMoves lyndon k w ≤ suc (n - lastLow k w)
+moves-past : (f n k : ℕ) (w : List ℕ) → PrenecklaceOf n k w → 0 < last_low k w → n - last_low k w < f → step_moves lyndon k w ≤ suc (n - last_low k w)
 moves-past zero n k w at z b = absurd (omega arith)
 moves-past (suc f) n k w at z b =
     elim (test (lyndon v)) [
       | passes q ↦ omega (arith, step-one n k w at z lyndon lyndon-prenecklace q)
-      | fails q ↦ elim (tri 0 (lastLow k v)) [
+      | fails q ↦ elim (tri 0 (last_low k v)) [
         | lt y ↦ omega (arith, more q, low-rises n k w at z q y, low-inside n k v next, moves-past f n k v next y (omega (arith, low-rises n k w at z q y, low-inside n k v next)))
         | eq y ↦ omega (arith, more q, step-none n k v next lyndon (sym y))
         | gt y ↦ absurd (omega arith)
@@ -91,39 +91,39 @@ moves-past (suc f) n k w at z b =
     ]
   where
     v : List ℕ
-    v = nextPrenecklace k w
+    v = next_prenecklace k w
 
-    next : PrenecklaceOf n k (nextPrenecklace k w)
+    next : PrenecklaceOf n k (next_prenecklace k w)
     next = next_of n k w at z
 
-    more : lyndon (nextPrenecklace k w) ≡ false → stepMoves lyndon k w ≡ suc (stepMoves lyndon k (nextPrenecklace k w))
+    more : lyndon (next_prenecklace k w) ≡ false → step_moves lyndon k w ≡ suc (step_moves lyndon k (next_prenecklace k w))
     more q = step-more n k w at z lyndon lyndon-prenecklace q
 
 -- from a prenecklace that is no Lyndon word at most half of n
-within-half : (n k : ℕ) (w : List ℕ) → PrenecklaceOf n k w → lyndon w ≡ false → stepMoves lyndon k w ≤ n / 2
+within-half : (n k : ℕ) (w : List ℕ) → PrenecklaceOf n k w → lyndon w ≡ false → step_moves lyndon k w ≤ n / 2
 within-half n k w at h =
-    elim (tri 0 (lastLow k w)) [
+    elim (tri 0 (last_low k w)) [
       | lt z ↦ go z (copy_start n (lyn w) (run n k w at).pos (short-lyn n k w at h))
       | eq z ↦ omega (arith, step-none n k w at lyndon (sym z))
       | gt z ↦ absurd (omega arith)
     ]
   where
-    go : 0 < lastLow k w → (s : ℕ) × (s < n) × (s % lyn w ≡ 0) × (n - s ≤ n / 2) → stepMoves lyndon k w ≤ n / 2
-    go z (s, l, d, b) = omega (arith, moves-past (suc (n - lastLow k w)) n k w at z (omega arith), low-start n k w at z s l d)
+    go : 0 < last_low k w → (s : ℕ) × (s < n) × (s % lyn w ≡ 0) × (n - s ≤ n / 2) → step_moves lyndon k w ≤ n / 2
+    go z (s, l, d, b) = omega (arith, moves-past (suc (n - last_low k w)) n k w at z (omega arith), low-start n k w at z s l d)
 
 -- request h: from any prenecklace at most half of n, rounded down, plus 1; Done included
 pub lyndon-ceiling : LyndonCeilingHolds
 lyndon-ceiling n k w at =
-    elim (tri 0 (lastLow k w)) [
-      | lt z ↦ elim (test (lyndon (nextPrenecklace k w))) [
+    elim (tri 0 (last_low k w)) [
+      | lt z ↦ elim (test (lyndon (next_prenecklace k w))) [
         | passes q ↦ omega (arith, step-one n k w at z lyndon lyndon-prenecklace q)
-        | fails q ↦ omega (arith, step-more n k w at z lyndon lyndon-prenecklace q, within-half n k (nextPrenecklace k w) (next_of n k w at z) q)
+        | fails q ↦ omega (arith, step-more n k w at z lyndon lyndon-prenecklace q, within-half n k (next_prenecklace k w) (next_of n k w at z) q)
       ]
       | eq z ↦ omega (arith, step-none n k w at lyndon (sym z))
       | gt z ↦ absurd (omega arith)
     ]
 
 -- demand 3's bound, in the same words
-pub necklace-ceiling : (n k : ℕ) → Ceiling necklace n k (necklaceCeiling n)
-unfolding stepMoves
+pub necklace-ceiling : (n k : ℕ) → Ceiling necklace n k (necklace_ceiling n)
+unfolding step_moves
 necklace-ceiling n k w at = omega (arith, bound-necklace k w (own-reading n k w at) (own-pos n k w at) at.pre, at.reading.long)

@@ -7,8 +7,8 @@
 use Rattle.words.proofs.Plain.{ℕ, suc, ◌+◌, ◌-◌, ◌%◌, ◌<◌, ◌≤◌, arith, ◌≡◌, refl, sym, ◌∙◌, ◌||◌, eqb, length, get_or, ext_get_or, eq-eqb, ne_eqb}
 use native.Mathlib.Nat.{mod-lt}
 use Rattle.words.proofs.Split.{lt, eq, gt, tri, passes, fails, test, either-right}
-use Rattle.words.proofs.{Search.length-tab, Search.getD-tab, Sequence.sec, Sequence.place}
-use Rattle.rings.specs.Next.{lastLow, nextPrenecklace, raised}
+use Rattle.words.proofs.{Search.length-tab, Search.get_d-tab, Sequence.sec, Sequence.place}
+use Rattle.rings.specs.Next.{last_low, next_prenecklace, raised}
 use Rattle.ring_laws.proofs.Run.{Pre, Run, pre-through, run-through}
 use Rattle.ring_laws.proofs.{Repeat.run_rep, Words.of-pre}
 use Rattle.ring_laws.proofs.Next.{low-le, low-at, low-none, length-next, next-at, raised-low, raised-last, place-raised}
@@ -95,7 +95,7 @@ length-notched k n p = length-tab n (notch k p)
 -- each is that of the sequence
 notched-at : (k n p i : ℕ) → i < n → get_or (notched k n p) i 0 ≡ notch k p i
 unfolding notched
-notched-at k n p i h = getD-tab n (notch k p) i 0 h
+notched-at k n p i h = get_d-tab n (notch k p) i 0 h
 
 module _ (k n p : ℕ) (two : 2 ≤ k) where
   -- each is a prenecklace
@@ -113,12 +113,12 @@ module _ (k n p : ℕ) (two : 2 ≤ k) where
       rw (length-notched k n p) (run-through (notch k p) (sec (notched k n p)) n p (λ m l. sym (notched-at k n p m l)) (notch-run k n p two z h b))
 
   -- the last place that can be raised
-  pub notched-low : p < n → lastLow k (notched k n p) ≡ suc p
+  pub notched-low : p < n → last_low k (notched k n p) ≡ suc p
   notched-low h =
-      elim (tri (lastLow k (notched k n p)) (suc p)) [
+      elim (tri (last_low k (notched k n p)) (suc p)) [
         | lt l ↦ absurd (omega (arith, low-none k (notched k n p) p (omega arith) (omega (arith, length-notched k n p)), notched-at k n p p h, notch-at k p p refl))
         | eq l ↦ l
-        | gt l ↦ absurd (past (lastLow k (notched k n p) - 1) (omega arith) (omega (arith, low-le k (notched k n p), length-notched k n p)) (low-at k (notched k n p) (omega arith)))
+        | gt l ↦ absurd (past (last_low k (notched k n p) - 1) (omega arith) (omega (arith, low-le k (notched k n p), length-notched k n p)) (low-at k (notched k n p) (omega arith)))
       ]
     where
       past : (i : ℕ) → p < i → i < n → suc (get_or (notched k n p) i 0) < k → ⊥
@@ -128,11 +128,11 @@ module _ (k n p : ℕ) (two : 2 ≤ k) where
 
 module _ (k n p : ℕ) (two : 2 ≤ k) (z : 0 < p) (h : p < n) (b : n ≤ p + p + 2) where
   -- the place that is raised is the second notch
-  low : lastLow k (notched k n p) ≡ suc p
+  low : last_low k (notched k n p) ≡ suc p
   low = notched-low k n p two h
 
   -- so there is one
-  pub has-low : 0 < lastLow k (notched k n p)
+  pub has-low : 0 < last_low k (notched k n p)
   has-low = omega (arith, low)
 
   -- the first p + 1 sectors, the last of them raised, are those of the ring notched a place later
@@ -159,17 +159,17 @@ module _ (k n p : ℕ) (two : 2 ≤ k) (z : 0 < p) (h : p < n) (b : n ≤ p + p 
           omega (arith, r, notched-at k n p p h, notch-at k p p refl, notch-else k (suc p) p z (λ x. omega arith))
 
   -- the sectors of the next prenecklace: those, repeated
-  next-sector : (m : ℕ) → m < n → get_or (nextPrenecklace k (notched k n p)) m 0 ≡ notch k (suc p) m
+  next-sector : (m : ℕ) → m < n → get_or (next_prenecklace k (notched k n p)) m 0 ≡ notch k (suc p) m
   next-sector m l =
       sym (next-at k (notched k n p) has-low m (omega (arith, length-notched k n p)))
       ∙ rw (place-raised k (notched k n p) has-low ∙ low, low) (raised-notch (m % suc p) (mod-lt m (omega arith)))
       ∙ sym (run_rep (notch k (suc p)) n (suc p) (notch-run k n (suc p) two (omega arith) h (omega arith)) m l)
 
   -- the next prenecklace is notched a place later
-  pub notch-next : nextPrenecklace k (notched k n p) ≡ notched k n (suc p)
+  pub notch-next : next_prenecklace k (notched k n p) ≡ notched k n (suc p)
   notch-next =
-      ext_get_or 0 (nextPrenecklace k (notched k n p)) (notched k n (suc p)) (long ∙ sym (length-notched k n (suc p)))
+      ext_get_or 0 (next_prenecklace k (notched k n p)) (notched k n (suc p)) (long ∙ sym (length-notched k n (suc p)))
       (λ m l. next-sector m (rw long at l) ∙ sym (notched-at k n (suc p) m (rw long at l)))
     where
-      long : length (nextPrenecklace k (notched k n p)) ≡ n
+      long : length (next_prenecklace k (notched k n p)) ≡ n
       long = length-next k (notched k n p) ∙ length-notched k n p

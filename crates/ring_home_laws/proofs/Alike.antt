@@ -18,40 +18,40 @@ use Rattle.words.proofs.Search.{some_of, some_at, least-le, least_at, least-none
 use Rattle.words.proofs.Lex.{same_true, true_same}
 use Rattle.words.proofs.Turn.{length-turn, turn-zero, turn-back, turn-again, turn-between, reverse-turn, reading-reverse}
 use Rattle.rings.specs.{Necklace.necklace, Home.home, Home.shift}
-use Rattle.rings.specs.Alike.{evenHanded, sameRing, differing, turnDiffers, apart, mirrored}
+use Rattle.rings.specs.Alike.{even_handed, same_ring, differing, turn_differs, apart, mirrored}
 use Rattle.ring_home_laws.proofs.Home.{length-home, shift-lt, home-turn-of, home-reading, home-necklace, home-of-turn, one-home-turn, turn-one-home}
 
 -- ---- same ring
 
 -- readings of the same ring have one home reading
-pub same-ring-true : (v w : List ℕ) → sameRing v w ≡ true → home v ≡ home w
-unfolding sameRing
+pub same-ring-true : (v w : List ℕ) → same_ring v w ≡ true → home v ≡ home w
+unfolding same_ring
 same-ring-true v w h = same_true (home v) (home w) h
 
 -- readings with one home reading are of the same ring
-pub true-same-ring : (v w : List ℕ) → home v ≡ home w → sameRing v w ≡ true
-unfolding sameRing
+pub true-same-ring : (v w : List ℕ) → home v ≡ home w → same_ring v w ≡ true
+unfolding same_ring
 true-same-ring v w e = true_same (home v) (home w) e
 
 -- readings of one length that are of the same ring are turns of one another
-pub same-ring-turn : (v w : List ℕ) → 0 < length w → length v ≡ length w → sameRing v w ≡ true → (i : ℕ) × (i < length w) × (turn i w ≡ v)
+pub same-ring-turn : (v w : List ℕ) → 0 < length w → length v ≡ length w → same_ring v w ≡ true → (i : ℕ) × (i < length w) × (turn i w ≡ v)
 same-ring-turn v w z e h = one-home-turn v w z e (same-ring-true v w h)
 
 -- a turn of a reading is of the same ring
-pub turn-same-ring : (v w : List ℕ) (i : ℕ) → 0 < length w → i ≤ length w → turn i w ≡ v → sameRing v w ≡ true
+pub turn-same-ring : (v w : List ℕ) (i : ℕ) → 0 < length w → i ≤ length w → turn i w ≡ v → same_ring v w ≡ true
 turn-same-ring v w i z l t = true-same-ring v w (turn-one-home v w i z l t)
 
 -- a reading is of its own ring
-pub same-ring-refl : (w : List ℕ) → sameRing w w ≡ true
+pub same-ring-refl : (w : List ℕ) → same_ring w w ≡ true
 same-ring-refl w = true-same-ring w w refl
 
 -- same ring is the same the other way round
-pub same-ring-sym : (v w : List ℕ) → sameRing v w ≡ sameRing w v
+pub same-ring-sym : (v w : List ℕ) → same_ring v w ≡ same_ring w v
 same-ring-sym v w =
-    agree (sameRing v w) (sameRing w v) (λ h. true-same-ring w v (sym (same-ring-true v w h))) (λ h. true-same-ring v w (sym (same-ring-true w v h)))
+    agree (same_ring v w) (same_ring w v) (λ h. true-same-ring w v (sym (same-ring-true v w h))) (λ h. true-same-ring v w (sym (same-ring-true w v h)))
 
 -- readings of the same ring as a third are of the same ring
-pub same-ring-trans : (u v w : List ℕ) → sameRing u v ≡ true → sameRing v w ≡ true → sameRing u w ≡ true
+pub same-ring-trans : (u v w : List ℕ) → same_ring u v ≡ true → same_ring v w ≡ true → same_ring u w ≡ true
 same-ring-trans u v w p q = true-same-ring u w (same-ring-true u v p ∙ same-ring-true v w q)
 
 -- ---- at how many places two readings differ
@@ -138,25 +138,25 @@ differing-turn i v w e h = turned ∙ omega (arith, whole)
 -- two readings are at most as far apart as they have places
 pub apart-le : (v w : List ℕ) → apart v w ≤ length v
 unfolding apart
-apart-le v w = least-le (length v) (turnDiffers v w)
+apart-le v w = least-le (length v) (turn_differs v w)
 
 -- no turn of the one differs from the other at fewer places than they are apart
 pub apart-turn-le : (v w : List ℕ) (i : ℕ) → i < length v → apart v w ≤ differing (turn i v) w
-unfolding apart turnDiffers
+unfolding apart turn_differs
 apart-turn-le v w i h =
     elim (tri (differing (turn i v) w) (apart v w)) [
-      | lt l ↦ clash (turnDiffers v w (differing (turn i v) w)) (some_of (length v) (λ j. eqb (differing (turn j v) w) (differing (turn i v) w)) i h
-          (eq-eqb (differing (turn i v) w) (differing (turn i v) w) refl)) (least-none (length v) (turnDiffers v w) (differing (turn i v) w) l)
+      | lt l ↦ clash (turn_differs v w (differing (turn i v) w)) (some_of (length v) (λ j. eqb (differing (turn j v) w) (differing (turn i v) w)) i h
+          (eq-eqb (differing (turn i v) w) (differing (turn i v) w) refl)) (least-none (length v) (turn_differs v w) (differing (turn i v) w) l)
       | eq l ↦ omega arith
       | gt l ↦ omega arith
     ]
 
 -- some turn of the one differs from the other at as many places as they are apart
 pub apart-at : (v w : List ℕ) → 0 < length v → (i : ℕ) × (i < length v) × (differing (turn i v) w ≡ apart v w)
-unfolding apart turnDiffers
+unfolding apart turn_differs
 apart-at v w z =
     elim (tri (apart v w) (length v)) [
-      | lt l ↦ at (some_at (length v) (λ i. eqb (differing (turn i v) w) (apart v w)) (least_at (length v) (turnDiffers v w) l))
+      | lt l ↦ at (some_at (length v) (λ i. eqb (differing (turn i v) w) (apart v w)) (least_at (length v) (turn_differs v w) l))
       | eq l ↦ (0, z, omega (arith, apart-turn-le v w 0 z, differing-le (turn 0 v) w, length-turn 0 v (omega arith)))
       | gt l ↦ absurd (omega (arith, apart-le v w))
     ]
@@ -234,17 +234,17 @@ apart-triangle u v w e f =
         omega (arith, rw t.2 at d, apart-turn-le u w t.0 t.1)
 
 -- readings of one length that are 0 apart are of the same ring
-pub apart-zero : (v w : List ℕ) → length v ≡ length w → apart v w ≡ 0 → sameRing v w ≡ true
+pub apart-zero : (v w : List ℕ) → length v ≡ length w → apart v w ≡ 0 → same_ring v w ≡ true
 apart-zero v w e h =
     none_or_some (length v) (λ z. rw (differing-zero v w e (omega (arith, differing-le v w))) (same-ring-refl w)) (λ z. at z (apart-at v w z))
   where
-    at : 0 < length v → (i : ℕ) × (i < length v) × (differing (turn i v) w ≡ apart v w) → sameRing v w ≡ true
+    at : 0 < length v → (i : ℕ) × (i < length v) × (differing (turn i v) w ≡ apart v w) → same_ring v w ≡ true
     at z (i, l, d) =
         let t = differing-zero (turn i v) w (length-turn i v (omega arith) ∙ e) (d ∙ h) in
         same-ring-sym v w ∙ turn-same-ring w v i z (omega arith) t
 
 -- readings of one length that are of the same ring are 0 apart
-pub zero-apart : (v w : List ℕ) → length v ≡ length w → sameRing v w ≡ true → apart v w ≡ 0
+pub zero-apart : (v w : List ℕ) → length v ≡ length w → same_ring v w ≡ true → apart v w ≡ 0
 zero-apart v w e h =
     none_or_some (length v) (λ z. omega (arith, apart-le v w)) (λ z. at (same-ring-turn w v z (sym e) (same-ring-sym w v ∙ h)))
   where
@@ -278,19 +278,19 @@ module _ (w : List ℕ) (z : 0 < length w) where
   mirrored-of-turn i h = ap home (reverse-turn i (length w - i) w (omega arith)) ∙ home-of-turn (reverse w) (length w - i) turned_round (rw length-reverse (omega arith))
 
   -- of an even-handed reading the other side is the ring
-  pub even-mirrored : evenHanded w ≡ true → mirrored w ≡ home w
-  unfolding evenHanded mirrored
+  pub even-mirrored : even_handed w ≡ true → mirrored w ≡ home w
+  unfolding even_handed mirrored
   even-mirrored h = found (some_at (length w) (λ i. same (turn i (reverse w)) w) h)
     where
       found : (i : ℕ) × (i < length w) × (same (turn i (reverse w)) w ≡ true) → home (reverse w) ≡ home w
       found (i, l, e) = sym (turn-one-home w (reverse w) i turned_round (rw length-reverse (omega arith)) (same_true (turn i (reverse w)) w e))
 
   -- a reading whose other side is the ring is even-handed
-  pub mirrored-even : mirrored w ≡ home w → evenHanded w ≡ true
-  unfolding evenHanded mirrored
+  pub mirrored-even : mirrored w ≡ home w → even_handed w ≡ true
+  unfolding even_handed mirrored
   mirrored-even h = found (one-home-turn w (reverse w) turned_round (sym (length-reverse w)) (sym h))
     where
-      found : (i : ℕ) × (i < length (reverse w)) × (turn i (reverse w) ≡ w) → evenHanded w ≡ true
+      found : (i : ℕ) × (i < length (reverse w)) × (turn i (reverse w) ≡ w) → even_handed w ≡ true
       found (i, l, e) = some_of (length w) (λ i. same (turn i (reverse w)) w) i (rw length-reverse at l) (true_same (turn i (reverse w)) w e)
 
 -- from the other side, the other side is the ring
@@ -300,18 +300,18 @@ mirrored-mirrored w z =
     ap mirrored (home-turn-of (reverse w)) ∙ mirrored-of-turn (reverse w) (turned_round w z) (shift (reverse w)) (omega (arith, shift-lt (reverse w) (turned_round w z))) ∙ ap home (reverse-reverse w)
 
 -- turning a reading does not change whether it is even-handed
-pub even-of-turn : (w : List ℕ) (i : ℕ) → 0 < length w → i ≤ length w → evenHanded (turn i w) ≡ evenHanded w
-even-of-turn w i z h = agree (evenHanded (turn i w)) (evenHanded w) one other
+pub even-of-turn : (w : List ℕ) (i : ℕ) → 0 < length w → i ≤ length w → even_handed (turn i w) ≡ even_handed w
+even-of-turn w i z h = agree (even_handed (turn i w)) (even_handed w) one other
   where
     long : 0 < length (turn i w)
     long = rw (length-turn i w h) z
 
-    one : evenHanded (turn i w) ≡ true → evenHanded w ≡ true
+    one : even_handed (turn i w) ≡ true → even_handed w ≡ true
     one e = mirrored-even w z (sym (mirrored-of-turn w z i h) ∙ even-mirrored (turn i w) long e ∙ home-of-turn w i z h)
 
-    other : evenHanded w ≡ true → evenHanded (turn i w) ≡ true
+    other : even_handed w ≡ true → even_handed (turn i w) ≡ true
     other e = mirrored-even (turn i w) long (mirrored-of-turn w z i h ∙ even-mirrored w z e ∙ sym (home-of-turn w i z h))
 
 -- the home reading is even-handed where the reading is
-pub even-home : (w : List ℕ) → 0 < length w → evenHanded (home w) ≡ evenHanded w
-even-home w z = ap evenHanded (home-turn-of w) ∙ even-of-turn w (shift w) z (omega (arith, shift-lt w z))
+pub even-home : (w : List ℕ) → 0 < length w → even_handed (home w) ≡ even_handed w
+even-home w z = ap even_handed (home-turn-of w) ∙ even-of-turn w (shift w) z (omega (arith, shift-lt w z))

@@ -13,16 +13,16 @@ use Rattle.words.specs.{Search.least, Order.up_to, Turn.turn, Readings.Reading}
 use Rattle.words.proofs.Split.{passes, fails, test, lt, eq, gt, tri, clash}
 use Rattle.words.proofs.Search.{all-at, all_of, least_at, least-none, least_lt}
 use Rattle.words.proofs.Sequence.{one_more}
-use Rattle.words.proofs.Lex.{upTo-refl, upTo-trans, upTo-total, upTo-antisym}
+use Rattle.words.proofs.Lex.{up_to-refl, up_to-trans, up_to-total, up_to-antisym}
 use Rattle.words.proofs.Turn.{length-turn, turn-zero, turn-back, turn-again, turn-between, reading-turn}
-use Rattle.rings.specs.Necklace.{notAboveTurn, necklace, period}
-use Rattle.rings.specs.Home.{leastTurn, shift, home}
+use Rattle.rings.specs.Necklace.{not_above_turn, necklace, period}
+use Rattle.rings.specs.Home.{least_turn, shift, home}
 use Rattle.ring_home_laws.proofs.Period.{period-pos, period-on, period-of-turn}
 
 -- of finitely many readings, one is up to each
 pub least-of : (g : ℕ → List ℕ) (n : ℕ) → 0 < n → (i : ℕ) × (i < n) × ((j : ℕ) → j < n → up_to (g i) (g j) ≡ true)
 least-of g zero z = absurd (omega arith)
-least-of g (suc zero) z = (0, omega arith, λ j h. let e : j ≡ 0 = omega arith in rw e (upTo-refl (g 0)))
+least-of g (suc zero) z = (0, omega arith, λ j h. let e : j ≡ 0 = omega arith in rw e (up_to-refl (g 0)))
 least-of g (suc (suc n)) z = wider (least-of g (suc n) (omega arith))
   where
     wider : (i : ℕ) × (i < suc n) × ((j : ℕ) → j < suc n → up_to (g i) (g j) ≡ true) →
@@ -34,17 +34,17 @@ least-of g (suc (suc n)) z = wider (least-of g (suc n) (omega arith))
             suc n,
             omega arith,
             one_more (λ j. up_to (g (suc n)) (g j) ≡ true) (suc n)
-                (λ j k. upTo-trans (g (suc n)) (g i) (g j) (upTo-total (g i) (g (suc n)) e) (h j k)) (upTo-refl (g (suc n))),
+                (λ j k. up_to-trans (g (suc n)) (g i) (g j) (up_to-total (g i) (g (suc n)) e) (h j k)) (up_to-refl (g (suc n))),
           )
         ]
 
 -- the turn by i is the least turn, as a fact
-least-turn-of : (w : List ℕ) (i : ℕ) → ((j : ℕ) → j < length w → up_to (turn i w) (turn j w) ≡ true) → leastTurn w i ≡ true
-unfolding leastTurn
+least-turn-of : (w : List ℕ) (i : ℕ) → ((j : ℕ) → j < length w → up_to (turn i w) (turn j w) ≡ true) → least_turn w i ≡ true
+unfolding least_turn
 least-turn-of w i h = all_of (length w) (λ j. up_to (turn i w) (turn j w)) h
 
-of-least-turn : (w : List ℕ) (i : ℕ) → leastTurn w i ≡ true → (j : ℕ) → j < length w → up_to (turn i w) (turn j w) ≡ true
-unfolding leastTurn
+of-least-turn : (w : List ℕ) (i : ℕ) → least_turn w i ≡ true → (j : ℕ) → j < length w → up_to (turn i w) (turn j w) ≡ true
+unfolding least_turn
 of-least-turn w i h = all-at (length w) (λ j. up_to (turn i w) (turn j w)) h
 
 -- the home reading is the turn by the shift
@@ -58,8 +58,8 @@ module _ (w : List ℕ) (z : 0 < length w) where
   unfolding shift
   shift-lt = found (least-of (λ i. turn i w) (length w) z)
     where
-      found : (i : ℕ) × (i < length w) × ((j : ℕ) → j < length w → up_to (turn i w) (turn j w) ≡ true) → least (length w) (leastTurn w) < length w
-      found (i, l, h) = least_lt (length w) (leastTurn w) i l (least-turn-of w i h)
+      found : (i : ℕ) × (i < length w) × ((j : ℕ) → j < length w → up_to (turn i w) (turn j w) ≡ true) → least (length w) (least_turn w) < length w
+      found (i, l, h) = least_lt (length w) (least_turn w) i l (least-turn-of w i h)
 
   -- the home reading has the length of the reading
   pub length-home : length (home w) ≡ length w
@@ -74,7 +74,7 @@ module _ (w : List ℕ) (z : 0 < length w) where
   -- the home reading is not greater than any turn
   pub home-least : (j : ℕ) → j < length w → up_to (home w) (turn j w) ≡ true
   unfolding home shift
-  home-least = of-least-turn w (shift w) (least_at (length w) (leastTurn w) shift-lt)
+  home-least = of-least-turn w (shift w) (least_at (length w) (least_turn w) shift-lt)
 
   -- nor than any turn of a turn
   home-least-again : (i j : ℕ) → i ≤ length w → j ≤ length w → up_to (home w) (turn j (turn i w)) ≡ true
@@ -83,14 +83,14 @@ module _ (w : List ℕ) (z : 0 < length w) where
   -- a turn that is not greater than any turn is the home reading
   pub home-is : (i : ℕ) → i ≤ length w → ((j : ℕ) → j < length w → up_to (turn i w) (turn j w) ≡ true) → home w ≡ turn i w
   home-is i h l =
-      upTo-antisym (home w) (turn i w) (rw turn-zero at (home-least-again i 0 h (omega arith))) (rw home-turn-of (l (shift w) shift-lt))
+      up_to-antisym (home w) (turn i w) (rw turn-zero at (home-least-again i 0 h (omega arith))) (rw home-turn-of (l (shift w) shift-lt))
 
   -- the home reading is a necklace
   pub home-necklace : necklace (home w) ≡ true
-  unfolding necklace notAboveTurn
-  home-necklace = all_of (length (home w)) (notAboveTurn (home w)) not-above
+  unfolding necklace not_above_turn
+  home-necklace = all_of (length (home w)) (not_above_turn (home w)) not-above
     where
-      not-above : (j : ℕ) → j < length (home w) → notAboveTurn (home w) j ≡ true
+      not-above : (j : ℕ) → j < length (home w) → not_above_turn (home w) j ≡ true
       not-above j h = subst (λ v. up_to (home w) (turn j v) ≡ true) (sym (home-turn-of w)) (home-least-again (shift w) j (omega (arith, shift-lt)) (omega (arith, length-home)))
 
   -- turning the home reading on to the length gives the reading again
@@ -105,13 +105,13 @@ module _ (w : List ℕ) (z : 0 < length w) where
   unfolding shift
   shift-first i e =
       elim (tri i (shift w)) [
-        | lt l ↦ clash (leastTurn w i) (least-turn-of w i (λ j k. rw e (home-least j k))) (fewer l)
+        | lt l ↦ clash (least_turn w i) (least-turn-of w i (λ j k. rw e (home-least j k))) (fewer l)
         | eq l ↦ omega arith
         | gt l ↦ omega arith
       ]
     where
-      fewer : i < shift w → leastTurn w i ≡ false
-      fewer l = least-none (length w) (leastTurn w) i l
+      fewer : i < shift w → least_turn w i ≡ false
+      fewer l = least-none (length w) (least_turn w) i l
 
   -- what gives the home reading, with nothing fewer giving it, is the shift
   pub shift_is : (i : ℕ) → turn i w ≡ home w → ((j : ℕ) → j < i → turn j w ≡ home w → ⊥) → shift w ≡ i
@@ -132,7 +132,7 @@ module _ (w : List ℕ) (z : 0 < length w) where
 
 -- turning a reading does not change its home reading
 pub home-of-turn : (w : List ℕ) (i : ℕ) → 0 < length w → i ≤ length w → home (turn i w) ≡ home w
-home-of-turn w i z h = upTo-antisym (home (turn i w)) (home w) one other
+home-of-turn w i z h = up_to-antisym (home (turn i w)) (home w) one other
   where
     long : 0 < length (turn i w)
     long = rw (length-turn i w h) z
@@ -157,9 +157,9 @@ module _ (w : List ℕ) (z : 0 < length w) where
 
   -- a necklace has shift 0
   pub necklace-shift : necklace w ≡ true → shift w ≡ 0
-  unfolding necklace notAboveTurn
+  unfolding necklace not_above_turn
   necklace-shift h =
-      let e = home-is w z 0 (omega arith) (λ j l. rw turn-zero (all-at (length w) (notAboveTurn w) h j l)) in omega (arith, shift-first w z 0 (sym e))
+      let e = home-is w z 0 (omega arith) (λ j l. rw turn-zero (all-at (length w) (not_above_turn w) h j l)) in omega (arith, shift-first w z 0 (sym e))
 
   -- a necklace is its own home reading
   pub necklace-home : necklace w ≡ true → home w ≡ w

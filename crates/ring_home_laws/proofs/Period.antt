@@ -10,23 +10,23 @@ use Rattle.words.specs.{Search.least, Order.same, Turn.turn}
 use Rattle.words.proofs.Split.{lt, eq, gt, tri, both, both_left, both_right, clash}
 use Rattle.words.proofs.{Search.least_at, Search.least-none, Lex.same_true, Lex.true_same}
 use Rattle.words.proofs.Turn.{length-turn, turn-zero, turn-length, turn-turn, turn-back, turn-comm}
-use Rattle.rings.specs.Necklace.{repeatsBy, period}
+use Rattle.rings.specs.Necklace.{repeats_by, period}
 
 -- ---- repeating by p
 
 -- what repeats a reading divides its length
-pub repeats-divides : (w : List ℕ) (p : ℕ) → repeatsBy w p ≡ true → length w % p ≡ 0
-unfolding repeatsBy
+pub repeats-divides : (w : List ℕ) (p : ℕ) → repeats_by w p ≡ true → length w % p ≡ 0
+unfolding repeats_by
 repeats-divides w p h = eqb-true (length w % p) 0 (both_left (eqb (length w % p) 0) (same (turn p w) w) h)
 
 -- turning by what repeats a reading changes nothing
-pub repeats-turn : (w : List ℕ) (p : ℕ) → repeatsBy w p ≡ true → turn p w ≡ w
-unfolding repeatsBy
+pub repeats-turn : (w : List ℕ) (p : ℕ) → repeats_by w p ≡ true → turn p w ≡ w
+unfolding repeats_by
 repeats-turn w p h = same_true (turn p w) w (both_right (eqb (length w % p) 0) (same (turn p w) w) h)
 
 -- what divides the length, with turning by it changing nothing, repeats the reading
-pub repeats-by : (w : List ℕ) (p : ℕ) → length w % p ≡ 0 → turn p w ≡ w → repeatsBy w p ≡ true
-unfolding repeatsBy
+pub repeats-by : (w : List ℕ) (p : ℕ) → length w % p ≡ 0 → turn p w ≡ w → repeats_by w p ≡ true
+unfolding repeats_by
 repeats-by w p d t = both (eqb (length w % p) 0) (same (turn p w) w) (eq-eqb (length w % p) 0 d) (true_same (turn p w) w t)
 
 -- where turning by p changes nothing, turning by a multiple of p changes nothing
@@ -54,8 +54,8 @@ pub period-least : (w : List ℕ) (p : ℕ) → 0 < p → length w % p ≡ 0 →
 unfolding period
 period-least w zero z d t = absurd (omega arith)
 period-least w (suc p) z d t =
-    elim (tri p (least (length w) (λ i. repeatsBy w (suc i)))) [
-      | lt l ↦ clash (repeatsBy w (suc p)) (repeats-by w (suc p) d t) (least-none (length w) (λ i. repeatsBy w (suc i)) p l)
+    elim (tri p (least (length w) (λ i. repeats_by w (suc i)))) [
+      | lt l ↦ clash (repeats_by w (suc p)) (repeats-by w (suc p) d t) (least-none (length w) (λ i. repeats_by w (suc i)) p l)
       | eq l ↦ omega arith
       | gt l ↦ omega arith
     ]
@@ -65,9 +65,9 @@ module _ (w : List ℕ) (z : 0 < length w) where
   pub period-le : period w ≤ length w
   period-le = period-least w (length w) z (mod_self (length w)) (turn-length w)
 
-  period-repeats : repeatsBy w (period w) ≡ true
+  period-repeats : repeats_by w (period w) ≡ true
   unfolding period
-  period-repeats = least_at (length w) (λ i. repeatsBy w (suc i)) (omega (arith, period-le))
+  period-repeats = least_at (length w) (λ i. repeats_by w (suc i)) (omega (arith, period-le))
 
   -- the period divides the length
   pub period-divides : length w % period w ≡ 0
@@ -103,13 +103,13 @@ period-of-turn w i z h =
 -- ---- the period measures the turns that change nothing
 
 -- the least number of turns, at least 1, that changes nothing, whether or not it divides the length
-unfoldable pub turnsBack : List ℕ → ℕ
-turnsBack w = suc (least (length w) (λ i. same (turn (suc i) w) w))
+unfoldable pub turns_back : List ℕ → ℕ
+turns_back w = suc (least (length w) (λ i. same (turn (suc i) w) w))
 
 module _ (w : List ℕ) (z : 0 < length w) where
   -- no fewer turns than that, but for none, change nothing
-  pub back-least : (i : ℕ) → 0 < i → turn i w ≡ w → turnsBack w ≤ i
-  unfolding turnsBack
+  pub back-least : (i : ℕ) → 0 < i → turn i w ≡ w → turns_back w ≤ i
+  unfolding turns_back
   back-least zero y t = absurd (omega arith)
   back-least (suc i) y t =
       elim (tri i (least (length w) (λ i. same (turn (suc i) w) w))) [
@@ -118,27 +118,27 @@ module _ (w : List ℕ) (z : 0 < length w) where
         | gt l ↦ omega arith
       ]
 
-  back-turn : turn (turnsBack w) w ≡ w
-  unfolding turnsBack
-  back-turn = same_true (turn (turnsBack w) w) w (least_at (length w) (λ i. same (turn (suc i) w) w) (omega (arith, back-least (length w) z (turn-length w))))
+  back-turn : turn (turns_back w) w ≡ w
+  unfolding turns_back
+  back-turn = same_true (turn (turns_back w) w) w (least_at (length w) (λ i. same (turn (suc i) w) w) (omega (arith, back-least (length w) z (turn-length w))))
 
-  back-pos : 0 < turnsBack w
-  unfolding turnsBack
+  back-pos : 0 < turns_back w
+  unfolding turns_back
   back-pos = omega arith
 
   -- it leaves nothing over of any number of turns that changes nothing: what it leaves is less and changes nothing
-  back-measures : (i : ℕ) → i ≤ length w → turn i w ≡ w → i % turnsBack w ≡ 0
+  back-measures : (i : ℕ) → i ≤ length w → turn i w ≡ w → i % turns_back w ≡ 0
   back-measures i h t =
-      elim (tri 0 (i % turnsBack w)) [
-        | lt l ↦ absurd (omega (arith, mod-lt i back-pos, back-least (i % turnsBack w) l (rest-turn w (turnsBack w) back-turn i h ∙ t)))
+      elim (tri 0 (i % turns_back w)) [
+        | lt l ↦ absurd (omega (arith, mod-lt i back-pos, back-least (i % turns_back w) l (rest-turn w (turns_back w) back-turn i h ∙ t)))
         | eq l ↦ sym l
         | gt l ↦ absurd (omega arith)
       ]
 
   -- so it is the period
-  pub period-back : period w ≡ turnsBack w
+  pub period-back : period w ≡ turns_back w
   period-back =
-      omega (arith, period-least w (turnsBack w) back-pos (back-measures (length w) (omega arith) (turn-length w)) back-turn, back-least (period w) (period-pos w) (period-turn w z))
+      omega (arith, period-least w (turns_back w) back-pos (back-measures (length w) (omega arith) (turn-length w)) back-turn, back-least (period w) (period-pos w) (period-turn w z))
 
   -- no fewer turns than the period, but for none, change nothing
   pub period-smallest : (i : ℕ) → 0 < i → turn i w ≡ w → period w ≤ i

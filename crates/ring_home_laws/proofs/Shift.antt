@@ -5,7 +5,7 @@
 --     alike-shift      where the turns by i and by a greater j are one, the shift is less than j
 use Rattle.words.proofs.Plain.{ℕ, ◌+◌, ◌-◌, ◌<◌, ◌≤◌, arith, ◌≡◌, refl, sym, ap, ◌∙◌, true, List, length, get_or}
 use Rattle.words.specs.{Order.before, Turn.turn}
-use Rattle.words.proofs.{Split.clash, Lex.less-before, Lex.upTo-not-before}
+use Rattle.words.proofs.{Split.clash, Lex.less-before, Lex.up_to-not-before}
 use Rattle.words.proofs.Turn.{length-turn, turn_low, turn-turn, turn-again}
 use Rattle.rings.specs.Home.{shift, home}
 use Rattle.ring_home_laws.proofs.Home.{shift-lt, home-turn-of, home-least, shift-first}
@@ -49,7 +49,7 @@ never-shift w a b m t h k l d e = on (turn-again a t w z h (omega (arith, long))
     here = turn-turn b t w (omega (arith, shift-lt w z)) ∙ ap (λ x. turn x w) e ∙ sym (home-turn-of w)
 
     on : (q : ℕ) × (q < length w) × (turn t (turn a w) ≡ turn q w) → ⊥
-    on (q, o, f) = clash (before (turn q w) (home w)) (rw (f, here) at smaller) (upTo-not-before (turn q w) (home w) (home-least w z q o))
+    on (q, o, f) = clash (before (turn q w) (home w)) (rw (f, here) at smaller) (up_to-not-before (turn q w) (home w) (home-least w z q o))
 
 -- where the turns by i and by a greater j are one, the shift is less than j
 pub alike-shift : (w : List ℕ) (i j : ℕ) → 0 < length w → i < j → turn i w ≡ turn j w → j ≤ shift w → ⊥

@@ -1,1 +1,4 @@
 // Nothing runs here: the theorems about home readings, shifts and periods stand in proofs/.
+
+#![tactic(auto)]
+

@@ -2,8 +2,8 @@
 -- 'a beginning, possibly the whole, of some necklace, of whatever length'.
 --     begins    a prenecklace begins a necklace: its run goes on until n times lyn sectors are filled
 --     begun     whatever begins a necklace is a prenecklace
-use Rattle.words.proofs.Plain.{ℕ, ◌+◌, ◌-◌, ◌*◌, ◌%◌, ◌<◌, ◌≤◌, arith, ◌≡◌, refl, sym, ap, ◌∙◌, true, List, ◌++◌, length, get_or, length-append, List·getD-append}
-use Rattle.words.proofs.{Plain.get_or-append-add, Search.length-tab, Search.getD-tab, Sequence.sec}
+use Rattle.words.proofs.Plain.{ℕ, ◌+◌, ◌-◌, ◌*◌, ◌%◌, ◌<◌, ◌≤◌, arith, ◌≡◌, refl, sym, ap, ◌∙◌, true, List, ◌++◌, length, get_or, length-append, List·get_d-append}
+use Rattle.words.proofs.{Plain.get_or-append-add, Search.length-tab, Search.get_d-tab, Sequence.sec}
 use native.Mathlib.Nat.{mod-lt, mul-mod_left, le-mul_of_pos_right}
 use Rattle.words.specs.{Search.tab, Readings.Reading}
 use Rattle.words.proofs.Split.{lt, eq, gt, tri}
@@ -32,7 +32,7 @@ module _ (n k : ℕ) (w : List ℕ) (z : 0 < n) (reading : Reading n k w) (h : p
 
   more-at : (m : ℕ) → m < n * lyn w - n → get_or more m 0 ≡ get_or w ((n + m) % lyn w) 0
   unfolding more
-  more-at m b = getD-tab (n * lyn w - n) (λ m. get_or w ((n + m) % lyn w) 0) m 0 b
+  more-at m b = get_d-tab (n * lyn w - n) (λ m. get_or w ((n + m) % lyn w) 0) m 0 b
 
   long : length (w ++ more) ≡ n * lyn w
   long = omega (arith, length-append w more, length_more, reading.long, far)
@@ -40,7 +40,7 @@ module _ (n k : ℕ) (w : List ℕ) (z : 0 < n) (reading : Reading n k w) (h : p
   all : (m : ℕ) → m < n * lyn w → rep (lyn w) (sec w) m ≡ get_or (w ++ more) m 0
   all m b =
       elim (tri m n) [
-        | lt e ↦ sym (List·getD-append w more 0 m (omega (arith, reading.long)) ∙ run_rep (sec w) n (lyn w) run m e)
+        | lt e ↦ sym (List·get_d-append w more 0 m (omega (arith, reading.long)) ∙ run_rep (sec w) n (lyn w) run m e)
         | eq e ↦ behind (omega arith)
         | gt e ↦ behind (omega arith)
       ]
@@ -70,5 +70,5 @@ module _ (n k : ℕ) (w : List ℕ) (z : 0 < n) (reading : Reading n k w) (h : p
 pub begun : (k : ℕ) (w : List ℕ) → Begins k w → prenecklace w ≡ true
 begun k w b =
     let v = w ++ b.rest in
-    of-pre w (pre-through (sec v) (sec w) (length w) (λ m l. List·getD-append w b.rest 0 m l)
+    of-pre w (pre-through (sec v) (sec w) (length w) (λ m l. List·get_d-append w b.rest 0 m l)
     (pre-shorter (sec v) (length v) (length w) (omega (arith, length-append w b.rest)) (pre-of v (necklace-prenecklace v b.whole))))

@@ -7,16 +7,16 @@
 --     walk-sum, walk-sum-bound                 over the full walk by necklaces from the all-zero ring the moves add up to one less than the prenecklaces
 --                                              of n and k, and to at most one less than the necklaces of lengths 1 to n together
 use Rattle.words.proofs.Plain.{ℕ, zero, suc, ◌+◌, ◌-◌, ◌<◌, ◌≤◌, arith, ◌≡◌, refl, sym, ap, ◌∙◌, Bool, true, Option, none, some, List, [], ◌∷◌, length, get_or}
-use Rattle.words.proofs.Plain.{replicate, length-replicate, get_or-replicate, List·getD-eq-default}
+use Rattle.words.proofs.Plain.{replicate, length-replicate, get_or-replicate, List·get_d-eq-default}
 use Rattle.words.specs.Order.{before, up_to, same}
 use Rattle.words.specs.Readings.{Reading, readings, bit, total, count}
 use Rattle.words.proofs.Split.{lt, eq, gt, tri, both, both_left, both_right, clash}
 use Rattle.words.proofs.Sequence.{sec, Less}
-use Rattle.words.proofs.Lex.{Lex, ahead, equal, behind, lex, same_refl, before-irrefl, before-trans, before-asym, before-not-upTo, before-less}
+use Rattle.words.proofs.Lex.{Lex, ahead, equal, behind, lex, same_refl, before-irrefl, before-trans, before-asym, before-not-up_to, before-less}
 use Rattle.words.proofs.Readings.{All, nothing, also, all-weaken, Increasing, empty, more, readings-all, first_some, nothing-first}
 use Rattle.words.proofs.Count.{count-split, count-one, count-zero, total-le, total-add}
 use Rattle.rings.specs.{Necklace.necklace, Prenecklace.prenecklace}
-use Rattle.rings.specs.Steps.{above_of, next_of, passed, moves, howMany, howManyTo, FullWalk, done, step}
+use Rattle.rings.specs.Steps.{above_of, next_of, passed, moves, how_many, how_many_to, FullWalk, done, step}
 pub use Rattle.rings.specs.Steps.{zeros}
 use Rattle.ring_laws.proofs.{Words.of-pre, Words.of-neck, Sums.prenecklaces-necklaces}
 use Rattle.ring_laws.proofs.Moves.{moves-join, before-not-same, after-not-same}
@@ -95,7 +95,7 @@ module _ (kind : List ℕ → Bool) (k : ℕ) where
       elim (lex v u) [
         | ahead l ↦ rw (after-not-same u v l) (omega (arith, walk-each f u (rw g.0.long r) q l))
         | equal p ↦ rw (← p, same_refl v) (omega (arith, count-zero (same v) _ (λ x y. before-not-same v x y.2) (walk-kind f)))
-        | behind l ↦ clash (up_to v u) (g.3 u r h q) (before-not-upTo v u l)
+        | behind l ↦ clash (up_to v u) (g.3 u r h q) (before-not-up_to v u l)
       ]
 
 -- ---- from the all-zero ring
@@ -107,8 +107,8 @@ pub zeros-at : (n i : ℕ) → get_or (zeros n) i 0 ≡ 0
 zeros-at n i =
     elim (tri i n) [
       | lt h ↦ get_or-replicate n i 0 0 h
-      | eq h ↦ List·getD-eq-default (zeros n) 0 (omega (arith, length-zeros n))
-      | gt h ↦ List·getD-eq-default (zeros n) 0 (omega (arith, length-zeros n))
+      | eq h ↦ List·get_d-eq-default (zeros n) 0 (omega (arith, length-zeros n))
+      | gt h ↦ List·get_d-eq-default (zeros n) 0 (omega (arith, length-zeros n))
     ]
 
 pub zeros-reading : (n k : ℕ) → 0 < k → Reading n k (zeros n)
@@ -126,8 +126,8 @@ pub zeros-prenecklace : (n : ℕ) → prenecklace (zeros n) ≡ true
 zeros-prenecklace n = of-pre (zeros n) (λ i l. zeros-least n (λ m. get_or (zeros n) (i + m) 0) (length (zeros n) - i) l)
 
 -- the prenecklaces above it are all but one
-above-zeros : (n k : ℕ) → 0 < k → howMany prenecklace n k ≡ suc (moves k (zeros n) none)
-unfolding howMany moves passed above_of
+above-zeros : (n k : ℕ) → 0 < k → how_many prenecklace n k ≡ suc (moves k (zeros n) none)
+unfolding how_many moves passed above_of
 above-zeros n k z =
     rw (length-zeros n)
     (omega (arith, count-split prenecklace (same (zeros n)) (passed (zeros n) none) (readings n k) split (readings-all n k), count-one n k (zeros n) (zeros-reading n k z)))
@@ -141,9 +141,9 @@ above-zeros n k z =
         ]
 
 -- demand 3: the moves of a full walk from the all-zero ring, by whatever kind, add up to one less than the prenecklaces of n and k
-pub walk-sum : (kind : List ℕ → Bool) (n k : ℕ) → 0 < k → (rings : List (List ℕ)) (m : ℕ) → FullWalk kind k (zeros n) rings m → suc m ≡ howMany prenecklace n k
+pub walk-sum : (kind : List ℕ → Bool) (n k : ℕ) → 0 < k → (rings : List (List ℕ)) (m : ℕ) → FullWalk kind k (zeros n) rings m → suc m ≡ how_many prenecklace n k
 walk-sum kind n k z rings m f = ap suc (walk-moves kind k f) ∙ sym (above-zeros n k z)
 
 -- and to at most one less than the necklaces of lengths 1 to n together
-pub walk-sum-bound : (kind : List ℕ → Bool) (n k : ℕ) → 0 < n → 0 < k → (rings : List (List ℕ)) (m : ℕ) → FullWalk kind k (zeros n) rings m → suc m ≤ howManyTo necklace n k
+pub walk-sum-bound : (kind : List ℕ → Bool) (n k : ℕ) → 0 < n → 0 < k → (rings : List (List ℕ)) (m : ℕ) → FullWalk kind k (zeros n) rings m → suc m ≤ how_many_to necklace n k
 walk-sum-bound kind n k pos z rings m f = omega (arith, walk-sum kind n k z rings m f, prenecklaces-necklaces n k pos)

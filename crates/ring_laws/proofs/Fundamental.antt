@@ -5,7 +5,7 @@
 --     extend-smaller    b < c: w b is no prenecklace
 --     extend-iff        w b is a prenecklace exactly when c ≤ b
 use Rattle.words.proofs.Plain.{ℕ, suc, ◌-◌, ◌<◌, ◌≤◌, add-one, arith, ◌≡◌, sym, ◌∙◌, ◌↔◌, true, false, List, [], ◌∷◌, ◌++◌, length, get_or, length-append}
-use Rattle.words.proofs.{Plain.List·getD-append, Plain.get_or-append_seam, Sequence.sec}
+use Rattle.words.proofs.{Plain.List·get_d-append, Plain.get_or-append_seam, Sequence.sec}
 use Rattle.words.proofs.Split.{lt, eq, gt, tri, refuted, clash}
 use Rattle.rings.specs.{Necklace.lyndon, Prenecklace.prenecklace, Prenecklace.lyn}
 use Rattle.ring_laws.proofs.Run.{Run, Lyn, same, smaller, greater, run-through, lyn-self}
@@ -20,7 +20,7 @@ pub length-snoc : (w : List ℕ) (b : ℕ) → length (snoc w b) ≡ suc (length
 length-snoc w b = length-append w (b ∷ []) ∙ add-one (length w)
 
 pub snoc-low : (w : List ℕ) (b m : ℕ) → m < length w → get_or (snoc w b) m 0 ≡ get_or w m 0
-snoc-low w b m h = List·getD-append w (b ∷ []) 0 m h
+snoc-low w b m h = List·get_d-append w (b ∷ []) 0 m h
 
 pub snoc-last : (w : List ℕ) (b : ℕ) → get_or (snoc w b) (length w) 0 ≡ b
 snoc-last w b = get_or-append_seam w b [] 0

@@ -12,9 +12,9 @@ use Rattle.words.specs.{Order.before, Order.same, Turn.turn}
 use Rattle.words.proofs.Split.{lt, eq, gt, tri, both, both_left, both_right, refuted, clash}
 use Rattle.words.proofs.Search.{least-is, greatest-is, all-at, all_of}
 use Rattle.words.proofs.Sequence.{sec}
-use Rattle.words.proofs.Lex.{same_true, true_same, less-before, before-irrefl, before-upTo, upTo-refl}
+use Rattle.words.proofs.Lex.{same_true, true_same, less-before, before-irrefl, before-up_to, up_to-refl}
 use Rattle.words.proofs.Turn.{length-turn, turn_low, turn-high, turn-zero}
-use Rattle.rings.specs.Necklace.{necklace, notAboveTurn, repeatsBy, period, lyndon, belowOtherTurns}
+use Rattle.rings.specs.Necklace.{necklace, not_above_turn, repeats_by, period, lyndon, below_other_turns}
 use Rattle.rings.specs.Prenecklace.{prenecklace, lyn}
 use Rattle.ring_laws.proofs.Run.{Lyn, Run, lyn-self, lyn-one, longest, has-run, run-pre, lyn-through}
 use Rattle.ring_laws.proofs.Repeat.{run_rep, neck, no-neck}
@@ -56,20 +56,20 @@ module _ (w : List ℕ) (p : ℕ) (r : Run (sec w) (length w) p) where
           ]
 
   -- no smaller number of turns changes nothing
-  short-turn : (q : ℕ) → 0 < q → q < p → repeatsBy w q ≡ false
-  unfolding repeatsBy
+  short-turn : (q : ℕ) → 0 < q → q < p → repeats_by w q ≡ false
+  unfolding repeats_by
   short-turn q z h =
-      refuted (repeatsBy w q) (λ e.
+      refuted (repeats_by w q) (λ e.
       let d = r.lyn q z h in
       let t = same_true (turn q w) w (both_right (eqb (length w % q) 0) (same (turn q w) w) e) in
       omega (arith, d.less, sym (turn_low q w d.at (q + d.at) refl (omega (arith, d.bound, r.fits))) ∙ ap (λ (u : List ℕ). get_or u d.at 0) t))
 
   -- the period of a necklace that is a run of p is p
   pub period-run : length w % p ≡ 0 → period w ≡ p
-  unfolding period repeatsBy
+  unfolding period repeats_by
   period-run d =
       let e : suc (p - 1) ≡ p = omega (arith, r.pos) in
-      ap suc (least-is (length w) (λ i. repeatsBy w (suc i)) (p - 1) (omega (arith, r.pos, r.fits))
+      ap suc (least-is (length w) (λ i. repeats_by w (suc i)) (p - 1) (omega (arith, r.pos, r.fits))
       (rw e (both (eqb (length w % p) 0) (same (turn p w) w) (eq-eqb (length w % p) 0 d) (true_same (turn p w) w (turn-run d))))
       (λ j b. short-turn (suc j) (omega arith) (omega arith))) ∙ e
 
@@ -131,8 +131,8 @@ run-prenecklace w p r = of-pre w (run-pre (sec w) (length w) p r)
 -- ---- the two forms of a Lyndon word
 
 -- a Lyndon word is below each of its other turns
-pub lyndon-below : (w : List ℕ) → lyndon w ≡ true → belowOtherTurns w ≡ true
-unfolding belowOtherTurns
+pub lyndon-below : (w : List ℕ) → lyndon w ≡ true → below_other_turns w ≡ true
+unfolding below_other_turns
 lyndon-below w h =
     all_of (length w - 1) (λ i. before w (turn (suc i) w)) (λ i b.
     let d = l (suc i) (omega arith) (omega arith) in
@@ -147,8 +147,8 @@ lyndon-below w h =
     l = of-lyndon w (lyndon-pos w h) h
 
 -- and a word that is below each of its other turns is one
-pub below-lyndon : (w : List ℕ) → 0 < length w → belowOtherTurns w ≡ true → lyndon w ≡ true
-unfolding belowOtherTurns necklace notAboveTurn
+pub below-lyndon : (w : List ℕ) → 0 < length w → below_other_turns w ≡ true → lyndon w ≡ true
+unfolding below_other_turns necklace not_above_turn
 below-lyndon w z h = go (has-run (sec w) (length w) z (pre-of w (necklace-prenecklace w neck)))
   where
     under : (i : ℕ) → 0 < i → i < length w → before w (turn i w) ≡ true
@@ -157,7 +157,7 @@ below-lyndon w z h = go (has-run (sec w) (length w) z (pre-of w (necklace-prenec
         rw e at (all-at (length w - 1) (λ j. before w (turn (suc j) w)) h (i - 1) (omega arith))
 
     neck : necklace w ≡ true
-    neck = all_of (length w) (notAboveTurn w) (λ i b. elim (tri 0 i) [ lt q ↦ before-upTo w (turn i w) (under i q b) | eq q ↦ rw (← q, turn-zero w) (upTo-refl w) | gt q ↦ absurd (omega arith) ])
+    neck = all_of (length w) (not_above_turn w) (λ i b. elim (tri 0 i) [ lt q ↦ before-up_to w (turn i w) (under i q b) | eq q ↦ rw (← q, turn-zero w) (up_to-refl w) | gt q ↦ absurd (omega arith) ])
 
     go : (p : ℕ) × Run (sec w) (length w) p → lyndon w ≡ true
     go (p, r) =

@@ -3,13 +3,13 @@
 --     prenecklaces-lyndon             P(n) = L(1) + .. + L(n)
 --     prenecklaces-necklaces          P(n) is at most the necklaces of lengths 1 to n together
 use Rattle.words.proofs.Plain.{ℕ, zero, suc, ◌+◌, ◌-◌, ◌<◌, ◌≤◌, arith, ◌≡◌, refl, sym, ap, ◌∙◌, true, false, List, [], ◌∷◌, eqb, length, get_or}
-use Rattle.words.proofs.Plain.{List·getD-append, eq-eqb, ne_eqb}
+use Rattle.words.proofs.Plain.{List·get_d-append, eq-eqb, ne_eqb}
 use Rattle.words.specs.Readings.{Reading, readings, bit, count}
 use Rattle.words.proofs.Split.{lt, eq, gt, tri, Test, passes, fails, test, refuted, clash}
 use Rattle.words.proofs.{Readings.readings-all, Sequence.sec}
-use Rattle.words.proofs.Count.{sumBelow, sum-cong, sum-add, sum-zero, sum_one, total-cong, total-add, total-snoc, count-cong, count-le}
+use Rattle.words.proofs.Count.{sum_below, sum-cong, sum-add, sum-zero, sum_one, total-cong, total-add, total-snoc, count-cong, count-le}
 use Rattle.rings.specs.{Necklace.necklace, Necklace.lyndon, Prenecklace.prenecklace, Prenecklace.lyn}
-use Rattle.rings.specs.Steps.{howMany, howManyTo}
+use Rattle.rings.specs.Steps.{how_many, how_many_to}
 use Rattle.ring_laws.proofs.{Run.pre-shorter, Run.pre-through, Lyndon.lyn-run, Lyndon.lyndon-one}
 use Rattle.ring_laws.proofs.Words.{pre-of, of-pre, necklace-prenecklace}
 use Rattle.ring_laws.proofs.Fundamental.{snoc, length-snoc, extend_same, extend-greater, extend-smaller}
@@ -21,7 +21,7 @@ lyndon-prenecklace w h = necklace-prenecklace w (lyndon-necklace w h)
 -- a beginning of a prenecklace is one
 pub snoc-begin : (w : List ℕ) (b : ℕ) → prenecklace (snoc w b) ≡ true → prenecklace w ≡ true
 snoc-begin w b h =
-    of-pre w (pre-through (sec (snoc w b)) (sec w) (length w) (λ m l. List·getD-append w (b ∷ []) 0 m l)
+    of-pre w (pre-through (sec (snoc w b)) (sec w) (length w) (λ m l. List·get_d-append w (b ∷ []) 0 m l)
     (pre-shorter (sec (snoc w b)) (length (snoc w b)) (length w) (omega (arith, length-snoc w b)) (pre-of (snoc w b) h)))
 
 -- ---- the extensions of one word
@@ -56,21 +56,21 @@ module _ (n k : ℕ) (w : List ℕ) (reading : Reading n k w) (z : 0 < n) where
           (λ y. omega (arith, (lyndon-lyn (snoc w b) (omega (arith, length-snoc w b)) p).0 y, e, length-snoc w b, (lyn-run w pos h).fits))
 
   -- of all sectors one keeps lyn
-  one-keeps : prenecklace w ≡ true → sumBelow k (λ b. bit (eqb keeps b)) ≡ 1
+  one-keeps : prenecklace w ≡ true → sum_below k (λ b. bit (eqb keeps b)) ≡ 1
   unfolding keeps
   one-keeps h =
       sum_one k (λ b. bit (eqb keeps b)) keeps (reading.shades (length w - lyn w)
       (omega (arith, reading.long, (lyn-run w pos h).pos, (lyn-run w pos h).fits))) (λ b l q. rw (ne_eqb keeps b q)) ∙ rw (eq-eqb keeps keeps refl)
 
   -- the prenecklaces that extend w: one where w is a prenecklace, and the Lyndon words that extend it
-  pub snoc-one : sumBelow k (λ b. bit (prenecklace (snoc w b))) ≡ bit (prenecklace w) + sumBelow k (λ b. bit (lyndon (snoc w b)))
+  pub snoc-one : sum_below k (λ b. bit (prenecklace (snoc w b))) ≡ bit (prenecklace w) + sum_below k (λ b. bit (lyndon (snoc w b)))
   snoc-one = go (test (prenecklace w))
     where
-      go : Test (prenecklace w) → sumBelow k (λ b. bit (prenecklace (snoc w b))) ≡ bit (prenecklace w) + sumBelow k (λ b. bit (lyndon (snoc w b)))
+      go : Test (prenecklace w) → sum_below k (λ b. bit (prenecklace (snoc w b))) ≡ bit (prenecklace w) + sum_below k (λ b. bit (lyndon (snoc w b)))
       go (passes h) =
           rw h
           (sum-cong k (λ b. bit (prenecklace (snoc w b))) (λ b. bit (eqb keeps b) + bit (lyndon (snoc w b))) (λ b l. one-extension h b) ∙ sum-add k
-          (λ b. bit (eqb keeps b)) (λ b. bit (lyndon (snoc w b))) ∙ ap (λ (x : ℕ). x + sumBelow k (λ b. bit (lyndon (snoc w b)))) (one-keeps h))
+          (λ b. bit (eqb keeps b)) (λ b. bit (lyndon (snoc w b))) ∙ ap (λ (x : ℕ). x + sum_below k (λ b. bit (lyndon (snoc w b)))) (one-keeps h))
       go (fails h) =
           omega (
             arith,
@@ -82,12 +82,12 @@ module _ (n k : ℕ) (w : List ℕ) (reading : Reading n k w) (z : 0 < n) where
 -- ---- all words
 
 -- P(n + 1) = P(n) + L(n + 1), from one sector on
-pub prenecklaces-more : (n k : ℕ) → 0 < n → howMany prenecklace (suc n) k ≡ howMany prenecklace n k + howMany lyndon (suc n) k
-unfolding howMany
+pub prenecklaces-more : (n k : ℕ) → 0 < n → how_many prenecklace (suc n) k ≡ how_many prenecklace n k + how_many lyndon (suc n) k
+unfolding how_many
 prenecklaces-more n k z =
-    total-snoc n k (λ w. bit (prenecklace w)) ∙ total-cong (λ w. sumBelow k (λ b. bit (prenecklace (snoc w b))))
-    (λ w. bit (prenecklace w) + sumBelow k (λ b. bit (lyndon (snoc w b)))) (readings n k) (λ w r. snoc-one n k w r z) (readings-all n k) ∙
-    total-add (λ w. bit (prenecklace w)) (λ w. sumBelow k (λ b. bit (lyndon (snoc w b)))) (readings n k) ∙ ap
+    total-snoc n k (λ w. bit (prenecklace w)) ∙ total-cong (λ w. sum_below k (λ b. bit (prenecklace (snoc w b))))
+    (λ w. bit (prenecklace w) + sum_below k (λ b. bit (lyndon (snoc w b)))) (readings n k) (λ w r. snoc-one n k w r z) (readings-all n k) ∙
+    total-add (λ w. bit (prenecklace w)) (λ w. sum_below k (λ b. bit (lyndon (snoc w b)))) (readings n k) ∙ ap
     (λ (x : ℕ). count prenecklace (readings n k) + x) (sym (total-snoc n k (λ w. bit (lyndon w))))
 
 -- each reading of one sector is a Lyndon word
@@ -97,20 +97,20 @@ one-sector k (a ∷ []) r = lyndon-one a
 one-sector k (a ∷ b ∷ w) r = absurd (omega (arith, r.long))
 
 -- P(n) = L(1) + .. + L(n)
-pub prenecklaces-lyndon : (n k : ℕ) → 0 < n → howMany prenecklace n k ≡ howManyTo lyndon n k
-unfolding howManyTo howMany
+pub prenecklaces-lyndon : (n k : ℕ) → 0 < n → how_many prenecklace n k ≡ how_many_to lyndon n k
+unfolding how_many_to how_many
 prenecklaces-lyndon zero k z = absurd (omega arith)
 prenecklaces-lyndon (suc zero) k z =
     omega (arith, count-cong prenecklace lyndon (readings 1 k) (λ w r. let y = one-sector k w r in lyndon-prenecklace w y ∙ sym y) (readings-all 1 k))
 prenecklaces-lyndon (suc (suc n)) k z = omega (arith, prenecklaces-more (suc n) k (omega arith), prenecklaces-lyndon (suc n) k (omega arith))
 
 -- L(1) + .. + L(n) is at most N(1) + .. + N(n)
-lyndon-necklaces : (n k : ℕ) → howManyTo lyndon n k ≤ howManyTo necklace n k
-unfolding howManyTo howMany
+lyndon-necklaces : (n k : ℕ) → how_many_to lyndon n k ≤ how_many_to necklace n k
+unfolding how_many_to how_many
 lyndon-necklaces zero k = omega arith
 lyndon-necklaces (suc n) k =
     omega (arith, lyndon-necklaces n k, count-le lyndon necklace (readings (suc n) k) (λ w r h. lyndon-necklace w h) (readings-all (suc n) k))
 
 -- P(n) is at most the number of necklaces of lengths 1 to n together
-pub prenecklaces-necklaces : (n k : ℕ) → 0 < n → howMany prenecklace n k ≤ howManyTo necklace n k
+pub prenecklaces-necklaces : (n k : ℕ) → 0 < n → how_many prenecklace n k ≤ how_many_to necklace n k
 prenecklaces-necklaces n k z = omega (arith, prenecklaces-lyndon n k z, lyndon-necklaces n k)

@@ -4,11 +4,11 @@
 --     neck-of, of-neck      necklace w, and Neck of its sectors
 --     necklace-prenecklace  a necklace is a prenecklace
 use Rattle.words.proofs.Plain.{ℕ, ◌+◌, ◌-◌, ◌<◌, ◌≤◌, arith, ◌≡◌, refl, sym, ◌∙◌, true, List, length, get_or, take, drop, length-drop, length-take-le, get_or-take}
-use Rattle.words.proofs.{Plain.get_or-drop, Search.all-at, Search.all_of, Lex.upTo-not-less, Lex.not-less-upTo}
+use Rattle.words.proofs.{Plain.get_or-drop, Search.all-at, Search.all_of, Lex.up_to-not-less, Lex.not-less-up_to}
 use Rattle.words.specs.Turn.{turn}
 use Rattle.words.proofs.Sequence.{sec, from, recast}
 use Rattle.words.proofs.Turn.{length-turn, turn_low, turn-high}
-use Rattle.rings.specs.{Necklace.necklace, Necklace.notAboveTurn, Prenecklace.prenecklace, Prenecklace.endingHolds}
+use Rattle.rings.specs.{Necklace.necklace, Necklace.not_above_turn, Prenecklace.prenecklace, Prenecklace.ending_holds}
 use Rattle.ring_laws.proofs.Run.{Pre}
 use Rattle.ring_laws.proofs.Repeat.{Turned, Neck, neck-pre}
 
@@ -27,17 +27,17 @@ module _ (w : List ℕ) where
   ending_at i m = get_or-drop i w m 0
 
   pub pre-of : prenecklace w ≡ true → Pre (sec w) (length w)
-  unfolding prenecklace endingHolds
+  unfolding prenecklace ending_holds
   pre-of h i l =
-      upTo-not-less (take (length w - i) w) (drop i w) (part-lengths i) (all-at (length w) (endingHolds w) h i (omega (arith, l.bound)))
+      up_to-not-less (take (length w - i) w) (drop i w) (part-lengths i) (all-at (length w) (ending_holds w) h i (omega (arith, l.bound)))
       (rw (begin-length i)
       (recast (from i (sec w)) (sec w) (sec (drop i w)) (sec (take (length w - i) w)) (length w - i) (λ m b. sym (ending_at i m)) (λ m b. sym (begin-at i m b)) l))
 
   pub of-pre : Pre (sec w) (length w) → prenecklace w ≡ true
-  unfolding prenecklace endingHolds
+  unfolding prenecklace ending_holds
   of-pre pre =
-      all_of (length w) (endingHolds w) (λ i b.
-      not-less-upTo (take (length w - i) w) (drop i w) (part-lengths i) (λ l.
+      all_of (length w) (ending_holds w) (λ i b.
+      not-less-up_to (take (length w - i) w) (drop i w) (part-lengths i) (λ l.
       pre i
       (recast (sec (drop i w)) (sec (take (length w - i) w)) (from i (sec w)) (sec w) (length w - i) (λ m c. ending_at i m) (λ m c. begin-at i m c)
       (rw (begin-length i) at l))))
@@ -58,16 +58,16 @@ module _ (w : List ℕ) where
       go (Rattle.words.proofs.Split.Tri.gt e) = past (omega arith)
 
   pub neck-of : necklace w ≡ true → Neck (sec w) (length w)
-  unfolding necklace notAboveTurn
+  unfolding necklace not_above_turn
   neck-of h i t b turns l =
-      upTo-not-less w (turn i w) (sym (length-turn i w (omega arith))) (all-at (length w) (notAboveTurn w) h i b)
+      up_to-not-less w (turn i w) (sym (length-turn i w (omega arith))) (all-at (length w) (not_above_turn w) h i b)
       (recast t (sec w) (sec (turn i w)) (sec w) (length w) (one-turn i t (sec (turn i w)) b turns (turned i (omega arith))) (λ m c. refl) l)
 
   pub of-neck : Neck (sec w) (length w) → necklace w ≡ true
-  unfolding necklace notAboveTurn
+  unfolding necklace not_above_turn
   of-neck neck =
-      all_of (length w) (notAboveTurn w)
-      (λ i b. not-less-upTo w (turn i w) (sym (length-turn i w (omega arith))) (λ l. neck i (sec (turn i w)) b (turned i (omega arith)) l))
+      all_of (length w) (not_above_turn w)
+      (λ i b. not-less-up_to w (turn i w) (sym (length-turn i w (omega arith))) (λ l. neck i (sec (turn i w)) b (turned i (omega arith)) l))
 
   -- a necklace is a prenecklace
   pub necklace-prenecklace : necklace w ≡ true → prenecklace w ≡ true

@@ -1,5 +1,5 @@
 -- A necklace of period d is a Lyndon word of length d repeated (000, section 1.1).
---     necklaceBy d w        w is a necklace with the period d
+--     necklace_by d w        w is a necklace with the period d
 --     beginning-lyndon      its first d sectors are a Lyndon word, and repeated they are the necklace
 --     repeated-necklace     a Lyndon word of length d, repeated up to a multiple of d, is a necklace of period d that begins with it
 use Rattle.words.proofs.Plain.{ℕ, ◌%◌, ◌<◌, ◌≤◌, ◌∣◌, arith, ◌≡◌, sym, ap, subst, ◌∙◌, Bool, true, ◌&&◌, List, eqb, length, get_or, take, ext_get_or}
@@ -7,7 +7,7 @@ use Rattle.words.proofs.Plain.{length-take-le, get_or-take, eq-eqb, eqb-true}
 use native.Mathlib.Nat.{mod-lt, mod-eq_of_lt, mod-eq-zero_of_dvd}
 use Rattle.words.specs.Readings.{Reading}
 use Rattle.words.proofs.Split.{both, both_left, both_right}
-use Rattle.words.proofs.{Search.length-tab, Search.getD-tab, Sequence.sec}
+use Rattle.words.proofs.{Search.length-tab, Search.get_d-tab, Sequence.sec}
 use Rattle.rings.specs.Necklace.{necklace, period, lyndon}
 use Rattle.rings.specs.Next.{repeated}
 use Rattle.ring_laws.proofs.Run.{Lyn, Run, lyn-through, run-through}
@@ -16,8 +16,8 @@ use Rattle.ring_laws.proofs.{Words.necklace-prenecklace, Classes.period-lyn}
 use Rattle.ring_laws.proofs.Lyndon.{run-necklace, period-run, lyndon-of, of-lyndon, lyn-run}
 
 -- a necklace with the period d
-unfoldable pub necklaceBy : ℕ → List ℕ → Bool
-necklaceBy d w = necklace w && eqb (period w) d
+unfoldable pub necklace_by : ℕ → List ℕ → Bool
+necklace_by d w = necklace w && eqb (period w) d
 
 -- ---- a word repeated, sector by sector
 
@@ -27,11 +27,11 @@ repeated-length n u = length-tab n (λ m. get_or u (m % length u) 0)
 
 repeated-at : (n : ℕ) (u : List ℕ) (m : ℕ) → m < n → get_or (repeated n u) m 0 ≡ get_or u (m % length u) 0
 unfolding repeated
-repeated-at n u m l = getD-tab n (λ m. get_or u (m % length u) 0) m 0 l
+repeated-at n u m l = get_d-tab n (λ m. get_or u (m % length u) 0) m 0 l
 
 -- the first d sectors of a necklace of period d are a Lyndon word, and repeated they are the necklace
-pub beginning-lyndon : (n d k : ℕ) (w : List ℕ) → 0 < n → Reading n k w → necklaceBy d w ≡ true → Reading d k (take d w) × (lyndon (take d w) ≡ true) × (repeated n (take d w) ≡ w)
-unfolding necklaceBy
+pub beginning-lyndon : (n d k : ℕ) (w : List ℕ) → 0 < n → Reading n k w → necklace_by d w ≡ true → Reading d k (take d w) × (lyndon (take d w) ≡ true) × (repeated n (take d w) ≡ w)
+unfolding necklace_by
 beginning-lyndon n d k w z r h = go run
   where
     neck : necklace w ≡ true
@@ -59,8 +59,8 @@ beginning-lyndon n d k w z r h = go run
 
 -- a Lyndon word of length d, repeated up to a multiple of d, is a necklace of period d that begins with it
 pub repeated-necklace : (n d k : ℕ) (u : List ℕ) → 0 < d → d ≤ n → d ∣ n → Reading d k u → lyndon u ≡ true → Reading n k (repeated n u) ×
-    (necklaceBy d (repeated n u) ≡ true) × (take d (repeated n u) ≡ u)
-unfolding necklaceBy
+    (necklace_by d (repeated n u) ≡ true) × (take d (repeated n u) ≡ u)
+unfolding necklace_by
 repeated-necklace n d k u z b q r h = (
   record { long = long; shades = λ i l. rw (at i l) (r.shades (i % d) (mod-lt i z)) },
   both (necklace (repeated n u)) (eqb (period (repeated n u)) d) (run-necklace (repeated n u) d run whole) (eq-eqb (period (repeated n u)) d (period-run (repeated n u) d run whole)),

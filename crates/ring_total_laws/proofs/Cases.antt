@@ -6,7 +6,7 @@ use Rattle.words.specs.{Readings.readings, Table.Hold}
 use Rattle.rings.specs.{Necklace.necklace, Open.open-all}
 use Rattle.rings.specs.Steps.{zeros, FullWalk, done, step}
 use Rattle.rings.proofs.Cases.{ring, digits}
-use Rattle.ring_total_laws.specs.{Turns.isTurn, OneRing.ringsOf, OneRing.PeriodsAddUp}
+use Rattle.ring_total_laws.specs.{Turns.is_turn, OneRing.rings_of, OneRing.PeriodsAddUp}
 
 -- the shapes of a row
 pub data Case : Type 0 where
@@ -17,10 +17,10 @@ pub data Case : Type 0 where
 
 -- what a row claims
 unfoldable pub Holds : Case → Type 0
-Holds (turned n v w b) = isTurn (ring n v) (ring n w) ≡ b
+Holds (turned n v w b) = is_turn (ring n v) (ring n w) ≡ b
 Holds (walked n k vs) =
     ((m : ℕ) × FullWalk necklace k (zeros n) (map (ring n) vs) m)
-    × (map (λ w. ringsOf w (zeros n) (map (ring n) vs)) (readings n k) ≡ replicate (k ^ n) 1)
+    × (map (λ w. rings_of w (zeros n) (map (ring n) vs)) (readings n k) ≡ replicate (k ^ n) 1)
     × PeriodsAddUp n k (zeros n) (map (ring n) vs)
 
 unfoldable pub table : List Case
@@ -37,7 +37,7 @@ table =
 
 -- the one claim
 pub cases : Hold Holds table
-unfolding digits ring isTurn Holds Hold table open-all
+unfolding digits ring is_turn Holds Hold table open-all
 cases = (
   refl,
   (

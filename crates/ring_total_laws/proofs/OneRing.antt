@@ -18,7 +18,7 @@ use Rattle.rings.specs.{Necklace.necklace, Necklace.period, Home.home, Steps.Ful
 use Rattle.ring_laws.proofs.Moves.{before-not-same, after-not-same}
 use Rattle.ring_laws.proofs.FullWalk.{walk-exists, walk-kind, walk-each, zeros, length-zeros, zeros-at, zeros-reading, zeros-necklace}
 use Rattle.ring_home_laws.proofs.Home.{home-necklace, home-reading}
-use Rattle.ring_total_laws.specs.{Turns.isTurn, OneRing.OneRingEach, OneRing.PeriodsAddUp}
+use Rattle.ring_total_laws.specs.{Turns.is_turn, OneRing.OneRingEach, OneRing.PeriodsAddUp}
 use Rattle.ring_total_laws.proofs.{Totals.total-swap, Totals.readings-size, Turning.turns-count, Turning.necklace-turn}
 
 -- a necklace of n sectors and k shades
@@ -55,7 +55,7 @@ module _ (n k : ℕ) (z : 0 < n) (y : 0 < k) (rings : List (List ℕ)) (m : ℕ)
   -- each reading is a turn of exactly one ring of the walk
   pub one-ring : OneRingEach n k (zeros n) rings
   one-ring w r =
-      count-cong (λ v. isTurn v w) (same (home w)) (zeros n ∷ rings) (λ v q. necklace-turn v w (omega (arith, q.0.long)) (r.long ∙ sym q.0.long) q.1) walk-rings
+      count-cong (λ v. is_turn v w) (same (home w)) (zeros n ∷ rings) (λ v q. necklace-turn v w (omega (arith, q.0.long)) (r.long ∙ sym q.0.long) q.1) walk-rings
       ∙ walk-all (home w) (home-reading w long n k r) (home-necklace w long)
     where
       long : 0 < length w
@@ -64,9 +64,9 @@ module _ (n k : ℕ) (z : 0 < n) (y : 0 < k) (rings : List (List ℕ)) (m : ℕ)
   -- the periods of the rings of the walk add up to k ^ n
   pub period-sum : PeriodsAddUp n k (zeros n) rings
   period-sum =
-      total-cong period (λ v. count (isTurn v) (readings n k)) (zeros n ∷ rings) (λ v q. sym (turns-count v (omega (arith, q.0.long)) n k q.0)) walk-rings
-      ∙ total-swap (λ v w. bit (isTurn v w)) (zeros n ∷ rings) (readings n k)
-      ∙ total-cong (λ w. count (λ v. isTurn v w) (zeros n ∷ rings)) (λ w. 1) (readings n k) one-ring (readings-all n k)
+      total-cong period (λ v. count (is_turn v) (readings n k)) (zeros n ∷ rings) (λ v q. sym (turns-count v (omega (arith, q.0.long)) n k q.0)) walk-rings
+      ∙ total-swap (λ v w. bit (is_turn v w)) (zeros n ∷ rings) (readings n k)
+      ∙ total-cong (λ w. count (λ v. is_turn v w) (zeros n ∷ rings)) (λ w. 1) (readings n k) one-ring (readings-all n k)
       ∙ readings-size n k
 
 -- there is such a walk for every n and k of at least 1, and both sentences hold of it

@@ -3,12 +3,12 @@
 -- The first part of the table is the page's starred cases, in its order; the second has a row for each definition that no starred case computes.
 use Rattle.words.proofs.Plain.{ℕ, zero, suc, ◌/◌, ◌%◌, ◌≡◌, refl, Bool, true, false, none, some, List, [], ◌∷◌}
 use Rattle.words.specs.Table.{Hold}
-use Rattle.rings.specs.{declared.Class.Class, Prenecklace.prenecklace, Class.class_of, Class.lookAt, Home.home, Home.shift}
+use Rattle.rings.specs.{declared.Class.Class, Prenecklace.prenecklace, Class.class_of, Class.look_at, Home.home, Home.shift}
 use Rattle.rings.specs.declared.Class.TheVariants.{Loose, Opening, Repeating, Single}
-use Rattle.rings.specs.Necklace.{necklace, lyndon, period, belowOtherTurns}
-use Rattle.rings.specs.Alike.{evenHanded, sameRing, apart, mirrored, bracelet, leastOfPair}
-use Rattle.rings.specs.{Next.nextPrenecklace, Counts.countedNecklace, Open.open-all}
-use Rattle.rings.specs.Steps.{first_of, next_of, moves, howMany, howManyTo}
+use Rattle.rings.specs.Necklace.{necklace, lyndon, period, below_other_turns}
+use Rattle.rings.specs.Alike.{even_handed, same_ring, apart, mirrored, bracelet, least_of_pair}
+use Rattle.rings.specs.{Next.next_prenecklace, Counts.counted_necklace, Open.open-all}
+use Rattle.rings.specs.Steps.{first_of, next_of, moves, how_many, how_many_to}
 
 -- the n decimal digits of a numeral, in front of the sectors that follow
 unfoldable pub digits : ℕ → ℕ → List ℕ → List ℕ
@@ -60,23 +60,23 @@ pub data Case : Type 0 where
 -- what a row claims
 unfoldable pub Holds : Case → Type 0
 Holds (classed n w c) = class_of (ring n w) ≡ c
-Holds (looked n w p) = lookAt (ring n w) ≡ p
+Holds (looked n w p) = look_at (ring n w) ≡ p
 Holds (comes_home n w h s p) = (home (ring n w) ≡ ring n h) × (shift (ring n w) ≡ s) × (period (ring n w) ≡ p)
 Holds (then-necklace n w v m) = (next_of necklace 2 (ring n w) ≡ some (ring n v)) × (moves 2 (ring n w) (some (ring n v)) ≡ m)
 Holds (then-lyndon n w v m) = (next_of lyndon 2 (ring n w) ≡ some (ring n v)) × (moves 2 (ring n w) (some (ring n v)) ≡ m)
 Holds (then-done n w) =
     (next_of prenecklace 2 (ring n w) ≡ none) × (next_of necklace 2 (ring n w) ≡ none) × (next_of lyndon 2 (ring n w) ≡ none) × (moves 2 (ring n w) none ≡ 0)
-Holds (page-next k n w v) = nextPrenecklace k (ring n w) ≡ ring n v
-Holds (handed n w b) = evenHanded (ring n w) ≡ b
-Holds (compared n v w b d) = (sameRing (ring n v) (ring n w) ≡ b) × (apart (ring n v) (ring n w) ≡ d)
+Holds (page-next k n w v) = next_prenecklace k (ring n w) ≡ ring n v
+Holds (handed n w b) = even_handed (ring n w) ≡ b
+Holds (compared n v w b d) = (same_ring (ring n v) (ring n w) ≡ b) × (apart (ring n v) (ring n w) ≡ d)
 Holds (other-side n w v) = mirrored (ring n w) ≡ ring n v
-Holds (of_pair n w b) = (bracelet (ring n w) ≡ b) × (leastOfPair (ring n w) ≡ b)
+Holds (of_pair n w b) = (bracelet (ring n w) ≡ b) × (least_of_pair (ring n w) ≡ b)
 Holds (then-bracelet n w v) = next_of bracelet 2 (ring n w) ≡ some (ring n v)
-Holds (below-turns n w b) = belowOtherTurns (ring n w) ≡ b
-Holds (counted-first n cs w) = first_of (countedNecklace cs) n (lib.ListN.length cs) ≡ some (ring n w)
-Holds (counted_next n cs w v) = next_of (countedNecklace cs) (lib.ListN.length cs) (ring n w) ≡ some (ring n v)
-Holds (counted-done n cs w) = next_of (countedNecklace cs) (lib.ListN.length cs) (ring n w) ≡ none
-Holds (how-many k n p c l t) = (howMany prenecklace n k ≡ p) × (howMany necklace n k ≡ c) × (howMany lyndon n k ≡ l) × (howManyTo necklace n k ≡ t)
+Holds (below-turns n w b) = below_other_turns (ring n w) ≡ b
+Holds (counted-first n cs w) = first_of (counted_necklace cs) n (lib.ListN.length cs) ≡ some (ring n w)
+Holds (counted_next n cs w v) = next_of (counted_necklace cs) (lib.ListN.length cs) (ring n w) ≡ some (ring n v)
+Holds (counted-done n cs w) = next_of (counted_necklace cs) (lib.ListN.length cs) (ring n w) ≡ none
+Holds (how-many k n p c l t) = (how_many prenecklace n k ≡ p) × (how_many necklace n k ≡ c) × (how_many lyndon n k ≡ l) × (how_many_to necklace n k ≡ t)
 
 unfoldable pub table : List Case
 table =

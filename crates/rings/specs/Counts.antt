@@ -11,13 +11,13 @@ occurs b [] = 0
 occurs b (a ∷ w) = bit (eqb a b) + occurs b w
 
 -- the counts of the shades 0 to k - 1 in w
-unfoldable pub countsOf : ℕ → List ℕ → List ℕ
-countsOf k w = tab k (λ b. occurs b w)
+unfoldable pub counts_of : ℕ → List ℕ → List ℕ
+counts_of k w = tab k (λ b. occurs b w)
 
 -- w has exactly these counts
-unfoldable pub hasCounts : List ℕ → List ℕ → Bool
-hasCounts cs w = same (countsOf (length cs) w) cs
+unfoldable pub has_counts : List ℕ → List ℕ → Bool
+has_counts cs w = same (counts_of (length cs) w) cs
 
 -- a necklace with exactly these counts
-unfoldable pub countedNecklace : List ℕ → List ℕ → Bool
-countedNecklace cs w = necklace w && hasCounts cs w
+unfoldable pub counted_necklace : List ℕ → List ℕ → Bool
+counted_necklace cs w = necklace w && has_counts cs w

@@ -5,12 +5,12 @@ use Rattle.std.specs.Prelude.{ℕ, suc, ◌-◌, ◌%◌, Bool, List, [], ◌∷
 use Rattle.words.specs.Search.{greatest, tab}
 
 -- the sector at place i, counted from 1, is less than k - 1
-unfoldable pub lowAt : ℕ → List ℕ → ℕ → Bool
-lowAt k w i = ltb (suc (get_or w (i - 1) 0)) k
+unfoldable pub low_at : ℕ → List ℕ → ℕ → Bool
+low_at k w i = ltb (suc (get_or w (i - 1) 0)) k
 
 -- the last place, counted from 1, that holds less than k - 1; 0 where every sector is k - 1
-unfoldable pub lastLow : ℕ → List ℕ → ℕ
-lastLow k w = greatest (length w) (lowAt k w)
+unfoldable pub last_low : ℕ → List ℕ → ℕ
+last_low k w = greatest (length w) (low_at k w)
 
 -- the first i sectors, the last of them raised by one
 unfoldable pub raised : ℕ → List ℕ → List ℕ
@@ -21,5 +21,5 @@ unfoldable pub repeated : ℕ → List ℕ → List ℕ
 repeated n u = tab n (λ m. get_or u (m % length u) 0)
 
 -- the next prenecklace, where some sector is less than k - 1
-unfoldable pub nextPrenecklace : ℕ → List ℕ → List ℕ
-nextPrenecklace k w = repeated (length w) (raised (lastLow k w) w)
+unfoldable pub next_prenecklace : ℕ → List ℕ → List ℕ
+next_prenecklace k w = repeated (length w) (raised (last_low k w) w)

@@ -8,12 +8,12 @@ use Rattle.words.specs.Readings.{Reading}
 use Rattle.rings.specs.Necklace.{necklace, lyndon}
 
 -- the ending of w from place i on is not below the beginning of the same length
-unfoldable pub endingHolds : List ℕ → ℕ → Bool
-endingHolds w i = up_to (take (length w - i) w) (drop i w)
+unfoldable pub ending_holds : List ℕ → ℕ → Bool
+ending_holds w i = up_to (take (length w - i) w) (drop i w)
 
 -- a prenecklace: each ending is not below the beginning of the same length
 unfoldable pub prenecklace : List ℕ → Bool
-prenecklace w = all_below (length w) (endingHolds w)
+prenecklace w = all_below (length w) (ending_holds w)
 
 -- the other form: w is a beginning, possibly the whole, of some necklace over the same k shades, of whatever length
 pub record Begins (k : ℕ) (w : List ℕ) : Type 0 where
@@ -26,10 +26,10 @@ unfoldable pub lyn : List ℕ → ℕ
 lyn w = greatest (length w) (λ p. lyndon (take p w))
 
 -- the beginning up to and including the sector at place i is no prenecklace
-unfoldable pub wrongAt : List ℕ → ℕ → Bool
-wrongAt w i = not (prenecklace (take (suc i) w))
+unfoldable pub wrong_at : List ℕ → ℕ → Bool
+wrong_at w i = not (prenecklace (take (suc i) w))
 
 -- where a reading goes wrong: the place, from 0, of the first sector whose beginning, up to and including it, is no prenecklace
 -- (the length of a reading that is one)
-unfoldable pub wrongPlace : List ℕ → ℕ
-wrongPlace w = least (length w) (wrongAt w)
+unfoldable pub wrong_place : List ℕ → ℕ
+wrong_place w = least (length w) (wrong_at w)

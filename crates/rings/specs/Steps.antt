@@ -28,13 +28,13 @@ unfoldable pub moves : ℕ → List ℕ → Option (List ℕ) → ℕ
 moves k w answer = count (passed w answer) (readings (length w) k)
 
 -- how many readings of n and k are of the kind
-unfoldable pub howMany : (List ℕ → Bool) → ℕ → ℕ → ℕ
-howMany kind n k = count kind (readings n k)
+unfoldable pub how_many : (List ℕ → Bool) → ℕ → ℕ → ℕ
+how_many kind n k = count kind (readings n k)
 
 -- how many readings of k shades and of 1 to n sectors together are of the kind
-unfoldable pub howManyTo : (List ℕ → Bool) → ℕ → ℕ → ℕ
-howManyTo kind zero k = 0
-howManyTo kind (suc n) k = howManyTo kind n k + howMany kind (suc n) k
+unfoldable pub how_many_to : (List ℕ → Bool) → ℕ → ℕ → ℕ
+how_many_to kind zero k = 0
+how_many_to kind (suc n) k = how_many_to kind n k + how_many kind (suc n) k
 
 -- the all-zero ring of n sectors, the first of all, from which the full walks of the page start
 abbrev pub zeros : ℕ → List ℕ

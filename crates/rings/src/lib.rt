@@ -1,6 +1,8 @@
 // The class of a reading (01, 'Rules the work stands on'), and the bounds. This crate has no functions: its definitions are in specs/,
 // and the rings that the client checked by hand are one table in proofs/Cases.antt.
 
+#![tactic(auto)]
+
 // The bounds of n and k (01, 'What the catalogue covers').
 pub const MOST_SECTORS: usize = 64;
 

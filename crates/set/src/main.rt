@@ -1,5 +1,7 @@
 // A chart job's command (02, g).
 
+#![tactic(auto)]
+
 use set_program_inner::Rule;
 
 fn main() {

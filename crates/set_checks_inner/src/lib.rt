@@ -1,5 +1,7 @@
 // The checks of a target set's numbers (02, g): 1, 2, 12, 13. No public calls: crate `sets` makes them.
 
+#![tactic(auto)]
+
 ghost use Rattle.set_pick_spec.specs.Order.{SetCheckSays};
 ghost use Rattle.set_checks_inner.specs.Says.{SettableSays};
 

@@ -1,8 +1,10 @@
 // The set for numbers that passed the checks, by either rule (02, g): the Lyndon words of a walk, offered in order. No public calls: crate `sets` has the calls.
 
+#![tactic(auto)]
+
 ghost use Rattle.set_pick_spec.specs.Order.{Askable};
 ghost use Rattle.set_pick_spec.specs.Says.{SetSays};
-ghost use Rattle.guard_spec.specs.Choice.{chosenBy};
+ghost use Rattle.guard_spec.specs.Choice.{chosen_by};
 
 use guard_spec::Rule;
 use refusal::Checked;
@@ -12,7 +14,7 @@ use walk_spec::Outcome;
 // The set: from the all-zero ring on each Lyndon word is offered, until enough are taken or there are none left.
 pub fn choose(rule: Rule, n: usize, k: usize, d: usize, wanted: usize) -> Picked
     requires { Askable n k d wanted }
-    ensures { SetSays n k d wanted (chosenBy rule n k d wanted) result }
+    ensures { SetSays n k d wanted (chosen_by rule n k d wanted) result }
 {
     let zeros = [0u8; 64];
     let started = walk::start(&zeros[..n], k);

@@ -1,7 +1,9 @@
 // Whether a ring is at least so far apart from the readings in the places of a set. No public calls.
 
+#![tactic(auto)]
+
 ghost use Rattle.std.specs.Prelude.{◌≡◌, length};
-ghost use Rattle.set_clear_inner.specs.Says.{Comparable, clearIn};
+ghost use Rattle.set_clear_inner.specs.Says.{Comparable, clear_in};
 
 // The sectors of a place, and the counts of its tally, one for each shade.
 const SECTORS: usize = 24;
@@ -20,7 +22,7 @@ pub fn is_clear(
     d: usize,
 ) -> bool
     requires { Comparable places.now tallies.now taken ring.now counts.now k }
-    ensures { result ≡ clearIn (length ring.now) d places.now taken ring.now }
+    ensures { result ≡ clear_in (length ring.now) d places.now taken ring.now }
 {
     let n = ring.len();
     let mut left = taken;

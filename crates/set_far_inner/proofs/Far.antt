@@ -3,14 +3,14 @@
 --     far-counts                       the shade counts tell
 --     far-yes, far-no, far-never       they do not, and the library tells; it does not refuse readings that pass its checks
 use Rattle.words.proofs.Plain.{ℕ, suc, ◌+◌, ◌-◌, ◌*◌, ◌≤◌, arith, ◌≡◌, refl, true, false, List, ltb, length, le-ltb}
-use Rattle.words.proofs.{Search.length-tab, Search.getD-tab, Sequence.sec}
-use Rattle.rings.specs.{Alike.apart, Counts.occurs, Counts.countsOf}
+use Rattle.words.proofs.{Search.length-tab, Search.get_d-tab, Sequence.sec}
+use Rattle.rings.specs.{Alike.apart, Counts.occurs, Counts.counts_of}
 use Rattle.ring_home_laws.proofs.Counts.{surplus, surplus-cong, surplus-apart}
-use Rattle.refusal.specs.{declared.Refusal.Refusal, Order.Passed, Calls.twoReadings}
+use Rattle.refusal.specs.{declared.Refusal.Refusal, Order.Passed, Calls.two_readings}
 use Rattle.refusal.proofs.Unique.{never_both}
 use Rattle.home_spec.specs.declared.Told.TheVariants.{Yes, No, Refused}
 use Rattle.home_spec.specs.Says.{ToldSays}
-use Rattle.set_spec.specs.Greedy.{farFrom}
+use Rattle.set_spec.specs.Greedy.{far_from}
 
 -- one shade more
 pub surplus-more : (f g : ℕ → ℕ) (s x r : ℕ) → x ≡ surplus s f g → x ≤ 255 * s → r ≡ f s - g s → f s ≤ 255 → (x + r ≡ surplus (s + 1) f g) × (x + r ≤ 255 * (s + 1))
@@ -18,27 +18,27 @@ unfolding surplus
 surplus-more f g s x r e b h m = let q : s + 1 ≡ suc s = omega arith in rw q (omega arith, omega arith)
 
 -- there are 16 shades
-pub counts-sixteen : (v a : List ℕ) → a ≡ countsOf 16 v → length a ≡ 16
-unfolding countsOf
+pub counts-sixteen : (v a : List ℕ) → a ≡ counts_of 16 v → length a ≡ 16
+unfolding counts_of
 counts-sixteen v a e = rw e (length-tab 16 (λ j. occurs j v))
 
 -- the shade counts tell
-pub far-counts : (d : ℕ) (v w a b : List ℕ) → length v ≡ length w → a ≡ countsOf 16 v → b ≡ countsOf 16 w →
-    (x : ℕ) → x ≡ surplus 16 (sec a) (sec b) → d ≤ x → true ≡ farFrom d v w
-unfolding farFrom countsOf
+pub far-counts : (d : ℕ) (v w a b : List ℕ) → length v ≡ length w → a ≡ counts_of 16 v → b ≡ counts_of 16 w →
+    (x : ℕ) → x ≡ surplus 16 (sec a) (sec b) → d ≤ x → true ≡ far_from d v w
+unfolding far_from counts_of
 far-counts d v w a b l p q x e h =
-    let s = surplus-cong 16 (sec a) (sec b) (λ i. occurs i v) (λ i. occurs i w) (λ i m. rw p (getD-tab 16 (λ j. occurs j v) i 0 m)) (λ i m. rw q (getD-tab 16 (λ j. occurs j w) i 0 m)) in
+    let s = surplus-cong 16 (sec a) (sec b) (λ i. occurs i v) (λ i. occurs i w) (λ i m. rw p (get_d-tab 16 (λ j. occurs j v) i 0 m)) (λ i m. rw q (get_d-tab 16 (λ j. occurs j w) i 0 m)) in
     rw (le-ltb (apart v w) d (omega (arith, s, surplus-apart 16 v w l))) refl
 
 -- they do not: what the library tells
-module _ (d k : ℕ) (v w : List ℕ) (good : Passed (twoReadings v w k)) where
-  pub far-no : ToldSays (twoReadings v w k) (ltb (apart v w) d) Yes → false ≡ farFrom d v w
-  unfolding farFrom
+module _ (d k : ℕ) (v w : List ℕ) (good : Passed (two_readings v w k)) where
+  pub far-no : ToldSays (two_readings v w k) (ltb (apart v w) d) Yes → false ≡ far_from d v w
+  unfolding far_from
   far-no s = rw s.1 refl
 
-  pub far-yes : ToldSays (twoReadings v w k) (ltb (apart v w) d) No → true ≡ farFrom d v w
-  unfolding farFrom
+  pub far-yes : ToldSays (two_readings v w k) (ltb (apart v w) d) No → true ≡ far_from d v w
+  unfolding far_from
   far-yes s = rw s.1 refl
 
-  pub far-never : (r : Refusal) → ToldSays (twoReadings v w k) (ltb (apart v w) d) (Refused r) → ⊥
-  far-never r s = never_both (twoReadings v w k) r s good
+  pub far-never : (r : Refusal) → ToldSays (two_readings v w k) (ltb (apart v w) d) (Refused r) → ⊥
+  far-never r s = never_both (two_readings v w k) r s good

@@ -9,15 +9,15 @@ use Rattle.words.proofs.Plain.{ℕ, zero, suc, ◌<◌, ◌≤◌, arith, ◌≡
 use Rattle.words.specs.{Order.up_to, Readings.readings}
 use Rattle.words.proofs.Readings.{All, nothing, all-weaken, Increasing, empty, readings-all, readings-increasing, each-reading}
 use Rattle.rings.specs.Necklace.{lyndon}
-use Rattle.set_spec.specs.Greedy.{May, greedyBy, lookedBy, lyndons}
-use Rattle.set_spec.specs.Worth.{OneOf, lastTaken, LyndonOf, LyndonWords, Rising}
+use Rattle.set_spec.specs.Greedy.{May, greedy_by, looked_by, lyndons}
+use Rattle.set_spec.specs.Worth.{OneOf, last_taken, LyndonOf, LyndonWords, Rising}
 use Rattle.set_laws.proofs.Lists.{all-place, place-all, increasing-rising, begins-down}
 use Rattle.set_laws.proofs.Kept.{kept-all, kept-each, kept-increasing}
 use Rattle.set_laws.proofs.Choice.{Ordered, Settling, greedy-all, greedy-most, greedy-keeps, greedy-increasing, greedy-settles, greedy-looked, greedy-last, looked-begins, short-looked}
 
 -- where all that are wanted are taken, the last one taken is the last one looked at; both are none where none is wanted
-last-of-all : (may : May) (want : ℕ) (ws : List (List ℕ)) → length (greedyBy may want [] ws) ≡ want → lastTaken (greedyBy may want [] ws) ≡ lastTaken (lookedBy may want [] ws)
-unfolding greedyBy lookedBy
+last-of-all : (may : May) (want : ℕ) (ws : List (List ℕ)) → length (greedy_by may want [] ws) ≡ want → last_taken (greedy_by may want [] ws) ≡ last_taken (looked_by may want [] ws)
+unfolding greedy_by looked_by
 last-of-all may zero ws e = refl
 last-of-all may (suc left) ws e = greedy-last may left [] ws (omega arith)
 
@@ -49,10 +49,10 @@ module _ (n k : ℕ) where
 module _ (may : May) (n k want : ℕ) where
   -- the set, and what was looked at for it
   abbrev ts : List (List ℕ)
-  ts = greedyBy may want [] (lyndons n k)
+  ts = greedy_by may want [] (lyndons n k)
 
   abbrev seen : List (List ℕ)
-  seen = lookedBy may want [] (lyndons n k)
+  seen = looked_by may want [] (lyndons n k)
 
   pub chosen-most : length ts ≤ want
   chosen-most = omega (arith, greedy-most may want [] (lyndons n k))
@@ -68,7 +68,7 @@ module _ (may : May) (n k want : ℕ) where
   chosen-looked = all-place (greedy-looked {P = OneOf seen} may want [] (lyndons n k) nothing (place-all seen (λ j h. record { at = j; inside = h; is = refl })))
 
   -- where there are enough, the last one taken is the last one looked at
-  pub chosen_last : length ts ≡ want → lastTaken ts ≡ lastTaken seen
+  pub chosen_last : length ts ≡ want → last_taken ts ≡ last_taken seen
   chosen_last e = last-of-all may want (lyndons n k) e
 
   -- what holds of no words, and is kept by each that joins

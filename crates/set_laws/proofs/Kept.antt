@@ -6,7 +6,7 @@
 use Rattle.words.proofs.Plain.{ℕ, ◌+◌, ◌<◌, ◌≤◌, arith, ◌≡◌, refl, sym, ap, ◌∙◌, true, false, ◌&&◌, none, some, List, [], ◌∷◌, length}
 use Rattle.words.specs.{Order.before, Order.up_to, Readings.Reading, Readings.readings}
 use Rattle.words.proofs.Split.{Test, passes, fails, test, refuted}
-use Rattle.words.proofs.Lex.{Lex, ahead, equal, behind, lex, before-irrefl, before-trans, before-less, before-upTo, upTo-refl}
+use Rattle.words.proofs.Lex.{Lex, ahead, equal, behind, lex, before-irrefl, before-trans, before-less, before-up_to, up_to-refl}
 use Rattle.words.proofs.Readings.{all-weaken, readings-all, readings-increasing, first-none, first-is}
 use Rattle.rings.specs.{Necklace.lyndon, Steps.above_of, Steps.next_of}
 use Rattle.ring_laws.proofs.Lyndon.{of-lyndon, lyndon-one}
@@ -71,6 +71,6 @@ lyndons-one k z =
     one = lyndon-one 0
 
     low : (u : List ℕ) → Reading 1 k u → Lex (zeros 1) u → up_to (zeros 1) u ≡ true
-    low u r (ahead l) = before-upTo (zeros 1) u l
-    low u r (equal q) = rw (← q) (upTo-refl (zeros 1))
+    low u r (ahead l) = before-up_to (zeros 1) u l
+    low u r (equal q) = rw (← q) (up_to-refl (zeros 1))
     low u r (behind l) = absurd (none_below 1 k u r l)

@@ -5,7 +5,7 @@
 --     Begins vs ws                   vs is a beginning of ws; of a list in increasing order it has all words up to one that it has (`begins-down`)
 use Rattle.words.proofs.Plain.{ℕ, zero, suc, ◌+◌, ◌<◌, arith, ◌≡◌, refl, ◌∙◌, true, List, [], ◌∷◌, ◌++◌, length, get_or, length-append}
 use Rattle.words.specs.Order.{before, up_to}
-use Rattle.words.proofs.{Split.clash, Lex.upTo-not-before}
+use Rattle.words.proofs.{Split.clash, Lex.up_to-not-before}
 use Rattle.words.proofs.Readings.{All, nothing, also, Increasing, empty, more}
 
 -- ---- one word more
@@ -50,6 +50,6 @@ pub begins-down : {vs ws : List (List ℕ)} → Begins vs ws → Increasing ws �
     (get_or vs i []) ≡ true → (j < length vs) × (get_or vs j [] ≡ get_or ws j [])
 begins-down none_yet s i j h l u = absurd (omega arith)
 begins-down (one_more b) s i zero h l u = (omega arith, refl)
-begins-down (one_more b) (more a s) zero (suc j) h l u = clash _ (all-place a j (omega arith)) (upTo-not-before _ _ u)
+begins-down (one_more b) (more a s) zero (suc j) h l u = clash _ (all-place a j (omega arith)) (up_to-not-before _ _ u)
 begins-down (one_more b) (more a s) (suc i) (suc j) h l u =
     let r = begins-down b s i j (omega arith) (omega arith) u in (omega (arith, r.0), r.1)

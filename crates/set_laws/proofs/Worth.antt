@@ -9,7 +9,7 @@ use Rattle.words.proofs.{Plain.ltb-false, Plain.eqb-true, Search.all-at, Search.
 use Rattle.words.specs.{Order.before, Search.all_below}
 use Rattle.words.proofs.Split.{passes, fails, test, lt, eq, gt, tri, clash}
 use Rattle.rings.specs.Alike.{apart}
-use Rattle.set_spec.specs.Greedy.{farFrom, clear, picked, lookedAt}
+use Rattle.set_spec.specs.Greedy.{far_from, clear, picked, looked_at}
 use Rattle.set_spec.specs.Worth.{Spread, Near, Settled, took, left_out, Worth}
 use Rattle.set_laws.proofs.Lists.{length_more, at_old, at_new, all-place}
 use Rattle.set_laws.proofs.Choice.{Extends, Settling}
@@ -17,27 +17,27 @@ use Rattle.set_laws.proofs.Chosen.{chosen-most, chosen-members, chosen-rising, c
 
 -- ---- far and near
 
-pub far-le : (d : ℕ) (t w : List ℕ) → farFrom d t w ≡ true → d ≤ apart t w
-unfolding farFrom
+pub far-le : (d : ℕ) (t w : List ℕ) → far_from d t w ≡ true → d ≤ apart t w
+unfolding far_from
 far-le d t w h =
     elim (test (ltb (apart t w) d)) [ passes e ↦ clash (not (ltb (apart t w) d)) h (rw e refl) | fails e ↦ ltb-false (apart t w) d e ]
 
-pub near-lt : (d : ℕ) (t w : List ℕ) → farFrom d t w ≡ false → apart t w < d
-unfolding farFrom
+pub near-lt : (d : ℕ) (t w : List ℕ) → far_from d t w ≡ false → apart t w < d
+unfolding far_from
 near-lt d t w h =
     elim (test (ltb (apart t w) d)) [ passes e ↦ ltb-true (apart t w) d e | fails e ↦ clash (not (ltb (apart t w) d)) (rw e refl) h ]
 
 -- a word that is clear is far from each taken
 pub clear_at : (d : ℕ) (ts : List (List ℕ)) (w : List ℕ) → clear d ts w ≡ true → (i : ℕ) → i < length ts → d ≤ apart (get_or ts i []) w
 unfolding clear
-clear_at d ts w h i l = far-le d (get_or ts i []) w (all-at (length ts) (λ m. farFrom d (get_or ts m []) w) h i l)
+clear_at d ts w h i l = far-le d (get_or ts i []) w (all-at (length ts) (λ m. far_from d (get_or ts m []) w) h i l)
 
 -- one that is not is near to one taken
 pub not-clear : (d : ℕ) (ts : List (List ℕ)) (w : List ℕ) → clear d ts w ≡ false → (i : ℕ) × (i < length ts) × (apart (get_or ts i []) w < d)
 unfolding clear
-not-clear d ts w h = found (not-all (length ts) (λ m. farFrom d (get_or ts m []) w) h)
+not-clear d ts w h = found (not-all (length ts) (λ m. far_from d (get_or ts m []) w) h)
   where
-    found : (i : ℕ) × (i < length ts) × (farFrom d (get_or ts i []) w ≡ false) → (i : ℕ) × (i < length ts) × (apart (get_or ts i []) w < d)
+    found : (i : ℕ) × (i < length ts) × (far_from d (get_or ts i []) w ≡ false) → (i : ℕ) × (i < length ts) × (apart (get_or ts i []) w < d)
     found (i, l, e) = (i, l, near-lt d (get_or ts i []) w e)
 
 -- where none is taken each word is clear
@@ -87,8 +87,8 @@ module _ (n k d want : ℕ) where
   unfolding picked
   spread = chosen-keeps (clear d) n k want (Spread d) (λ ts w s l h. spread-more d ts w s h) (λ i j b h. absurd (omega arith))
 
-  pub picked-worth : (full : Bool) → full ≡ eqb (length (picked n k d want)) want → Worth n k d want (picked n k d want) (lookedAt n k d want) full
-  unfolding picked lookedAt
+  pub picked-worth : (full : Bool) → full ≡ eqb (length (picked n k d want)) want → Worth n k d want (picked n k d want) (looked_at n k d want) full
+  unfolding picked looked_at
   picked-worth full e =
       let fewer = chosen-fewer (clear d) n k want full e in
       record {

@@ -1,1 +1,4 @@
 // No code: this crate holds the theorems (proofs/) about the definitions of `set_spec`.
+
+#![tactic(auto)]
+

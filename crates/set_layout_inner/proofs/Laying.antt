@@ -7,14 +7,14 @@ use Rattle.words.proofs.Plain.{ℕ, suc, ◌+◌, ◌-◌, ◌*◌, ◌<◌, ◌
 use Rattle.words.proofs.Plain.{drop, length-append, length-drop, length-take-le, take_at, take_all}
 use native.Mathlib.Nat.{mul-suc, mul-le-mul_left}
 use Rattle.word_copy_laws.proofs.Copy.{copied}
-use Rattle.set_spec.specs.Places.{placeAt, setIn}
-use Rattle.set_layout_spec.specs.Layout.{endToEnd}
+use Rattle.set_spec.specs.Places.{place_at, set_in}
+use Rattle.set_layout_spec.specs.Layout.{end_to_end}
 
 -- one ring more
-end-to-end-more : (ts : List (List ℕ)) (w : List ℕ) → endToEnd (ts ++ (w ∷ [])) ≡ endToEnd ts ++ w
-unfolding endToEnd
+end-to-end-more : (ts : List (List ℕ)) (w : List ℕ) → end_to_end (ts ++ (w ∷ [])) ≡ end_to_end ts ++ w
+unfolding end_to_end
 end-to-end-more [] w = append-nil w
-end-to-end-more (t ∷ ts) w = ap (λ (x : List ℕ). t ++ x) (end-to-end-more ts w) ∙ sym (append_assoc t (endToEnd ts) w)
+end-to-end-more (t ∷ ts) w = ap (λ (x : List ℕ). t ++ x) (end-to-end-more ts w) ∙ sym (append_assoc t (end_to_end ts) w)
 
 -- there is room for the ring number j
 pub ring-room : (n j t : ℕ) → j < t → n * j + n ≤ n * t
@@ -24,10 +24,10 @@ ring-room n j t h = omega (arith, mul-le-mul_left {m = suc j} {n = t} n (omega a
 pub record Laid (n : ℕ) (p : List ℕ) (t : ℕ) (out : List ℕ) (j : ℕ) : Type 0 where
   pub some : j ≤ t
   pub long : length out ≡ n * t
-  pub laid : take (n * j) out ≡ endToEnd (setIn n p j)
+  pub laid : take (n * j) out ≡ end_to_end (set_in n p j)
 
 pub laid-start : {n : ℕ} {p : List ℕ} {t : ℕ} {out : List ℕ} → length out ≡ n * t → Laid n p t out 0
-unfolding endToEnd setIn
+unfolding end_to_end set_in
 laid-start {n = n} e = let z : n * 0 ≡ 0 = omega arith in record { some = omega arith; long = e; laid = rw z refl }
 
 -- and there is one more, for which there is room
@@ -55,14 +55,14 @@ module _ {n : ℕ} {p : List ℕ} {t : ℕ} {out : List ℕ} {j : ℕ} (turn : T
   wide : length o ≡ n
   wide = length-take-le (n * j + n - n * j) (drop (n * j) out) (omega (arith, turn.room, length-drop (n * j) out)) ∙ omega arith
 
-  v-is : v ≡ placeAt n p j
+  v-is : v ≡ place_at n p j
   v-is = let s : 24 * j + n - 24 * j ≡ n = omega arith in rw s refl
 
   front : length (take (n * j) out) ≡ n * j
   front = length-take-le (n * j) out (omega (arith, turn.room))
 
   pub laid_on : {l : List ℕ} → l ≡ take (length v) v ++ drop (length v) o → Laid n p t (take (n * j) out ++ (l ++ rest)) (j + 1)
-  unfolding setIn
+  unfolding set_in
   laid_on {l = l} q =
       let is : l ≡ v = copied v o l q (wide ∙ sym long) in
       let more : n * (j + 1) ≡ n * j + n = omega (arith, mul-suc n j) in
@@ -84,12 +84,12 @@ module _ {n : ℕ} {p : List ℕ} {t : ℕ} {out : List ℕ} {j : ℕ} (turn : T
             );
         laid =
             rw more (ap (take (n * j + n)) (sym (append_assoc (take (n * j) out) l rest)) ∙ take_at (take (n * j) out ++ l) rest (n * j + n) filled
-            ∙ ap (λ (x : List ℕ). x ++ l) turn.at.laid ∙ ap (λ (x : List ℕ). endToEnd (setIn n p j) ++ x) (is ∙ v-is)
-            ∙ sym (rw one (end-to-end-more (setIn n p j) (placeAt n p j))));
+            ∙ ap (λ (x : List ℕ). x ++ l) turn.at.laid ∙ ap (λ (x : List ℕ). end_to_end (set_in n p j) ++ x) (is ∙ v-is)
+            ∙ sym (rw one (end-to-end-more (set_in n p j) (place_at n p j))));
       }
 
 -- all of them
-pub laid-all : {n : ℕ} {p : List ℕ} {t : ℕ} {out : List ℕ} {j : ℕ} → Laid n p t out j → t ≤ j → out ≡ endToEnd (setIn n p t)
+pub laid-all : {n : ℕ} {p : List ℕ} {t : ℕ} {out : List ℕ} {j : ℕ} → Laid n p t out j → t ≤ j → out ≡ end_to_end (set_in n p t)
 laid-all {n = n} {t = t} {out = out} {j = j} a h =
     let e : j ≡ t = omega (arith, a.some) in
     sym (take_all (n * t) out (omega (arith, a.long))) ∙ rw e at a.laid

@@ -1,5 +1,7 @@
 // The line of a chart job (02, g): n, k, the distance and the wanted number, written as the two numbers of the listing program's line.
 
+#![tactic(auto)]
+
 ghost use Rattle.set_line_spec.specs.Line.{SpellSays, FourSays, SecondSpace};
 
 use line::Parsed;

@@ -9,7 +9,7 @@
 --     set-line-short             a line has at most 16 characters
 --     one-spelt                  no line has two answers
 use Rattle.words.proofs.Plain.{ℕ, suc, ◌+◌, ◌-◌, ◌<◌, ◌≤◌, add-one, arith, dec_lt, ◌≡◌, refl, sym, ap, ◌∙◌, inl, inr, ⊎_elim, List, ◌∷◌, ◌++◌, append_assoc, eqb}
-use Rattle.words.proofs.Plain.{length, get_or, take, drop, length-append, length-drop, List·getD-append, take-append_seam, drop-append-add, get_or-append_seam}
+use Rattle.words.proofs.Plain.{length, get_or, take, drop, length-append, length-drop, List·get_d-append, take-append_seam, drop-append-add, get_or-append_seam}
 use Rattle.words.proofs.Plain.{get_or-append-add, get_or-drop, split_at, take_all, eqb-true, eqb-false}
 use Rattle.words.proofs.Split.{lt, eq, gt, tri, passes, fails, test}
 use Rattle.text_spec.specs.Decimal.{decimal}
@@ -18,7 +18,7 @@ use Rattle.line_spec.specs.Line.{fields, SpaceAt}
 use Rattle.line_spec.proofs.Lines.{space-one, fields-one, length_fields, no-newline, text-bare, text-ended, text-newline}
 use Rattle.set_line_spec.specs.declared.Spelt.{Spelt}
 use Rattle.set_line_spec.specs.declared.Spelt.TheVariants.{Numbers, Malformed}
-use Rattle.set_line_spec.specs.Line.{fourFields, SpellsSet, SpellSays, FourSays, SecondSpace}
+use Rattle.set_line_spec.specs.Line.{four_fields, SpellsSet, SpellSays, FourSays, SecondSpace}
 
 -- ---- the second space
 
@@ -27,7 +27,7 @@ front-space : (n : ℕ) (r : List ℕ) → SpaceAt (decimal n ++ (32 ∷ r)) (le
 front-space n r =
     record {
       within = simp length-append (omega arith);
-      before = λ i h e. omega (arith, decimal-digits n i h, sym (List·getD-append (decimal n) (32 ∷ r) 0 i h) ∙ e);
+      before = λ i h e. omega (arith, decimal-digits n i h, sym (List·get_d-append (decimal n) (32 ∷ r) 0 i h) ∙ e);
       here = λ h. get_or-append_seam (decimal n) 32 r 0;
     }
 
@@ -38,8 +38,8 @@ inside : (n : ℕ) (r : List ℕ) → length (decimal n) < length (decimal n ++ 
 inside n r = simp length-append (omega arith)
 
 -- the four numbers, the first one apart
-four-first : (n k d want : ℕ) → fourFields n k d want ≡ decimal n ++ (32 ∷ (decimal k ++ (32 ∷ fields d want)))
-unfolding fourFields fields
+four-first : (n k d want : ℕ) → four_fields n k d want ≡ decimal n ++ (32 ∷ (decimal k ++ (32 ∷ fields d want)))
+unfolding four_fields fields
 four-first n k d want = append_assoc (decimal n) (32 ∷ decimal k) (32 ∷ fields d want)
 
 -- the rest of a text
@@ -64,7 +64,7 @@ second-here t r p h =
     ]
 
 -- of four numbers it stands behind the first two
-pub second_at : (t : List ℕ) (r n k d want : ℕ) → SecondSpace t r → t ≡ fourFields n k d want → r ≡ length (fields n k)
+pub second_at : (t : List ℕ) (r n k d want : ℕ) → SecondSpace t r → t ≡ four_fields n k d want → r ≡ length (fields n k)
 second_at t r n k d want p e =
     let f : t ≡ decimal n ++ (32 ∷ (decimal k ++ (32 ∷ fields d want))) = e ∙ four-first n k d want in
     let b : length (decimal n) < length t = rw f (inside n (decimal k ++ (32 ∷ fields d want))) in
@@ -76,26 +76,26 @@ second_at t r n k d want p e =
     omega (arith, p.is l, i, j, length_fields n k)
 
 -- two numbers before it and two behind it
-pub four-at : (t : List ℕ) (at n k d want : ℕ) → SecondSpace t at → t ≡ fourFields n k d want → (at < length t) × (take at t ≡ fields n k) × (drop (at + 1) t ≡ fields d want)
-unfolding fourFields
+pub four-at : (t : List ℕ) (at n k d want : ℕ) → SecondSpace t at → t ≡ four_fields n k d want → (at < length t) × (take at t ≡ fields n k) × (drop (at + 1) t ≡ fields d want)
+unfolding four_fields
 four-at t at n k d want p e =
     let i : at ≡ length (fields n k) = second_at t at n k d want p e in
     rw (e, i) (simp length-append (omega arith), take-append_seam (fields n k) (32 ∷ fields d want), drop-append-add (fields n k) (32 ∷ fields d want) 1)
 
 -- the other way round
-pub four-join : (t : List ℕ) (at n k d want : ℕ) → SecondSpace t at → at < length t → take at t ≡ fields n k → drop (at + 1) t ≡ fields d want → t ≡ fourFields n k d want
-unfolding fourFields
+pub four-join : (t : List ℕ) (at n k d want : ℕ) → SecondSpace t at → at < length t → take at t ≡ fields n k → drop (at + 1) t ≡ fields d want → t ≡ four_fields n k d want
+unfolding four_fields
 four-join t at n k d want p h e f =
     let g : drop (suc at) t ≡ fields d want = rw (add-one at) at f in
     split_at t at 0 h ∙ rw (e, second-here t at p h, g)
 
 -- ---- the newline
 
-pub no-newline-four : (n k d want i : ℕ) → i < length (fourFields n k d want) → get_or (fourFields n k d want) i 0 ≡ 10 → ⊥
-unfolding fourFields
+pub no-newline-four : (n k d want i : ℕ) → i < length (four_fields n k d want) → get_or (four_fields n k d want) i 0 ≡ 10 → ⊥
+unfolding four_fields
 no-newline-four n k d want i h e =
     elim (tri i (length (fields n k))) [
-      | lt l ↦ no-newline n k i l (sym (List·getD-append (fields n k) (32 ∷ fields d want) 0 i l) ∙ e)
+      | lt l ↦ no-newline n k i l (sym (List·get_d-append (fields n k) (32 ∷ fields d want) 0 i l) ∙ e)
       | eq l ↦ omega (arith, sym (get_or-append_seam (fields n k) 32 (fields d want) 0) ∙ rw l at e)
       | gt l ↦ last (i - length (fields n k) - 1) (omega arith)
     ]
@@ -107,15 +107,15 @@ no-newline-four n k d want i h e =
 
 -- the line by its last character
 module _ (s : List ℕ) (n k d want : ℕ) (p : SpellsSet s n k d want) where
-  bare : (get_or s (length s - 1) 0 ≡ 10 → ⊥) → s ≡ fourFields n k d want
-  bare z = text-bare s (fourFields n k d want) (no-newline-four n k d want) z p.text
+  bare : (get_or s (length s - 1) 0 ≡ 10 → ⊥) → s ≡ four_fields n k d want
+  bare z = text-bare s (four_fields n k d want) (no-newline-four n k d want) z p.text
 
-  ended : 0 < length s → get_or s (length s - 1) 0 ≡ 10 → take (length s - 1) s ≡ fourFields n k d want
-  ended l z = text-ended s (fourFields n k d want) (no-newline-four n k d want) l z p.text
+  ended : 0 < length s → get_or s (length s - 1) 0 ≡ 10 → take (length s - 1) s ≡ four_fields n k d want
+  ended l z = text-ended s (four_fields n k d want) (no-newline-four n k d want) l z p.text
 
 -- what the four numbers say, the line says
 pub ended-four : (s : List ℕ) (p : Spelt) → 0 < length s → get_or s (length s - 1) 0 ≡ 10 → FourSays (take (length s - 1) s) p → SpellSays s p
-ended-four s (Numbers n k d want) l z f = record { short = f.0; text = inr (text-newline s (fourFields n k d want) l z f.1) }
+ended-four s (Numbers n k d want) l z f = record { short = f.0; text = inr (text-newline s (four_fields n k d want) l z f.1) }
 ended-four s Malformed l z f = λ n k d want p. f n k d want p.short (ended s n k d want p l z)
 
 pub bare-four : (s : List ℕ) (p : Spelt) → (get_or s (length s - 1) 0 ≡ 10 → ⊥) → FourSays s p → SpellSays s p
@@ -124,8 +124,8 @@ bare-four s Malformed z f = λ n k d want p. f n k d want p.short (bare s n k d 
 
 -- ---- one answer
 
-length-four : (n k d want : ℕ) → length (fourFields n k d want) ≡ length (fields n k) + length (fields d want) + 1
-unfolding fourFields
+length-four : (n k d want : ℕ) → length (four_fields n k d want) ≡ length (fields n k) + length (fields d want) + 1
+unfolding four_fields
 length-four n k d want = simp length-append (omega arith)
 
 -- a line has characters
@@ -137,7 +137,7 @@ set-line-some s n k d want p =
 pub set-line-short : (s : List ℕ) (n k d want : ℕ) → SpellsSet s n k d want → length s ≤ 16
 set-line-short s n k d want p = ⊎_elim (λ e. omega (arith, ap length e, most)) (λ e. omega (arith, simp length-append at (ap length e), most)) p.text
   where
-    most : length (fourFields n k d want) ≤ 15
+    most : length (four_fields n k d want) ≤ 15
     most =
         omega (
           arith,
@@ -158,7 +158,7 @@ pub record Same (n k d want n' k' d' want' : ℕ) : Type 0 where
   pub d-same : d ≡ d'
   pub want-same : want ≡ want'
 
-second-of : (n k d want : ℕ) → SecondSpace (fourFields n k d want) (length (fields n k))
+second-of : (n k d want : ℕ) → SecondSpace (four_fields n k d want) (length (fields n k))
 second-of n k d want =
     rw (four-first n k d want) (record {
       first = length (decimal n);
@@ -169,10 +169,10 @@ second-of n k d want =
       is = λ h. omega (arith, length_fields n k);
     })
 
-four-one : (n k d want n' k' d' want' : ℕ) → fourFields n k d want ≡ fourFields n' k' d' want' → Same n k d want n' k' d' want'
+four-one : (n k d want n' k' d' want' : ℕ) → four_fields n k d want ≡ four_fields n' k' d' want' → Same n k d want n' k' d' want'
 four-one n k d want n' k' d' want' e =
-    let a = four-at (fourFields n k d want) (length (fields n k)) n k d want (second-of n k d want) refl in
-    let b = four-at (fourFields n k d want) (length (fields n k)) n' k' d' want' (second-of n k d want) e in
+    let a = four-at (four_fields n k d want) (length (fields n k)) n k d want (second-of n k d want) refl in
+    let b = four-at (four_fields n k d want) (length (fields n k)) n' k' d' want' (second-of n k d want) e in
     let f = fields-one n k n' k' (sym a.1 ∙ b.1) in
     let g = fields-one d want d' want' (sym a.2 ∙ b.2) in
     record { n-same = f.0; k-same = f.1; d-same = g.0; want-same = g.1 }

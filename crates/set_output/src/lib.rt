@@ -1,7 +1,9 @@
 // What a chart job's command prints for a line (02, g), in a lent buffer, by either rule.
 
+#![tactic(auto)]
+
 ghost use Rattle.std.specs.Prelude.{◌≤◌, length};
-ghost use Rattle.set_text_spec.specs.Prints.{setRoom, Printed, PrintedBy};
+ghost use Rattle.set_text_spec.specs.Prints.{set_room, Printed, PrintedBy};
 ghost use Rattle.set_output.specs.Says.{SetNumbersSay, RefusedSetSays};
 
 pub use guard_spec::Rule;
@@ -13,7 +15,7 @@ const ROOM: usize = 818;
 
 // A refusal's line.
 fn print_refused(r: Refusal, buf: &mut [u8]) -> usize
-    requires { setRoom ≤ length buf.old }
+    requires { set_room ≤ length buf.old }
     ensures { RefusedSetSays r buf.old result buf.new }
 {
     text_lines_inner::place_refused(buf, 0, refusal::number(r))
@@ -21,7 +23,7 @@ fn print_refused(r: Refusal, buf: &mut [u8]) -> usize
 
 // The set for these numbers, or the refusal's line.
 fn print_numbers(rule: Rule, n: usize, k: usize, d: usize, wanted: usize, buf: &mut [u8]) -> usize
-    requires { setRoom ≤ length buf.old }
+    requires { set_room ≤ length buf.old }
     ensures { SetNumbersSay rule n k d wanted buf.old result buf.new }
 {
     let picked = sets::pick_by(rule, n, k, d, wanted);

@@ -13,26 +13,26 @@ use Rattle.limits_spec.proofs.Unique.{listable-passed, passed-listable}
 use Rattle.set_spec.specs.Greedy.{picked}
 use Rattle.guard_spec.specs.Choice.{guarded}
 use Rattle.set_pick_spec.specs.declared.Picked.{Picked}
-use Rattle.set_pick_spec.specs.Order.{mostReadings, setOrder, Askable, SetCheckSays}
+use Rattle.set_pick_spec.specs.Order.{most_readings, set_order, Askable, SetCheckSays}
 use Rattle.set_pick_spec.specs.Says.{SetAnswers, SetSays, PickSays, GuardSays}
 
 -- ---- the checks
 
 module _ (n k d want : ℕ) where
-  pub askable-passed : Askable n k d want → Passed (setOrder n k d want)
-  askable-passed q = ((q.short, listable-passed mostReadings k n q.numbers), q.settable)
+  pub askable-passed : Askable n k d want → Passed (set_order n k d want)
+  askable-passed q = ((q.short, listable-passed most_readings k n q.numbers), q.settable)
 
-  pub passed-askable : Passed (setOrder n k d want) → Askable n k d want
-  passed-askable p = record { short = p.0.0; numbers = passed-listable mostReadings k n p.0.1; settable = p.1 }
+  pub passed-askable : Passed (set_order n k d want) → Askable n k d want
+  passed-askable p = record { short = p.0.0; numbers = passed-listable most_readings k n p.0.1; settable = p.1 }
 
-  never : (r : Refusal) → Given (setOrder n k d want) r → Askable n k d want → ⊥
-  never r g q = never_both (setOrder n k d want) r g (askable-passed q)
+  never : (r : Refusal) → Given (set_order n k d want) r → Askable n k d want → ⊥
+  never r g q = never_both (set_order n k d want) r g (askable-passed q)
 
   pub one-check : (v w : Checked) → SetCheckSays n k d want v → SetCheckSays n k d want w → v ≡ w
   one-check Good Good p q = refl
   one-check Good (Refused s) p q = absurd (never s q p)
   one-check (Refused r) Good p q = absurd (never r p q)
-  one-check (Refused r) (Refused s) p q = ap Refused (one-refusal (setOrder n k d want) r s p q)
+  one-check (Refused r) (Refused s) p q = ap Refused (one-refusal (set_order n k d want) r s p q)
 
 -- ---- the answer
 
@@ -45,7 +45,7 @@ module _ (n k d want : ℕ) (ts : List (List ℕ)) where
   fields p p' t t' f f' Good (Refused s) a b = absurd (never n k d want s b.0 a.asked)
   fields p p' t t' f f' (Refused r) Good a b = absurd (never n k d want r a.0 b.asked)
   fields p p' t t' f f' (Refused r) (Refused s) a b =
-      (a.1.places ∙ sym b.1.places, a.1.number ∙ sym b.1.number, a.1.full ∙ sym b.1.full, ap Refused (one-refusal (setOrder n k d want) r s a.0 b.0))
+      (a.1.places ∙ sym b.1.places, a.1.number ∙ sym b.1.number, a.1.full ∙ sym b.1.full, ap Refused (one-refusal (set_order n k d want) r s a.0 b.0))
 
   -- whatever the set is to be, there is one answer
   pub one_set : (a b : Picked) → SetSays n k d want ts a → SetSays n k d want ts b → a ≡ b

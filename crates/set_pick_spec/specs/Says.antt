@@ -14,7 +14,7 @@ use Rattle.set_spec.specs.Greedy.{picked}
 use Rattle.set_spec.specs.Places.{laid}
 use Rattle.guard_spec.specs.Choice.{guarded}
 use Rattle.set_pick_spec.specs.declared.Picked.{Picked}
-use Rattle.set_pick_spec.specs.Order.{setOrder, Askable}
+use Rattle.set_pick_spec.specs.Order.{set_order, Askable}
 
 -- the set ts for these numbers
 pub record SetChosen (n k d want : ℕ) (ts : List (List ℕ)) (p : List ℕ) (t : ℕ) (f : Bool) : Type 0 where
@@ -31,7 +31,7 @@ pub record Nothing (p : List ℕ) (t : ℕ) (f : Bool) : Type 0 where
 
 abbrev pub SetAnswers : ℕ → ℕ → ℕ → ℕ → List (List ℕ) → List ℕ → ℕ → Bool → Checked → Type 0
 SetAnswers n k d want ts p t f Good = SetChosen n k d want ts p t f
-SetAnswers n k d want ts p t f (Refused r) = Given (setOrder n k d want) r × Nothing p t f
+SetAnswers n k d want ts p t f (Refused r) = Given (set_order n k d want) r × Nothing p t f
 
 abbrev pub SetSays : ℕ → ℕ → ℕ → ℕ → List (List ℕ) → Picked → Type 0
 SetSays n k d want ts r = SetAnswers n k d want ts r.places r.taken r.full r.answer

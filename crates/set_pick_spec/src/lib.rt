@@ -1,5 +1,7 @@
 // What picking a target set answers (02, g). The call is `sets`'s.
 
+#![tactic(auto)]
+
 use refusal::Checked;
 
 // The set in 32 places of 24 sectors, in the order taken and everything unused 0; how many were taken, and whether that is the wanted number. A refusal has

@@ -1,8 +1,10 @@
 // Offering a ring to the places of a set, by either rule (02, g). No public calls: crate `set_choose_inner` goes through the rings.
 
+#![tactic(auto)]
+
 ghost use Rattle.std.specs.Prelude.{◌≡◌, ◌<◌, length};
 ghost use Rattle.set_clear_inner.specs.Says.{Comparable};
-ghost use Rattle.set_places_inner.specs.Says.{OfferSays, mayIn};
+ghost use Rattle.set_places_inner.specs.Says.{OfferSays, may_in};
 
 use guard_spec::Rule;
 
@@ -23,7 +25,7 @@ fn may_join(
     d: usize,
 ) -> bool
     requires { Comparable places.now tallies.now taken ring.now counts.now k }
-    ensures { result ≡ mayIn rule (length ring.now) d places.now taken ring.now }
+    ensures { result ≡ may_in rule (length ring.now) d places.now taken ring.now }
 {
     if !set_clear_inner::is_clear(places, tallies, taken, ring, counts, k, d) {
         return false;

@@ -7,10 +7,10 @@ use Rattle.set_text_spec.specs.Prints.{PrintedBy}
 use Rattle.set_text_spec.proofs.{First.printed-first, Unique.printed-inside, Unique.printed-length}
 use Rattle.program_reading_inner.specs.declared.Most.{Most}
 use Rattle.program_reading_inner.specs.declared.Most.TheVariants as M
-use Rattle.set_program_inner.specs.Says.{setLineBytes, InputSays}
+use Rattle.set_program_inner.specs.Says.{set_line_bytes, InputSays}
 
 module _ (rule : Rule) (line b : List ℕ) (r : ℕ) (b' : List ℕ) where
-  pub input-full : setLineBytes ≤ length line → PrintedBy rule line b r b' → InputSays rule M.Full line b r b'
+  pub input-full : set_line_bytes ≤ length line → PrintedBy rule line b r b' → InputSays rule M.Full line b r b'
   input-full h p = record { inside = printed-inside rule line b r b' p; long = printed-length rule line b r b' p; output = λ s e. printed-first rule (length line) s h b r b' (rw e p) }
 
   pub input-ended : (got : ℕ) → PrintedBy rule (take got line) b r b' → InputSays rule (M.Ended got) line b r b'

@@ -9,8 +9,8 @@ use Rattle.program_reading_inner.specs.declared.Most.TheVariants as M
 use Rattle.program_reading_inner.specs.Says.{BeginsWith}
 
 -- a line has at most 16 bytes, so 17 tell
-abbrev pub setLineBytes : ℕ
-setLineBytes = 17
+abbrev pub set_line_bytes : ℕ
+set_line_bytes = 17
 
 pub record OutputOf (P : Type 0) (b : List ℕ) (r : ℕ) (b' : List ℕ) : Type 0 where
   pub inside : r ≤ length b

@@ -1,8 +1,10 @@
 // The program of a chart job's command, by either rule (02, g): it reads a line, and writes the output for it. No public calls: no contract can say what is read or written.
 
+#![tactic(auto)]
+
 ghost use Rattle.std.specs.Prelude.{◌≤◌, length};
 ghost use Rattle.program_reading_inner.specs.Says.{MostSays};
-ghost use Rattle.set_program_inner.specs.Says.{setLineBytes, InputSays};
+ghost use Rattle.set_program_inner.specs.Says.{set_line_bytes, InputSays};
 
 pub use guard_spec::Rule;
 use libc::{STDERR_FILENO, STDOUT_FILENO};
@@ -11,7 +13,7 @@ use program_reading_inner::Most;
 // The output for an input of which that was read: all of it, or as many bytes as there was room for. There has to be room for 17 bytes, of which a line has at
 // most 16. Where a read failed there is no output.
 fn output_of_input(rule: Rule, most: Most, line: &[u8], buf: &mut [u8]) -> usize
-    requires set_line_bytes_in_bounds { setLineBytes ≤ length line.now }
+    requires set_line_bytes_in_bounds { set_line_bytes ≤ length line.now }
     requires most_says { MostSays most line.now }
     ensures { InputSays rule most line.now buf.old result buf.new }
 {

@@ -1,5 +1,5 @@
 -- What a set is to be worth (02, 'g'), sentence by sentence, over the set ts and the words that were looked at, in the order taken and looked at.
---     OneOf ts u, lastTaken ts           u is one of the list; the last of the list
+--     OneOf ts u, last_taken ts           u is one of the list; the last of the list
 --     LyndonWords n k ts              each is a Lyndon word of n and k
 --     Rising ts                       they stand in increasing order
 --     Spread d ts                     any two are at least d apart
@@ -20,8 +20,8 @@ pub record OneOf (ts : List (List ℕ)) (u : List ℕ) : Type 0 where
   pub is : get_or ts at [] ≡ u
 
 -- the last of the list, where it has any
-abbrev pub lastTaken : List (List ℕ) → List ℕ
-lastTaken ts = get_or ts (length ts - 1) []
+abbrev pub last_taken : List (List ℕ) → List ℕ
+last_taken ts = get_or ts (length ts - 1) []
 
 -- a Lyndon word of n and k
 pub record LyndonOf (n k : ℕ) (u : List ℕ) : Type 0 where
@@ -59,7 +59,7 @@ pub record Worth (n k d want : ℕ) (ts seen : List (List ℕ)) (full : Bool) : 
   -- each one taken is one of those looked at
   pub looked-at : (i : ℕ) → i < length ts → OneOf seen (get_or ts i [])
   -- where the set is full, the last one taken is the last one looked at
-  pub last-looked : full ≡ true → lastTaken ts ≡ lastTaken seen
+  pub last-looked : full ≡ true → last_taken ts ≡ last_taken seen
   -- each Lyndon word up to one that was looked at is taken or nearer than d to an earlier one taken
   pub settled : (u v : List ℕ) → LyndonOf n k u → OneOf seen v → up_to u v ≡ true → Settled d ts u
   -- full is exactly the wanted number

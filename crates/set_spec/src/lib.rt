@@ -1,1 +1,4 @@
 // Target sets for one job, as definitions (02, g). No code: crate `sets` picks them.
+
+#![tactic(auto)]
+

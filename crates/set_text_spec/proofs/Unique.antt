@@ -4,20 +4,20 @@
 --     printed-inside   the output lies within the buffer
 use Rattle.words.proofs.Plain.{ℕ, ◌+◌, ◌≤◌, arith, ◌≡◌, sym, ap, ◌∙◌, List, length, sets}
 use Rattle.refusal.specs.Numbers.{number_of}
-use Rattle.text_spec.specs.Text.{refusedLine}
+use Rattle.text_spec.specs.Text.{refused_line}
 use Rattle.text_spec.proofs.Put.{placed-length}
 use Rattle.set_line_spec.proofs.Four.{one-set-line}
 use Rattle.refusal.proofs.Unique.{one-refusal, never_both}
-use Rattle.set_pick_spec.specs.Order.{setOrder}
+use Rattle.set_pick_spec.specs.Order.{set_order}
 use Rattle.set_pick_spec.proofs.Unique.{askable-passed}
 use Rattle.guard_spec.specs.declared.Rule.{Rule}
 use Rattle.set_text_spec.specs.Prints.{NumbersPrintBy, refused, chosen, SetPrintsBy, malformed, spelt, PrintedBy, small, whole}
 
 -- the output for numbers
 pub one-numbers-text : (rule : Rule) (n k d want : ℕ) (t u : List ℕ) → NumbersPrintBy rule n k d want t → NumbersPrintBy rule n k d want u → t ≡ u
-one-numbers-text rule n k d want t u (refused r g e) (refused s h f) = e ∙ ap (λ x. refusedLine (number_of x)) (one-refusal (setOrder n k d want) r s g h) ∙ sym f
-one-numbers-text rule n k d want t u (refused r g e) (chosen a f) = absurd (never_both (setOrder n k d want) r g (askable-passed n k d want a))
-one-numbers-text rule n k d want t u (chosen a e) (refused s h f) = absurd (never_both (setOrder n k d want) s h (askable-passed n k d want a))
+one-numbers-text rule n k d want t u (refused r g e) (refused s h f) = e ∙ ap (λ x. refused_line (number_of x)) (one-refusal (set_order n k d want) r s g h) ∙ sym f
+one-numbers-text rule n k d want t u (refused r g e) (chosen a f) = absurd (never_both (set_order n k d want) r g (askable-passed n k d want a))
+one-numbers-text rule n k d want t u (chosen a e) (refused s h f) = absurd (never_both (set_order n k d want) s h (askable-passed n k d want a))
 one-numbers-text rule n k d want t u (chosen a e) (chosen b f) = e ∙ sym f
 
 -- the output for a line

@@ -5,6 +5,6 @@ use Rattle.guard_spec.specs.declared.Rule.{Rule}
 use Rattle.guard_spec.specs.declared.Rule.TheVariants.{Plain, Guarded}
 
 -- 1 where it is, 0 where it is not
-abbrev pub zeroTaken : Rule → ℕ → ℕ
-zeroTaken Plain n = bit (eqb n 1)
-zeroTaken Guarded n = 0
+abbrev pub zero_taken : Rule → ℕ → ℕ
+zero_taken Plain n = bit (eqb n 1)
+zero_taken Guarded n = 0

@@ -1,7 +1,9 @@
 // Target sets for one job (02, g), plain and guarded.
 
+#![tactic(auto)]
+
 ghost use Rattle.set_pick_spec.specs.Says.{SetSays, PickSays, GuardSays};
-ghost use Rattle.guard_spec.specs.Choice.{chosenBy};
+ghost use Rattle.guard_spec.specs.Choice.{chosen_by};
 ghost use Rattle.set_layout_spec.specs.Layout.{LayoutSays};
 
 pub use guard_spec::Rule;
@@ -10,7 +12,7 @@ pub use set_pick_spec::Picked;
 
 // The set of a rule, plain or guarded, or refusal 1, 2, 12 or 13, with all 0 and not full.
 pub fn pick_by(rule: Rule, n: usize, k: usize, d: usize, wanted: usize) -> Picked
-    ensures { SetSays n k d wanted (chosenBy rule n k d wanted) result }
+    ensures { SetSays n k d wanted (chosen_by rule n k d wanted) result }
 {
     match set_checks_inner::check_set(n, k, d, wanted) {
         Checked::Refused(r) => Picked {

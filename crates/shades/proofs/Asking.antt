@@ -3,8 +3,8 @@
 --     cap-asks    what lowering the reading to the shades that are counted asks
 --     next-asks, next-found, next-done    what the search for the next ring asks from there, and what it answers
 use Rattle.words.proofs.Plain.{ℕ, ◌<◌, arith, ◌≡◌, sym, ap, ◌∙◌, true, false, none, some, List, length, take, take_all}
-use Rattle.rings.specs.{Counts.countedNecklace, Steps.first_of, Steps.next_of}
-use Rattle.refusal.specs.{Order.Passed, Calls.countedFirst, Calls.countedNext}
+use Rattle.rings.specs.{Counts.counted_necklace, Steps.first_of, Steps.next_of}
+use Rattle.refusal.specs.{Order.Passed, Calls.counted_first, Calls.counted_next}
 use Rattle.words.specs.Sum.{sum_of}
 use Rattle.shades_laws.proofs.Letters.{letters}
 use Rattle.shades_fill_inner.specs.Fillable.{Fillable}
@@ -14,7 +14,7 @@ use Rattle.shades_next_inner.specs.{declared.Sought.Sought, Above.Finds}
 use Rattle.shades_raise_inner.specs.Ready.{Ready}
 use Rattle.shades.proofs.Least.{first-letters}
 
-module _ (n k : ℕ) (cs : List ℕ) (passed : Passed (countedFirst n k cs)) where
+module _ (n k : ℕ) (cs : List ℕ) (passed : Passed (counted_first n k cs)) where
   -- what filling the output asks
   pub first-asks : (o : List ℕ) → length o ≡ n → Fillable o cs
   first-asks o e = record {
@@ -24,10 +24,10 @@ module _ (n k : ℕ) (cs : List ℕ) (passed : Passed (countedFirst n k cs)) whe
   }
 
   -- what it leaves there is the first ring
-  pub first_found : (l : ℕ) (o : List ℕ) → length o ≡ n → l ≡ sum_of cs → take l o ≡ letters cs → first_of (countedNecklace cs) n k ≡ some o
+  pub first_found : (l : ℕ) (o : List ℕ) → length o ≡ n → l ≡ sum_of cs → take l o ≡ letters cs → first_of (counted_necklace cs) n k ≡ some o
   first_found l o e q h = first-letters n k cs passed.0.1.0 passed.0.1.1 ∙ ap some (sym h ∙ take_all l o (omega (arith, q, passed.0.1.1)))
 
-module _ (w : List ℕ) (k m : ℕ) (cs : List ℕ) (passed : Passed (countedNext w k m cs)) (j : ℕ) (to : CountedTo cs j) where
+module _ (w : List ℕ) (k m : ℕ) (cs : List ℕ) (passed : Passed (counted_next w k m cs)) (j : ℕ) (to : CountedTo cs j) where
   -- some shade is counted
   some-shade : 0 < j
   some-shade = some-counted cs j to (omega (arith, passed.0.1.1, passed.0.0.0.0.0.0.0))
@@ -49,13 +49,13 @@ module _ (w : List ℕ) (k m : ℕ) (cs : List ℕ) (passed : Passed (countedNex
     }
 
     -- the next ring above the lowered reading is that above the reading
-    same_next : next_of (countedNecklace cs) k w ≡ next_of (countedNecklace (take j cs)) j (take (length w) t)
+    same_next : next_of (counted_necklace cs) k w ≡ next_of (counted_necklace (take j cs)) j (take (length w) t)
     same_next = sym (capped-next w (take (length w) t) cs j k passed.0.1.0 some-shade to capped)
 
     -- what it answers is the next ring
-    pub next-found : (r : Sought) → Finds t (length w) j (take j cs) r → r.some ≡ true → (o : List ℕ) → o ≡ take (length w) r.ring → next_of (countedNecklace cs) k w ≡ some o
+    pub next-found : (r : Sought) → Finds t (length w) j (take j cs) r → r.some ≡ true → (o : List ℕ) → o ≡ take (length w) r.ring → next_of (counted_necklace cs) k w ≡ some o
     next-found r a h o q = same_next ∙ a.ring h ∙ ap some (sym q)
 
     -- or that there is none
-    pub next-done : (r : Sought) → Finds t (length w) j (take j cs) r → r.some ≡ false → next_of (countedNecklace cs) k w ≡ none
+    pub next-done : (r : Sought) → Finds t (length w) j (take j cs) r → r.some ≡ false → next_of (counted_necklace cs) k w ≡ none
     next-done r a h = same_next ∙ a.done h

@@ -3,12 +3,12 @@
 --     sorted-necklace    so it is a necklace
 --     first-letters      so the letters of the counts in increasing order are the first ring
 use Rattle.words.proofs.Plain.{ℕ, suc, ◌<◌, ◌≤◌, arith, ◌≡◌, refl, sym, ap, ◌∙◌, true, false, some, List, [], ◌∷◌, length, get_or, take, drop}
-use Rattle.words.proofs.{Plain.List·getD-eq-default, Plain.take-append-drop, Search.all_of, Sequence.sec, Readings.first-is}
+use Rattle.words.proofs.{Plain.List·get_d-eq-default, Plain.take-append-drop, Search.all_of, Sequence.sec, Readings.first-is}
 use Rattle.words.specs.{Order.before, Order.up_to, Turn.turn, Readings.Reading, Sum.sum_of}
 use Rattle.words.proofs.Split.{lt, eq, gt, tri, both}
 use Rattle.words.proofs.Lex.{before-eq, before-gt, before-irrefl, not-before}
-use Rattle.rings.specs.{Necklace.necklace, Necklace.notAboveTurn, Steps.first_of}
-use Rattle.rings.specs.Counts.{occurs, hasCounts, countedNecklace}
+use Rattle.rings.specs.{Necklace.necklace, Necklace.not_above_turn, Steps.first_of}
+use Rattle.rings.specs.Counts.{occurs, has_counts, counted_necklace}
 use Rattle.shades_laws.proofs.{Pool.Sorted, Copies.occurs-append}
 use Rattle.shades_laws.proofs.Letters.{letters, occurs-letters, sorted-letters, length-letters}
 use Rattle.shades_tally_inner.proofs.Tallying.{occurs-none, occurs-here, occurs-other, occurs-at, counts_end}
@@ -55,8 +55,8 @@ occurs-turn b i w = omega (arith, occurs-append b (drop i w) (take i w), occurs-
 
 -- a sorted word is a necklace
 pub sorted-necklace : (w : List ℕ) → Sorted w → necklace w ≡ true
-unfolding necklace notAboveTurn
-sorted-necklace w s = all_of (length w) (notAboveTurn w) (λ i h. sorted-least w (turn i w) s (λ b. occurs-turn b i w))
+unfolding necklace not_above_turn
+sorted-necklace w s = all_of (length w) (not_above_turn w) (λ i h. sorted-least w (turn i w) s (λ b. occurs-turn b i w))
 
 module _ (n k : ℕ) (cs : List ℕ) (many : length cs ≡ k) (whole : sum_of cs ≡ n) where
   -- the letters are a reading
@@ -67,10 +67,10 @@ module _ (n k : ℕ) (cs : List ℕ) (many : length cs ≡ k) (whole : sum_of cs
       below x h = elim (tri x k) [ lt e ↦ e | eq e ↦ past (omega arith) | gt e ↦ past (omega arith) ]
         where
           past : k ≤ x → x < k
-          past l = absurd (omega (arith, occurs-letters x 0 x cs (omega arith), List·getD-eq-default cs 0 {n = x} (omega arith)))
+          past l = absurd (omega (arith, occurs-letters x 0 x cs (omega arith), List·get_d-eq-default cs 0 {n = x} (omega arith)))
 
   -- they have the counts
-  letters-counts : true ≡ hasCounts cs (letters cs)
+  letters-counts : true ≡ has_counts cs (letters cs)
   letters-counts = counts_end cs (letters cs) (length cs) (omega arith) (λ b h. occurs-letters b 0 b cs (omega arith))
 
   -- each ring with the counts has the same letters
@@ -78,7 +78,7 @@ module _ (n k : ℕ) (cs : List ℕ) (many : length cs ≡ k) (whole : sum_of cs
   same-letters v ring b = go (tri b (length cs)) ∙ sym (occurs-letters b 0 b cs (omega arith))
     where
       past : length cs ≤ b → occurs b v ≡ get_or cs b 0
-      past h = ring-past cs n k v ring many b h ∙ sym (List·getD-eq-default cs 0 h)
+      past h = ring-past cs n k v ring many b h ∙ sym (List·get_d-eq-default cs 0 h)
 
       go : Rattle.words.proofs.Split.Tri b (length cs) → occurs b v ≡ get_or cs b 0
       go (lt h) = ring-known cs n k v ring b h
@@ -86,9 +86,9 @@ module _ (n k : ℕ) (cs : List ℕ) (many : length cs ≡ k) (whole : sum_of cs
       go (gt h) = past (omega arith)
 
   -- the letters in increasing order are the first ring
-  pub first-letters : first_of (countedNecklace cs) n k ≡ some (letters cs)
-  unfolding first_of countedNecklace
+  pub first-letters : first_of (counted_necklace cs) n k ≡ some (letters cs)
+  unfolding first_of counted_necklace
   first-letters =
-      first-is n k (countedNecklace cs) (letters cs) letters-reading (both (necklace (letters cs)) (hasCounts cs (letters cs))
+      first-is n k (counted_necklace cs) (letters cs) letters-reading (both (necklace (letters cs)) (has_counts cs (letters cs))
       (sorted-necklace (letters cs) (sorted-letters 0 cs)) (sym letters-counts))
       (λ v r h. sorted-least (letters cs) v (sorted-letters 0 cs) (same-letters v (record { reading = r; counted = h })))

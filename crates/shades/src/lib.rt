@@ -1,6 +1,8 @@
 // Rings of fixed shade counts (01, 'Walks'): the first, and the next from any reading. A call that is refused, or done, writes nothing.
 // What the calls promise stands in `shades_spec`.
 
+#![tactic(auto)]
+
 ghost use Rattle.shades_spec.specs.Answers.{FirstSays, NextSays};
 
 use refusal::Checked;

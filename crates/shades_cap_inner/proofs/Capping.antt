@@ -6,14 +6,14 @@
 --     sum-counted       the counts up to it have the sum of all
 --     ring-fewer, ring-more    the rings of the counts up to it are the rings of the counts
 --     capped-next       so the next ring is the same
-use Rattle.words.proofs.Plain.{ℕ, ◌<◌, ◌≤◌, arith, ◌≡◌, refl, sym, ◌∙◌, Bool, true, Option, none, some, List, [], length, get_or, take, List·getD-eq-default}
+use Rattle.words.proofs.Plain.{ℕ, ◌<◌, ◌≤◌, arith, ◌≡◌, refl, sym, ◌∙◌, Bool, true, Option, none, some, List, [], length, get_or, take, List·get_d-eq-default}
 use Rattle.words.proofs.{Plain.length-take-le, Plain.get_or-take, Sequence.sec, Sequence.Less, Lex.before-less, Lex.less-before}
 use Rattle.words.specs.{Order.before, Sum.sum_of}
 use Rattle.words.specs.Readings.{Reading, first, readings}
 use Rattle.words.proofs.Split.{lt, eq, gt, tri, both, both_left, both_right, refuted, clash, agree}
 use Rattle.words.proofs.Readings.{first_some, first-is, nothing-first, first-nothing}
 use Rattle.rings.specs.{Necklace.necklace, Steps.above_of, Steps.next_of}
-use Rattle.rings.specs.Counts.{occurs, hasCounts, countedNecklace}
+use Rattle.rings.specs.Counts.{occurs, has_counts, counted_necklace}
 use Rattle.shades_tally_inner.proofs.Tallying.{counts-at, counts_end, occurs-at, occurs-past}
 use Rattle.shades_tally_inner.proofs.Leaving.{sum-le}
 use Rattle.shades_cap_inner.specs.Capped.{CountedTo, Capped}
@@ -82,15 +82,15 @@ module _ (cs : List ℕ) (j : ℕ) (to : CountedTo cs j) where
 
   -- no shade from j on has a count
   none-past : (b : ℕ) → j ≤ b → get_or cs b 0 ≡ 0
-  none-past b h = elim (tri b (length cs)) [ lt l ↦ to.none b h l | eq l ↦ List·getD-eq-default cs 0 (omega arith) | gt l ↦ List·getD-eq-default cs 0 (omega arith) ]
+  none-past b h = elim (tri b (length cs)) [ lt l ↦ to.none b h l | eq l ↦ List·get_d-eq-default cs 0 (omega arith) | gt l ↦ List·get_d-eq-default cs 0 (omega arith) ]
 
   -- the counts up to the last are the counts, place by place
   same-counts : (b : ℕ) → get_or (take j cs) b 0 ≡ get_or cs b 0
   same-counts b =
       elim (tri b j) [
         | lt l ↦ get_or-take j cs b 0 l
-        | eq l ↦ List·getD-eq-default (take j cs) 0 (omega (arith, counted-long)) ∙ sym (none-past b (omega arith))
-        | gt l ↦ List·getD-eq-default (take j cs) 0 (omega (arith, counted-long)) ∙ sym (none-past b (omega arith))
+        | eq l ↦ List·get_d-eq-default (take j cs) 0 (omega (arith, counted-long)) ∙ sym (none-past b (omega arith))
+        | gt l ↦ List·get_d-eq-default (take j cs) 0 (omega (arith, counted-long)) ∙ sym (none-past b (omega arith))
       ]
 
   -- they have the sum of all
@@ -107,12 +107,12 @@ module _ (cs : List ℕ) (j : ℕ) (to : CountedTo cs j) where
 
   module _ (n k : ℕ) (many : length cs ≡ k) (u : List ℕ) where
     -- a ring of the counts is one of the counts up to the last, and of the fewer shades
-    pub ring-fewer : Reading n k u → countedNecklace cs u ≡ true → Reading n j u × (countedNecklace (take j cs) u ≡ true)
-    unfolding countedNecklace
-    ring-fewer r h = (record { long = r.long; shades = shaded }, both (necklace u) (hasCounts (take j cs) u) (both_left (necklace u) (hasCounts cs u) h) (sym counted))
+    pub ring-fewer : Reading n k u → counted_necklace cs u ≡ true → Reading n j u × (counted_necklace (take j cs) u ≡ true)
+    unfolding counted_necklace
+    ring-fewer r h = (record { long = r.long; shades = shaded }, both (necklace u) (has_counts (take j cs) u) (both_left (necklace u) (has_counts cs u) h) (sym counted))
       where
         known : (b : ℕ) → b < length cs → occurs b u ≡ get_or cs b 0
-        known = counts-at cs u (both_right (necklace u) (hasCounts cs u) h)
+        known = counts-at cs u (both_right (necklace u) (has_counts cs u) h)
 
         shaded : (i : ℕ) → i < n → get_or u i 0 < j
         shaded i l = elim (tri (get_or u i 0) j) [ lt q ↦ q | eq q ↦ past (omega arith) | gt q ↦ past (omega arith) ]
@@ -120,39 +120,39 @@ module _ (cs : List ℕ) (j : ℕ) (to : CountedTo cs j) where
             past : j ≤ get_or u i 0 → get_or u i 0 < j
             past q = absurd (omega (arith, occurs-at u i (omega (arith, r.long)), known (get_or u i 0) (omega (arith, r.shades i l)), none-past (get_or u i 0) q))
 
-        counted : true ≡ hasCounts (take j cs) u
+        counted : true ≡ has_counts (take j cs) u
         counted = counts_end (take j cs) u (length (take j cs)) (omega arith) (λ b l. known b (omega (arith, counted-long, to.within)) ∙ sym (same-counts b))
 
     -- and the other way round
-    pub ring-more : Reading n j u → countedNecklace (take j cs) u ≡ true → Reading n k u × (countedNecklace cs u ≡ true)
-    unfolding countedNecklace
+    pub ring-more : Reading n j u → counted_necklace (take j cs) u ≡ true → Reading n k u × (counted_necklace cs u ≡ true)
+    unfolding counted_necklace
     ring-more r h = (
       record { long = r.long; shades = λ i l. omega (arith, r.shades i l, to.within) },
-      both (necklace u) (hasCounts cs u) (both_left (necklace u) (hasCounts (take j cs) u) h) (sym counted),
+      both (necklace u) (has_counts cs u) (both_left (necklace u) (has_counts (take j cs) u) h) (sym counted),
     )
       where
-        counted : true ≡ hasCounts cs u
+        counted : true ≡ has_counts cs u
         counted =
             counts_end cs u (length cs) (omega arith)
             (λ b l. elim (tri b j) [ lt q ↦ low b q | eq q ↦ past b (omega arith) | gt q ↦ past b (omega arith) ])
           where
             low : (b : ℕ) → b < j → occurs b u ≡ get_or cs b 0
-            low b q = counts-at (take j cs) u (both_right (necklace u) (hasCounts (take j cs) u) h) b (omega (arith, counted-long)) ∙ same-counts b
+            low b q = counts-at (take j cs) u (both_right (necklace u) (has_counts (take j cs) u) h) b (omega (arith, counted-long)) ∙ same-counts b
 
             past : (b : ℕ) → j ≤ b → occurs b u ≡ get_or cs b 0
             past b q = occurs-past b j u (λ i l. r.shades i (omega (arith, r.long))) q ∙ sym (none-past b q)
 
 -- the next ring of the counts up to the last above the capped reading is the next ring
-pub capped-next : (w t cs : List ℕ) (j k : ℕ) → length cs ≡ k → 0 < j → CountedTo cs j → Capped w j t → next_of (countedNecklace (take j cs)) j t ≡ next_of (countedNecklace cs) k w
+pub capped-next : (w t cs : List ℕ) (j k : ℕ) → length cs ≡ k → 0 < j → CountedTo cs j → Capped w j t → next_of (counted_necklace (take j cs)) j t ≡ next_of (counted_necklace cs) k w
 unfolding next_of above_of
-capped-next w t cs j k many z to c = rw c.long (first-same (length w) j k (above_of (countedNecklace (take j cs)) t) (above_of (countedNecklace cs) w) more fewer)
+capped-next w t cs j k many z to c = rw c.long (first-same (length w) j k (above_of (counted_necklace (take j cs)) t) (above_of (counted_necklace cs) w) more fewer)
   where
-    more : (u : List ℕ) → Reading (length w) j u → above_of (countedNecklace (take j cs)) t u ≡ true → Reading (length w) k u × (above_of (countedNecklace cs) w u ≡ true)
+    more : (u : List ℕ) → Reading (length w) j u → above_of (counted_necklace (take j cs)) t u ≡ true → Reading (length w) k u × (above_of (counted_necklace cs) w u ≡ true)
     more u r h =
-        let x = ring-more cs j to (length w) k many u r (both_right (before t u) (countedNecklace (take j cs) u) h) in
-        (x.0, both (before w u) (countedNecklace cs u) (sym (before-capped w j t c z u r) ∙ both_left (before t u) (countedNecklace (take j cs) u) h) x.1)
+        let x = ring-more cs j to (length w) k many u r (both_right (before t u) (counted_necklace (take j cs) u) h) in
+        (x.0, both (before w u) (counted_necklace cs u) (sym (before-capped w j t c z u r) ∙ both_left (before t u) (counted_necklace (take j cs) u) h) x.1)
 
-    fewer : (u : List ℕ) → Reading (length w) k u → above_of (countedNecklace cs) w u ≡ true → Reading (length w) j u × (above_of (countedNecklace (take j cs)) t u ≡ true)
+    fewer : (u : List ℕ) → Reading (length w) k u → above_of (counted_necklace cs) w u ≡ true → Reading (length w) j u × (above_of (counted_necklace (take j cs)) t u ≡ true)
     fewer u r h =
-        let x = ring-fewer cs j to (length w) k many u r (both_right (before w u) (countedNecklace cs u) h) in
-        (x.0, both (before t u) (countedNecklace (take j cs) u) (before-capped w j t c z u x.0 ∙ both_left (before w u) (countedNecklace cs u) h) x.1)
+        let x = ring-fewer cs j to (length w) k many u r (both_right (before w u) (counted_necklace cs u) h) in
+        (x.0, both (before t u) (counted_necklace (take j cs) u) (before-capped w j t c z u x.0 ∙ both_left (before w u) (counted_necklace cs u) h) x.1)

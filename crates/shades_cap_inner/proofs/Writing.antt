@@ -4,7 +4,7 @@
 --     Filled s k at out i    out has the sectors of s before `at`, and k - 1 from there up to i
 --     fill_start, fill_more, fill_end    sector after sector
 use Rattle.words.proofs.Plain.{ℕ, ◌+◌, ◌-◌, ◌<◌, ◌≤◌, arith, ◌≡◌, ◌∙◌, List, ◌++◌, length, get_or, take, drop, set, replicate, length-set, length-append}
-use Rattle.words.proofs.Plain.{length-replicate, List·getD-append, length-take-le, get_or-take, get_or-set_same, get_or-set_other}
+use Rattle.words.proofs.Plain.{length-replicate, List·get_d-append, length-take-le, get_or-take, get_or-set_same, get_or-set_other}
 use Rattle.words.proofs.Split.{lt, eq, gt, tri}
 use Rattle.word_copy_laws.proofs.Copy.{laid}
 use Rattle.check_numbers_inner.specs.Scan.{Scanned}
@@ -38,7 +38,7 @@ module _ (s : List ℕ) (k at : ℕ) (room : length s ≤ 64) where
       long = rw whole (simp (length-append, length-replicate) (omega arith))
 
       kept : (m : ℕ) → m < at → get_or out m 0 ≡ get_or s m 0
-      kept m l = rw whole (List·getD-append s (replicate (64 - length s) 0) 0 m (omega arith))
+      kept m l = rw whole (List·get_d-append s (replicate (64 - length s) 0) 0 m (omega arith))
 
   -- one sector more
   pub fill_more : (out : List ℕ) (i x : ℕ) → Filled s k at out i → i < length s → x ≡ k - 1 → Filled s k at (set out i x) (i + 1)

@@ -1,4 +1,7 @@
 // Shade counts without the shades that none is counted of, and a reading without the shades above those. No public calls.
+
+#![tactic(auto)]
+
 ghost use Rattle.std.specs.Prelude.{length, take};
 ghost use Rattle.shades_cap_inner.specs.Capped.{CountedTo, Cappable, Capped};
 

@@ -1,5 +1,8 @@
 // Whether a Lyndon word can be completed by given letters to a necklace. No arrangement of the letters is tried: a pool of words decides it
 // (`shades_laws`, proofs/Pool and Groups). No public call of the catalogue: those of `shades` check what it asks for.
+
+#![tactic(auto)]
+
 ghost use Rattle.std.specs.Prelude.{◌≡◌, ◌≤◌, length};
 ghost use Rattle.words.specs.Sum.{sum_of};
 ghost use Rattle.shades_completable_inner.specs.Completion.{Completing, Decides, Least, Numbered, Opened};

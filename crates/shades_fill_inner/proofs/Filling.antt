@@ -5,7 +5,7 @@ use Rattle.words.proofs.Plain.{ℕ, suc, ◌+◌, ◌-◌, ◌<◌, ◌≤◌, a
 use Rattle.words.proofs.Plain.{take, set, replicate, length-set, replicate-append-replicate, take-suc-set, take_all}
 use Rattle.shades_laws.proofs.Sums.{sum-take-suc, sum-take-le}
 use Rattle.words.specs.Sum.{sum_of}
-use Rattle.shades_laws.proofs.Letters.{letters, letters-suc, lettersFrom}
+use Rattle.shades_laws.proofs.Letters.{letters, letters-suc, letters_from}
 
 -- from place i up to place j the letter x is written, up to e it shall be
 pub record Putting (w₀ : List ℕ) (i e x : ℕ) (w : List ℕ) (j : ℕ) : Type 0 where
@@ -45,7 +45,7 @@ pub record Filling (w₀ cs w : List ℕ) (l b : ℕ) : Type 0 where
 
 -- none is written yet
 pub fill_start : (w cs : List ℕ) → Filling w cs w 0 0
-unfolding sum_of lettersFrom
+unfolding sum_of letters_from
 fill_start w cs = record { long = refl; within = omega arith; many = refl; done = refl }
 
 module _ (w₀ cs w : List ℕ) (l b : ℕ) (p : Filling w₀ cs w l b) (h : b < length cs) where

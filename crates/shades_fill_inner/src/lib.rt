@@ -1,4 +1,7 @@
 // The letters of shade counts in increasing order. No public calls.
+
+#![tactic(auto)]
+
 ghost use Rattle.std.specs.Prelude.{◌≡◌, ◌++◌, ◌-◌, ◌≤◌, length, take, replicate};
 ghost use Rattle.words.specs.Sum.{sum_of};
 ghost use Rattle.shades_laws.specs.Letters.{letters};

@@ -7,7 +7,7 @@ use Rattle.words.proofs.Plain.{get_or, take, drop, length-append, get_or-append-
 use Rattle.words.specs.{Order.before, Order.up_to, Turn.turn}
 use Rattle.words.proofs.{Search.all-at, Split.clash}
 use Rattle.words.proofs.Sequence.{sec, from, recast}
-use Rattle.rings.specs.Necklace.{necklace, notAboveTurn}
+use Rattle.rings.specs.Necklace.{necklace, not_above_turn}
 use Rattle.ring_laws.proofs.Run.{Lyn}
 use Rattle.shades_laws.proofs.Under.{◌≪◌, ◌≼◌, Short, lower, opening, under-trans, under-longer, under-extended, under-behind, upto-behind, upto-under, under-before, less-under}
 use Rattle.words.proofs.Readings.{All, nothing, also}
@@ -79,10 +79,10 @@ read-singles al (a ∷ v) = ap (λ x. a ∷ x) (read-singles al v)
 
 -- an ending of a necklace, read on into its beginning, does not lie under it
 pub ending-not-under : (al u v t : List ℕ) → t ≡ (al ++ u) ++ v → 0 < length v → necklace t ≡ true → (v ++ al) ≪ t → ⊥
-unfolding necklace notAboveTurn up_to turn
+unfolding necklace not_above_turn up_to turn
 ending-not-under al u v t e z h r =
     clash (before (v ++ (al ++ u)) t) (under-before (rw append_assoc at (under-longer u r)))
-    (subst (λ x. before x t ≡ false) turned (not-true (before (drop i t ++ take i t) t) (all-at (length t) (notAboveTurn t) h i inside)))
+    (subst (λ x. before x t ≡ false) turned (not-true (before (drop i t ++ take i t) t) (all-at (length t) (not_above_turn t) h i inside)))
   where
     i : ℕ
     i = length (al ++ u)

@@ -21,7 +21,7 @@ use Rattle.shades_laws.proofs.Exchange.{Over, higher, longer}
 use Rattle.shades_laws.proofs.Shape.{Rising, flat, step, Ladder, joined-upto, joined-under, over-long}
 use Rattle.shades_laws.proofs.Made.{Completed}
 use Rattle.shades_laws.proofs.Pool.{Pool, Arranged, pool-start, pool-stuck, pool-yes, join-pool, replicate-shift}
-use Rattle.shades_laws.proofs.Letters.{lettersFrom, letters, length-letters, sorted-letters}
+use Rattle.shades_laws.proofs.Letters.{letters_from, letters, length-letters, sorted-letters}
 
 -- ---- groups as a list
 
@@ -324,11 +324,11 @@ length-singles (a ∷ v) = ap suc (length-singles v)
 -- the letters of counts, each a word, are groups
 letters-spread : (w : ℕ → List ℕ) (m : ℕ → ℕ) (d f : ℕ) (cs : List ℕ) → ((i j x : ℕ) → f + i ≡ j → d + i ≡ x → i < length cs → w j ≡ x ∷ []) →
     ((i j : ℕ) → f + i ≡ j → i < length cs → m j ≡ get_or cs i 0) →
-    singles (lettersFrom d cs) ≡ spread w m f (length cs)
-unfolding lettersFrom spread singles
+    singles (letters_from d cs) ≡ spread w m f (length cs)
+unfolding letters_from spread singles
 letters-spread w m d f [] p q = refl
 letters-spread w m d f (c ∷ cs) p q =
-    singles-replicate c d (lettersFrom (suc d) cs)
+    singles-replicate c d (letters_from (suc d) cs)
     ∙ rw (p 0 f d (omega arith) (omega arith) (omega arith), q 0 f (omega arith) (omega arith))
     (ap (λ x. replicate c (d ∷ []) ++ x)
     (letters-spread w m (suc d) (suc f) cs (λ i j x a b h. p (suc i) j x (omega arith) (omega arith) (omega arith)) (λ i j a h. q (suc i) j (omega arith) (omega arith))))

@@ -4,9 +4,9 @@
 --     Completed al w      a word with the letters of w that completes al to a necklace
 -- In order: words that climb from al; how the words are made (`made-start`, `made-join`); the necklace (`made-whole`, `made_none`).
 use Rattle.words.proofs.Plain.{ℕ, zero, suc, ◌+◌, ◌<◌, arith, ◌≡◌, refl, sym, ap, ◌∙◌, subst, true, false, List, [], ◌∷◌, ◌++◌, append-nil, length, replicate}
-use Rattle.words.proofs.{Plain.length-append, Plain.List·getD-append, Sequence.sec}
+use Rattle.words.proofs.{Plain.length-append, Plain.List·get_d-append, Sequence.sec}
 use Rattle.words.specs.Order.{before, up_to}
-use Rattle.words.proofs.Lex.{upTo-refl, before-upTo, not-before}
+use Rattle.words.proofs.Lex.{up_to-refl, before-up_to, not-before}
 use Rattle.words.proofs.Readings.{All, nothing, also, all-weaken, all_append, all_left, all_right}
 use Rattle.rings.specs.{Necklace.necklace, Counts.occurs}
 use Rattle.ring_laws.proofs.Run.{Lyn}
@@ -20,9 +20,9 @@ use Rattle.shades_laws.proofs.Product.{Climbs, top, up, product}
 -- ---- words that climb
 
 -- ≼ is no more than up_to
-upto-upTo : {v w : List ℕ} → v ≼ w → up_to v w ≡ true
-upto-upTo {v} {w} (is e) = subst (λ x. up_to v x ≡ true) e (upTo-refl v)
-upto-upTo {v} {w} (under r) = before-upTo v w (under-before r)
+upto-up_to : {v w : List ℕ} → v ≼ w → up_to v w ≡ true
+upto-up_to {v} {w} (is e) = subst (λ x. up_to v x ≡ true) e (up_to-refl v)
+upto-up_to {v} {w} (under r) = before-up_to v w (under-before r)
 
 -- a word above s stands behind s
 pub over-short : {s g y : List ℕ} → Over s g y → Short s y
@@ -34,18 +34,18 @@ short-before : {s y : List ℕ} → Short s y → before s y ≡ true
 short-before (lower r) = under-before r
 short-before {s} {y} (opening u e z) =
     subst (λ x. before s x ≡ true) (sym e)
-    (before-place s (s ++ u) (length s) (rw (length-append s u) (omega arith)) (omega arith) (λ m h. sym (List·getD-append s u 0 m h))
+    (before-place s (s ++ u) (length s) (rw (length-append s u) (omega arith)) (omega arith) (λ m h. sym (List·get_d-append s u 0 m h))
     (λ h. absurd (omega arith)))
 
 -- rising lowest words climb
 rising-climbs : (x : List ℕ) {ys : List (List ℕ)} → All (λ y. up_to x y ≡ true) ys → All Lowest ys → Rising ys → Climbs x ys
 rising-climbs x nothing nothing flat = top
-rising-climbs x (also {w = y} h hs) (also k ks) (step r rs) = up h k (rising-climbs y (all-weaken (λ z. upto-upTo) r) ks rs)
+rising-climbs x (also {w = y} h hs) (also k ks) (step r rs) = up h k (rising-climbs y (all-weaken (λ z. upto-up_to) r) ks rs)
 
 -- copies of a lowest word in front
 copies-climb : (n : ℕ) (s : List ℕ) {ys : List (List ℕ)} → Lowest s → Climbs s ys → Climbs s (replicate n s ++ ys)
 copies-climb zero s k c = c
-copies-climb (suc n) s k c = up (upTo-refl s) k (copies-climb n s k c)
+copies-climb (suc n) s k c = up (up_to-refl s) k (copies-climb n s k c)
 
 -- the words of a pool climb from a word that is not above the least
 shape-climbs : (x s : List ℕ) (xs : List (List ℕ)) → Shape s xs → All Lowest xs → up_to x s ≡ true → Climbs x xs
@@ -54,7 +54,7 @@ shape-climbs x s xs p k h = subst (Climbs x) (sym p.whole) (go (subst (All Lowes
     go : All Lowest (s ∷ (replicate p.extra s ++ p.rest)) → Climbs x (s ∷ (replicate p.extra s ++ p.rest))
     go (also l ls) =
         up h l (copies-climb p.extra s l
-        (rising-climbs s (all-weaken (λ y o. before-upTo s y (short-before (over-short o))) p.above)
+        (rising-climbs s (all-weaken (λ y o. before-up_to s y (short-before (over-short o))) p.above)
         (all_right (replicate p.extra s) p.rest ls) p.rising))
 
 -- ---- what the pool is made of

@@ -6,7 +6,7 @@
 --     Pool al w xs        what holds of the pool at each step: its order, and that each necklace that begins with al and ends with the letters of w leaves an arrangement
 -- The laws that a loop needs: `pool-start`, `join-pool`, `pool-stuck`, `pool-yes`; told by groups of equal words in Groups.
 use Rattle.words.proofs.Plain.{ℕ, zero, suc, ◌+◌, ◌-◌, ◌<◌, ◌≤◌, arith, ◌≡◌, refl, sym, ap, ◌∙◌, subst, true, false, List, [], ◌∷◌, ◌++◌, append_assoc, length}
-use Rattle.words.proofs.Plain.{get_or, set, take, replicate, length-append, length-replicate, get_or-replicate, List·getD-append, get_or_at, take-append_seam}
+use Rattle.words.proofs.Plain.{get_or, set, take, replicate, length-append, length-replicate, get_or-replicate, List·get_d-append, get_or_at, take-append_seam}
 use Rattle.words.proofs.{Plain.get_or-append_seam, Plain.set-append_seam, Sequence.sec, Lex.same_refl}
 use Rattle.words.specs.Order.{before}
 use Rattle.words.proofs.Split.{lt, eq, gt, tri}
@@ -120,7 +120,7 @@ leading : (s : List ℕ) (n : ℕ) (r : List (List ℕ)) (q : ℕ) → All (λ y
     ((i : ℕ) → i < q → get_or (replicate (suc n) s ++ r) i [] ≡ s) → (q < suc n + length r → get_or (replicate (suc n) s ++ r) q [] ≡ s → ⊥) → q ≡ suc n
 leading s n r q e h lead stops =
     elim (tri q (suc n)) [
-      | lt k ↦ absurd (stops (omega arith) (List·getD-append (replicate (suc n) s) r [] q (rw (length-replicate (suc n) s) k) ∙ get_or-replicate (suc n) q s [] k))
+      | lt k ↦ absurd (stops (omega arith) (List·get_d-append (replicate (suc n) s) r [] q (rw (length-replicate (suc n) s) k) ∙ get_or-replicate (suc n) q s [] k))
       | eq k ↦ k
       | gt k ↦ past k r e h lead
     ]

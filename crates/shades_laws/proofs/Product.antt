@@ -4,12 +4,12 @@
 --     Climbs x xs     x and the words of xs do not fall, and each of xs is lowest
 -- In order: powers (`again-lowest`: u once or more in front of a greater lowest word); the product (`product`); a power of a lowest word is a necklace.
 use Rattle.words.proofs.Plain.{ℕ, zero, suc, ◌+◌, ◌*◌, arith, ◌≡◌, refl, sym, ap, ◌∙◌, subst, true, List, [], ◌∷◌, ◌++◌, append_assoc, append-nil, length, get_or}
-use Rattle.words.proofs.Plain.{length-append, List·getD-append, get_or-append-add}
+use Rattle.words.proofs.Plain.{length-append, List·get_d-append, get_or-append-add}
 use native.Mathlib.Nat.{mul-mod_left, suc-mul}
 use Rattle.words.specs.Order.{before, up_to}
 use Rattle.words.proofs.Split.{passes, fails, test}
 use Rattle.words.proofs.Sequence.{sec, place}
-use Rattle.words.proofs.Lex.{upTo-refl, before-upTo, upTo-split, upTo-trans}
+use Rattle.words.proofs.Lex.{up_to-refl, before-up_to, up_to-split, up_to-trans}
 use Rattle.rings.specs.Necklace.{necklace}
 use Rattle.ring_laws.proofs.{Run.Run, Run.lyn-through, Lyndon.run-necklace}
 use Rattle.shades_laws.proofs.Under.{Short, opening, before-short, under-before}
@@ -44,14 +44,14 @@ record Risen (u v w : List ℕ) : Type 0 where
 -- u once or more in front of a greater lowest word is lowest, and not greater than that word
 again-lowest : (q : ℕ) (u v : List ℕ) → Lowest u → Lowest v → Short u v → Risen u v (again q u v)
 unfolding again
-again-lowest zero u v k l s = record { low = l; past = s; most = upTo-refl v }
+again-lowest zero u v k l s = record { low = l; past = s; most = up_to-refl v }
 again-lowest (suc q) u v k l s = onward (again-lowest q u v k l s)
   where
     onward : Risen u v (again q u v) → Risen u v (u ++ again q u v)
     onward r = record {
       low = lowest-join k r.low r.past;
       past = opening (again q u v) refl (lowest-long r.low);
-      most = upTo-trans (u ++ again q u v) (again q u v) v (before-upTo (u ++ again q u v) (again q u v) (under-before (join-under k r.low r.past))) r.most;
+      most = up_to-trans (u ++ again q u v) (again q u v) v (before-up_to (u ++ again q u v) (again q u v) (under-before (join-under k r.low r.past))) r.most;
     }
 
 -- ---- the product
@@ -71,7 +71,7 @@ pub data Climbs : List ℕ → List (List ℕ) → Type 0 where
 -- so they do behind a word that is not greater
 pub climbs-from : {x y : List ℕ} {ys : List (List ℕ)} → up_to x y ≡ true → Climbs y ys → Climbs x ys
 climbs-from e top = top
-climbs-from {x} {y} e (up {y = z} h k c) = up (upTo-trans x y z e h) k c
+climbs-from {x} {y} e (up {y = z} h k c) = up (up_to-trans x y z e h) k c
 
 -- copies of a lowest word in front of words that climb from it
 powered : (q : ℕ) (u : List ℕ) → Lowest u → (ys : List (List ℕ)) → Climbs u ys → Powered (again (suc q) u (read [] ys))
@@ -80,7 +80,7 @@ powered q u k [] c = record { base = u; times = q; low = k; whole = refl }
 powered q u k (y ∷ ys) (up h l c) =
     elim (test (before u y)) [
       | passes e ↦ subst Powered (sym one) (powered 0 (again (suc q) u y) (risen e).low ys (climbs-from (risen e).most c))
-      | fails e ↦ subst Powered (equal (upTo-split u y h e)) (powered (suc q) u k ys (climbs-from h c))
+      | fails e ↦ subst Powered (equal (up_to-split u y h e)) (powered (suc q) u k ys (climbs-from h c))
     ]
   where
     risen : before u y ≡ true → Risen u y (again (suc q) u y)
@@ -107,8 +107,8 @@ power-run q u k = record {
   pos = lowest-long k;
   fits = omega (arith, long);
   again = λ i j e h. place (sec (u ++ again q u [])) i (length u + j) (sym e) ∙ get_or-append-add u (again q u []) j 0
-      ∙ sym (List·getD-append (again q u []) u 0 j (omega (arith, long))) ∙ ap (λ x. get_or x j 0) turned;
-  lyn = lyn-through (sec u) (sec (u ++ again q u [])) (length u) (λ m h. sym (List·getD-append u (again q u []) 0 m h)) (lowest-lyn u k);
+      ∙ sym (List·get_d-append (again q u []) u 0 j (omega (arith, long))) ∙ ap (λ x. get_or x j 0) turned;
+  lyn = lyn-through (sec u) (sec (u ++ again q u [])) (length u) (λ m h. sym (List·get_d-append u (again q u []) 0 m h)) (lowest-lyn u k);
 }
   where
     long : length (u ++ again q u []) ≡ length u + length (again q u [])

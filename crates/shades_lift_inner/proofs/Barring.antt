@@ -9,7 +9,7 @@
 --     left-start, left-more, left_end     the least shade that is left
 --     lift-none, lift-asks, lift-found, lift-not    the shades above that at a place
 use Rattle.words.proofs.Plain.{ℕ, zero, suc, ◌+◌, ◌-◌, ◌<◌, ◌≤◌, add-one, arith, ◌≡◌, refl, sym, ◌∙◌, subst, Bool, true, false, true≢false, List, [], ◌∷◌, ◌++◌}
-use Rattle.words.proofs.Plain.{append_assoc, length, get_or, take, set, length-set, length-append, List·getD-append, List·getD-eq-default, get_or-set_same}
+use Rattle.words.proofs.Plain.{append_assoc, length, get_or, take, set, length-set, length-append, List·get_d-append, List·get_d-eq-default, get_or-set_same}
 use Rattle.words.proofs.Plain.{get_or-set_other, take-suc-set, length-take-le, get_or-take, get_or_at, set_out}
 use Rattle.words.proofs.Split.{lt, eq, gt, tri}
 use Rattle.words.proofs.Sequence.{sec}
@@ -75,7 +75,7 @@ pub first-tell : (k : ℕ) (rem : List ℕ) → k ≤ length rem → ((x : ℕ) 
 first-tell k rem few past x = elim (tri x k) [ lt h ↦ get_or-take k rem x 0 h | eq h ↦ none (omega arith) | gt h ↦ none (omega arith) ]
   where
     none : k ≤ x → get_or (take k rem) x 0 ≡ get_or rem x 0
-    none h = List·getD-eq-default (take k rem) 0 {n = x} (omega (arith, length-take-le k rem few)) ∙ sym (past x h)
+    none h = List·get_d-eq-default (take k rem) 0 {n = x} (omega (arith, length-take-le k rem few)) ∙ sym (past x h)
 
 -- the same where nothing is left of the shades from k on, which are not told
 pub allows-part : (u : List ℕ) (b k : ℕ) (rem : List ℕ) (r : Bool) → b < k → k ≤ length rem → ((x : ℕ) → k ≤ x → get_or rem x 0 ≡ 0) →
@@ -102,8 +102,8 @@ counts-long (a ∷ v) cs c = omega (arith, counts-long v (less_one cs a) (less-c
     inside =
         elim (tri a (length cs)) [
           | lt h ↦ h
-          | eq h ↦ absurd (omega (arith, some, List·getD-eq-default cs 0 {n = a} (omega arith)))
-          | gt h ↦ absurd (omega (arith, some, List·getD-eq-default cs 0 {n = a} (omega arith)))
+          | eq h ↦ absurd (omega (arith, some, List·get_d-eq-default cs 0 {n = a} (omega arith)))
+          | gt h ↦ absurd (omega (arith, some, List·get_d-eq-default cs 0 {n = a} (omega arith)))
         ]
 
     sum_less : (cs : List ℕ) (a : ℕ) → 0 < get_or cs a 0 → suc (sum_of (less_one cs a)) ≡ sum_of cs
@@ -142,7 +142,7 @@ completing w l b k rem p = record {
         none h =
             omega (
               arith,
-              List·getD-eq-default (take k (less_one rem b)) 0 {n = x} (omega (arith, length-take-le k (less_one rem b) (omega (arith, length-set rem b (get_or rem b 0 - 1), p.shades, p.slots)))),
+              List·get_d-eq-default (take k (less_one rem b)) 0 {n = x} (omega (arith, length-take-le k (less_one rem b) (omega (arith, length-set rem b (get_or rem b 0 - 1), p.shades, p.slots)))),
             )
 
 -- raising a sector of a prenecklace and cutting behind it gives a Lyndon word
@@ -159,7 +159,7 @@ raised-lyndon w l b inside pre h = lyndon-of al (omega (arith, long)) (subst (Ly
     long = omega (arith, length-append (take l w) (b ∷ []), short)
 
     keep : (m : ℕ) → m < l → sec w m ≡ sec al m
-    keep m k = sym (List·getD-append (take l w) (b ∷ []) 0 m (omega (arith, short)) ∙ get_or-take l w m 0 k)
+    keep m k = sym (List·get_d-append (take l w) (b ∷ []) 0 m (omega (arith, short)) ∙ get_or-take l w m 0 k)
 
     last : sec al l ≡ b
     last = get_or_at (take l w) b [] 0 l short

@@ -5,7 +5,7 @@
 --     lower-fitting    what fits with a shade fits with each lesser one that is left
 --     barred-above     what is barred to a shade that is left is barred to each greater one
 use Rattle.words.proofs.Plain.{ℕ, zero, suc, ◌+◌, ◌-◌, ◌<◌, ◌≤◌, arith, ◌≡◌, refl, sym, ap, ◌∙◌, subst, true, List, [], ◌∷◌, ◌++◌, append_assoc, eqb, length}
-use Rattle.words.proofs.Plain.{get_or, length-append, List·getD-append, get_or_at}
+use Rattle.words.proofs.Plain.{get_or, length-append, List·get_d-append, get_or_at}
 use Rattle.words.specs.Turn.{turn}
 use Rattle.words.proofs.Split.{lt, eq, gt, tri, both_left}
 use Rattle.words.proofs.Sequence.{sec, from, Less, below, alike, above, place, widen, cmp}
@@ -117,7 +117,7 @@ begins-lyn u b r h =
     agree : (m : ℕ) → m < suc (length u) → sec (u ++ b ∷ []) m ≡ sec (u ++ b ∷ r) m
     agree m k =
         elim (tri m (length u)) [
-          | lt e ↦ List·getD-append u (b ∷ []) 0 m e ∙ sym (List·getD-append u (b ∷ r) 0 m e)
+          | lt e ↦ List·get_d-append u (b ∷ []) 0 m e ∙ sym (List·get_d-append u (b ∷ r) 0 m e)
           | eq e ↦ get_or_at u b [] 0 m (sym e) ∙ sym (get_or_at u b r 0 m (sym e))
           | gt e ↦ absurd (omega arith)
         ]

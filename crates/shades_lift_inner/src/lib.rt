@@ -1,4 +1,7 @@
 // The least shade to which one place of a prenecklace can be raised so that the pool leaves a completion (`shades_completable_inner`). No public calls.
+
+#![tactic(auto)]
+
 ghost use Rattle.std.specs.Prelude.{◌≡◌, ◌≤◌, length, take};
 ghost use Rattle.shades_lift_inner.specs.Lifts.{Possible, Allows, LeftFrom, Liftable, LiftedTo};
 

@@ -8,18 +8,18 @@ use Rattle.words.proofs.Plain.{take, ext_get_or, length-take-le, get_or-take}
 use Rattle.words.specs.{Order.up_to, Order.same, Readings.bit}
 use Rattle.words.proofs.Split.{lt, eq, gt, tri, both, both_left, not_left, not_right, agree, clash}
 use Rattle.words.proofs.Sequence.{sec}
-use Rattle.words.proofs.Lex.{same_refl, same_false, upTo-not-less}
-use Rattle.word_list_spec.specs.Passing.{countBelow}
+use Rattle.words.proofs.Lex.{same_refl, same_false, up_to-not-less}
+use Rattle.word_list_spec.specs.Passing.{count_below}
 use Rattle.rings.specs.{Necklace.lyndon, Open.open-all}
 use Rattle.ring_laws.proofs.Run.{Lyn, Run, run-shorter, run-through, lyn-through}
 use Rattle.ring_laws.proofs.{Lyndon.lyndon-of, Classes.not-lyndon}
-use Rattle.shades_next_inner.specs.Raised.{newWord, raisedTo}
+use Rattle.shades_next_inner.specs.Raised.{new_word, raised_to}
 
 -- ---- counting numbers below n
 
 -- at most n
-count-few : (n : ℕ) (f : ℕ → Bool) → countBelow n f ≤ n
-unfolding countBelow
+count-few : (n : ℕ) (f : ℕ → Bool) → count_below n f ≤ n
+unfolding count_below
 count-few zero f = omega arith
 count-few (suc n) f = omega (arith, count-few n f, one (f n))
   where
@@ -28,20 +28,20 @@ count-few (suc n) f = omega (arith, count-few n f, one (f n))
     one false = omega arith
 
 -- none
-count_none : (n : ℕ) (f : ℕ → Bool) → ((i : ℕ) → i < n → f i ≡ false) → countBelow n f ≡ 0
-unfolding countBelow
+count_none : (n : ℕ) (f : ℕ → Bool) → ((i : ℕ) → i < n → f i ≡ false) → count_below n f ≡ 0
+unfolding count_below
 count_none zero f h = refl
 count_none (suc n) f h = rw (h n (omega arith)) (omega (arith, count_none n f (λ i q. h i (omega arith))))
 
 -- as many
-count_same : (n : ℕ) (f g : ℕ → Bool) → ((i : ℕ) → i < n → f i ≡ g i) → countBelow n f ≡ countBelow n g
-unfolding countBelow
+count_same : (n : ℕ) (f g : ℕ → Bool) → ((i : ℕ) → i < n → f i ≡ g i) → count_below n f ≡ count_below n g
+unfolding count_below
 count_same zero f g h = refl
 count_same (suc n) f g h = rw (h n (omega arith), count_same n f g (λ i q. h i (omega arith)))
 
 -- one more
-count-more : (n : ℕ) (f g : ℕ → Bool) (l : ℕ) → l < n → f l ≡ false → g l ≡ true → ((i : ℕ) → i < n → (i ≡ l → ⊥) → f i ≡ g i) → countBelow n g ≡ suc (countBelow n f)
-unfolding countBelow
+count-more : (n : ℕ) (f g : ℕ → Bool) (l : ℕ) → l < n → f l ≡ false → g l ≡ true → ((i : ℕ) → i < n → (i ≡ l → ⊥) → f i ≡ g i) → count_below n g ≡ suc (count_below n f)
+unfolding count_below
 count-more zero f g l h off on other = absurd (omega arith)
 count-more (suc n) f g l h off on other =
     elim (tri l n) [
@@ -70,25 +70,25 @@ no_word v p i r h q = not-lyndon (take i v) p run (omega (arith, length-take-le 
     run = rw (length-take-le i v q) (run-through (sec v) (sec (take i v)) i p (λ m l. sym (get_or-take i v m 0 l)) (run-shorter (sec v) (length v) i p (omega arith) q r))
 
 -- a beginning is new or not, whatever follows it
-same_word : (w v v' : List ℕ) (i : ℕ) → take (suc i) v ≡ take (suc i) v' → newWord w v i ≡ newWord w v' i
-unfolding newWord
+same_word : (w v v' : List ℕ) (i : ℕ) → take (suc i) v ≡ take (suc i) v' → new_word w v i ≡ new_word w v' i
+unfolding new_word
 same_word w v v' i e = ap (λ (u : List ℕ). lyndon u && not (same (take (suc i) w) u)) e
 
 module _ (w v : List ℕ) where
   -- w begins so
-  known-word : (i : ℕ) → take (suc i) w ≡ take (suc i) v → newWord w v i ≡ false
-  unfolding newWord
+  known-word : (i : ℕ) → take (suc i) w ≡ take (suc i) v → new_word w v i ≡ false
+  unfolding new_word
   known-word i e = not_right (lyndon (take (suc i) v)) (not (same (take (suc i) w) (take (suc i) v))) (ap not (ap (same (take (suc i) w)) (sym e) ∙ same_refl (take (suc i) w)))
 
   -- it repeats
-  repeated-word : (p i : ℕ) → Run (sec v) (length v) p → p < suc i → i < length v → newWord w v i ≡ false
-  unfolding newWord
+  repeated-word : (p i : ℕ) → Run (sec v) (length v) p → p < suc i → i < length v → new_word w v i ≡ false
+  unfolding new_word
   repeated-word p i r h q = not_left (lyndon (take (suc i) v)) (not (same (take (suc i) w) (take (suc i) v))) (no_word v p (suc i) r h (omega arith))
 
   -- it is a Lyndon word, and w does not begin so
-  new_word : (i : ℕ) → i < length v → Lyn (sec v) (suc i) → (take (suc i) w ≡ take (suc i) v → ⊥) → newWord w v i ≡ true
-  unfolding newWord
-  new_word i h l other =
+  new_word_lem : (i : ℕ) → i < length v → Lyn (sec v) (suc i) → (take (suc i) w ≡ take (suc i) v → ⊥) → new_word w v i ≡ true
+  unfolding new_word
+  new_word_lem i h l other =
       both (lyndon (take (suc i) v)) (not (same (take (suc i) w) (take (suc i) v)))
       (lyndon-of (take (suc i) v) (omega (arith, long)) (rw long (lyn-through (sec v) (sec (take (suc i) v)) (suc i) (λ m q. sym (get_or-take (suc i) v m 0 q)) l)))
       (ap not (same_false (take (suc i) w) (take (suc i) v) other))
@@ -99,42 +99,42 @@ module _ (w v : List ℕ) where
 -- ---- how many
 
 -- at most as many as the answer has sectors
-pub raised-few : (w v : List ℕ) → raisedTo w v ≤ length v
-unfolding raisedTo
-raised-few w v = count-few (length v) (newWord w v)
+pub raised-few : (w v : List ℕ) → raised_to w v ≤ length v
+unfolding raised_to
+raised-few w v = count-few (length v) (new_word w v)
 
 -- none, where a reading is its own answer
-pub raised-none : (w v : List ℕ) → w ≡ v → raisedTo w v ≡ 0
-unfolding raisedTo
-raised-none w v e = count_none (length v) (newWord w v) (λ i h. known-word w v i (ap (take (suc i)) e))
+pub raised-none : (w v : List ℕ) → w ≡ v → raised_to w v ≡ 0
+unfolding raised_to
+raised-none w v e = count_none (length v) (new_word w v) (λ i h. known-word w v i (ap (take (suc i)) e))
 
 -- Place l of `ring` is raised and what stands up to there is repeated. Those raised before, if any, lie further left.
 pub raised-more : (start ring t : List ℕ) (l p : ℕ) →
     length ring ≡ length t → length start ≡ length t → up_to start ring ≡ true →
     l < length t → Run (sec t) (length t) (suc l) → ((m : ℕ) → m < l → sec t m ≡ sec ring m) → sec ring l < sec t l →
-    (p ≡ 0 → start ≡ ring) → (0 < p → Run (sec ring) (length ring) p) → p ≤ l → raisedTo start t ≡ suc (raisedTo start ring)
-unfolding raisedTo
+    (p ≡ 0 → start ≡ ring) → (0 < p → Run (sec ring) (length ring) p) → p ≤ l → raised_to start t ≡ suc (raised_to start ring)
+unfolding raised_to
 raised-more start ring t l p long long₀ low inside run keeps rises fresh repeats left =
-    rw long (count-more (length t) (newWord start ring) (newWord start t) l inside (old l inside (omega arith)) here other)
+    rw long (count-more (length t) (new_word start ring) (new_word start t) l inside (old l inside (omega arith)) here other)
   where
     -- nothing new behind the places raised before
-    old : (i : ℕ) → i < length t → l ≤ i → newWord start ring i ≡ false
+    old : (i : ℕ) → i < length t → l ≤ i → new_word start ring i ≡ false
     old i h q = go p fresh repeats left
       where
-        go : (p : ℕ) → (p ≡ 0 → start ≡ ring) → (0 < p → Run (sec ring) (length ring) p) → p ≤ l → newWord start ring i ≡ false
+        go : (p : ℕ) → (p ≡ 0 → start ≡ ring) → (0 < p → Run (sec ring) (length ring) p) → p ≤ l → new_word start ring i ≡ false
         go zero f r y = known-word start ring i (ap (take (suc i)) (f refl))
         go (suc p) f r y = repeated-word start ring (suc p) i (r (omega arith)) (omega arith) (omega arith)
 
-    here : newWord start t l ≡ true
+    here : new_word start t l ≡ true
     here =
-        new_word start t l inside run.lyn (λ e. upTo-not-less start ring (long₀ ∙ sym long) low (record {
+        new_word_lem start t l inside run.lyn (λ e. up_to-not-less start ring (long₀ ∙ sym long) low (record {
           at = l;
           bound = omega arith;
           agree = λ m h. sym (keeps m h) ∙ sym (take_same start t (suc l) e m (omega arith));
           less = omega (arith, take_same start t (suc l) e l (omega arith));
         }))
 
-    other : (i : ℕ) → i < length t → (i ≡ l → ⊥) → newWord start ring i ≡ newWord start t i
+    other : (i : ℕ) → i < length t → (i ≡ l → ⊥) → new_word start ring i ≡ new_word start t i
     other i h q =
         elim (tri i l) [
           | lt r ↦ same_word start ring t i (same-take ring t (suc i) (omega arith) (omega arith) (λ m y. sym (keeps m (omega arith))))
@@ -148,39 +148,39 @@ module _ (w t : List ℕ) (e p : ℕ) (long : length t ≡ length w) (run : Run 
   begins i h = same-take w t (suc i) (omega arith) (omega arith) (λ m q. sym (keeps m (omega arith)))
 
   -- nothing in t is new
-  pub raised-settled : raisedTo w t ≡ 0
-  unfolding raisedTo
+  pub raised-settled : raised_to w t ≡ 0
+  unfolding raised_to
   raised-settled =
-      count_none (length t) (newWord w t) (λ i h. elim (tri i e) [
+      count_none (length t) (new_word w t) (λ i h. elim (tri i e) [
         | lt q ↦ known-word w t i (begins i q)
         | eq q ↦ repeated-word w t p i run (omega arith) h
         | gt q ↦ repeated-word w t p i run (omega arith) h
       ])
 
   -- and what is new in a greater reading is as new to w
-  pub raised-from : (u : List ℕ) → length u ≡ length t → up_to t u ≡ true → sec w e < sec t e → raisedTo w u ≡ raisedTo t u
-  unfolding raisedTo newWord
+  pub raised-from : (u : List ℕ) → length u ≡ length t → up_to t u ≡ true → sec w e < sec t e → raised_to w u ≡ raised_to t u
+  unfolding raised_to new_word
   raised-from u size low rises =
-      count_same (length u) (newWord w u) (newWord t u) (λ i h. elim (tri i e) [
+      count_same (length u) (new_word w u) (new_word t u) (λ i h. elim (tri i e) [
         | lt q ↦ ap (λ (x : List ℕ). lyndon (take (suc i) u) && not (same x (take (suc i) u))) (begins i q)
         | eq q ↦ late i h (omega arith)
         | gt q ↦ late i h (omega arith)
       ])
     where
-      late : (i : ℕ) → i < length u → e ≤ i → newWord w u i ≡ newWord t u i
-      late i h q = agree (newWord w u i) (newWord t u i) to from
+      late : (i : ℕ) → i < length u → e ≤ i → new_word w u i ≡ new_word t u i
+      late i h q = agree (new_word w u i) (new_word t u i) to from
         where
-          to : newWord w u i ≡ true → newWord t u i ≡ true
+          to : new_word w u i ≡ true → new_word t u i ≡ true
           to y =
               let l : lyndon (take (suc i) u) ≡ true = both_left (lyndon (take (suc i) u)) (not (same (take (suc i) w) (take (suc i) u))) y in
               both (lyndon (take (suc i) u)) (not (same (take (suc i) t) (take (suc i) u))) l
               (ap not (same_false (take (suc i) t) (take (suc i) u) (λ x. clash (lyndon (take (suc i) u)) l (ap lyndon (sym x) ∙ no_word t p (suc i) run (omega arith) (omega arith)))))
 
-          from : newWord t u i ≡ true → newWord w u i ≡ true
+          from : new_word t u i ≡ true → new_word w u i ≡ true
           from y =
               both (lyndon (take (suc i) u)) (not (same (take (suc i) w) (take (suc i) u)))
               (both_left (lyndon (take (suc i) u)) (not (same (take (suc i) t) (take (suc i) u))) y)
-              (ap not (same_false (take (suc i) w) (take (suc i) u) (λ x. upTo-not-less t u (sym size) low (record {
+              (ap not (same_false (take (suc i) w) (take (suc i) u) (λ x. up_to-not-less t u (sym size) low (record {
                 at = e;
                 bound = inside;
                 agree = λ m r. sym (take_same w u (suc i) x m (omega arith)) ∙ sym (keeps m r);
@@ -189,6 +189,6 @@ module _ (w t : List ℕ) (e p : ℕ) (long : length t ≡ length w) (run : Run 
 
 -- ---- by hand: 001011 after 000111 takes three places, for 001, 00101 and 001011
 
-sample : raisedTo (0 ∷ 0 ∷ 0 ∷ 1 ∷ 1 ∷ 1 ∷ []) (0 ∷ 0 ∷ 1 ∷ 0 ∷ 1 ∷ 1 ∷ []) ≡ 3
-unfolding countBelow newWord raisedTo open-all
+sample : raised_to (0 ∷ 0 ∷ 0 ∷ 1 ∷ 1 ∷ 1 ∷ []) (0 ∷ 0 ∷ 1 ∷ 0 ∷ 1 ∷ 1 ∷ []) ≡ 3
+unfolding count_below new_word raised_to open-all
 sample = refl

@@ -2,7 +2,7 @@
 --     Standing cs n k start ring p              what the loop of `seek` knows: the next ring above `ring` is that above `start`
 --     seek-start, seek-none, seek-asks          the loop starts; there is no place to raise; what repeating asks
 --     headed                                    what is repeated is a Lyndon word
---     lastRaised n start ring                   the place that was raised last, or 0
+--     last_raised n start ring                   the place that was raised last, or 0
 --     seek-right                                the place that is raised lies further right than that before: there are at most n rounds
 --     seek-few, seek-counts                     what was raised so far is counted, and is at most n
 --     seek-size, seek-run, seek-last, seek-falls, seek_found, seek-on    what is raised is a ring, or the search goes on from there
@@ -15,11 +15,11 @@ use Rattle.words.proofs.Plain.{drop, set, length-set, length-append, length-drop
 use Rattle.words.proofs.{Plain.get_or-set_other, Sequence.sec}
 use Rattle.words.specs.Order.{before, up_to, same}
 use Rattle.words.proofs.Split.{lt, eq, gt, tri, clash, test, passes, fails}
-use Rattle.words.proofs.Lex.{same_refl, same_false, before-less, before-irrefl, before-upTo, upTo-refl, upTo-before-trans}
-use Rattle.rings.specs.{Prenecklace.lyn, Counts.countedNecklace, Steps.next_of}
+use Rattle.words.proofs.Lex.{same_refl, same_false, before-less, before-irrefl, before-up_to, up_to-refl, up_to-before-trans}
+use Rattle.rings.specs.{Prenecklace.lyn, Counts.counted_necklace, Steps.next_of}
 use Rattle.ring_laws.proofs.Run.{Pre, Run, pre-shorter, lyn-through}
 use Rattle.ring_laws.proofs.{Raise.raise-lyn, Words.pre-of, Lyndon.run-prenecklace, Lyndon.run-lyn, FullWalk.next-facts}
-use Rattle.shades_next_inner.specs.{declared.Sought.Sought, Runs.Repeatable, Runs.Repeats, Above.Finds, Raised.raisedTo}
+use Rattle.shades_next_inner.specs.{declared.Sought.Sought, Runs.Repeatable, Runs.Repeats, Above.Finds, Raised.raised_to}
 use Rattle.classify_inner.specs.Beginning.{LongestPrenecklace}
 use Rattle.shades_raise_inner.specs.Places.{CountedRing, Blocked, Begun, Headed, PlaceFound}
 use Rattle.shades_raise_inner.specs.Ready.{Ready, Opening}
@@ -51,42 +51,42 @@ headed w n p room r = record { some = λ h. r.pos; lyn = λ h. lyn-through (sec 
 -- ---- the loop of `seek`
 
 -- the place, counted from 1, that was raised last, or 0 where none was: what stands up to there is repeated, so it is the lyn
-unfoldable pub lastRaised : ℕ → List ℕ → List ℕ → ℕ
-lastRaised n start ring = elim (same (take n start) (take n ring)) [ true ↦ 0 | false ↦ lyn (take n ring) ]
+unfoldable pub last_raised : ℕ → List ℕ → List ℕ → ℕ
+last_raised n start ring = elim (same (take n start) (take n ring)) [ true ↦ 0 | false ↦ lyn (take n ring) ]
 
 -- none was
-pub last_none : (n : ℕ) (start : List ℕ) → lastRaised n start start ≡ 0
-unfolding lastRaised
-last_none n start = rw (same_refl (take n start), lastRaised)
+pub last_none : (n : ℕ) (start : List ℕ) → last_raised n start start ≡ 0
+unfolding last_raised
+last_none n start = rw (same_refl (take n start), last_raised)
 
 -- one was
-last_some : (n : ℕ) (start ring : List ℕ) (i : ℕ) → before (take n start) (take n ring) ≡ true → Run (sec (take n ring)) (length (take n ring)) i → lastRaised n start ring ≡ i
-unfolding lastRaised
+last_some : (n : ℕ) (start ring : List ℕ) (i : ℕ) → before (take n start) (take n ring) ≡ true → Run (sec (take n ring)) (length (take n ring)) i → last_raised n start ring ≡ i
+unfolding last_raised
 last_some n start ring i up r =
     rw (
       same_false (take n start) (take n ring) (λ e. clash (before (take n start) (take n ring)) up (subst (λ x. before (take n start) x ≡ false) e (before-irrefl (take n start)))),
-      lastRaised,
+      last_raised,
     ) (run-lyn (take n ring) i r)
 
 -- the next ring above `ring` is that above `start`; p is the place, counted from 1, that was raised last, or 0
 pub record Standing (cs : List ℕ) (n k : ℕ) (start ring : List ℕ) (p : ℕ) : Type 0 where
   pub size : length ring ≡ 64
   pub opening : Opening ring n k cs
-  pub next : next_of (countedNecklace cs) k (take n ring) ≡ next_of (countedNecklace cs) k (take n start)
+  pub next : next_of (counted_necklace cs) k (take n ring) ≡ next_of (counted_necklace cs) k (take n start)
   pub begun : length (take n start) ≡ n
   pub reached : up_to (take n start) (take n ring) ≡ true
   pub within : p ≤ n
   pub fresh : p ≡ 0 → take n start ≡ take n ring
   pub further : 0 < p → Further cs n k (take n ring) p
 
-pub seek-start : {cs : List ℕ} {n k : ℕ} {start : List ℕ} → length start ≡ 64 → Opening start n k cs → Standing cs n k start start (lastRaised n start start)
+pub seek-start : {cs : List ℕ} {n k : ℕ} {start : List ℕ} → length start ≡ 64 → Opening start n k cs → Standing cs n k start start (last_raised n start start)
 seek-start {n = n} {start = start} size p =
     record {
       size = size;
       opening = p;
       next = refl;
       begun = p.ready.reading.long;
-      reached = upTo-refl (take n start);
+      reached = up_to-refl (take n start);
       within = omega (arith, last_none n start);
       fresh = λ h. refl;
       further = λ h. absurd (omega (arith, last_none n start));
@@ -96,11 +96,11 @@ seek-start {n = n} {start = start} size p =
 pub record Rounded (cs : List ℕ) (n k : ℕ) (start : List ℕ) (p i q : ℕ) (next : List ℕ) : Type 0 where
   pub size : length next ≡ 64
   pub run : Run (sec (take n next)) (length (take n next)) i
-  pub falls : n - lastRaised n start next < n - p
+  pub falls : n - last_raised n start next < n - p
   pub few : q ≤ n
-  pub counts : q + 1 ≡ raisedTo (take n start) (take n next)
-  pub found : true ≡ countedNecklace cs (take n next) → Finds start n k cs (record { some = true; ring = next; raised = q + 1 })
-  pub on : false ≡ countedNecklace cs (take n next) → Standing cs n k start next (lastRaised n start next)
+  pub counts : q + 1 ≡ raised_to (take n start) (take n next)
+  pub found : true ≡ counted_necklace cs (take n next) → Finds start n k cs (record { some = true; ring = next; raised = q + 1 })
+  pub on : false ≡ counted_necklace cs (take n next) → Standing cs n k start next (last_raised n start next)
 
 module _ {cs : List ℕ} {n k : ℕ} {start ring : List ℕ} {p : ℕ} (at : Standing cs n k start ring p) {i b : ℕ} (found : PlaceFound ring n k cs (record { end = i; shade = b })) where
   long : length (take n ring) ≡ n
@@ -126,11 +126,11 @@ module _ {cs : List ℕ} {n k : ℕ} {start ring : List ℕ} {p : ℕ} (at : Sta
   beyond h = further-right cs n k (take n ring) p i long (at.further h) (λ l c y q r x. still-blocked l c q (found.blocked l c y q (omega (arith, r, same-sector l q)) x))
 
   -- where no place can be raised none was before
-  unraised : i ≡ 0 → raisedTo (take n start) (take n ring) ≡ 0
+  unraised : i ≡ 0 → raised_to (take n start) (take n ring) ≡ 0
   unraised z = raised-none (take n start) (take n ring) (at.fresh (elim (tri p 0) [ lt h ↦ absurd (omega arith) | eq h ↦ h | gt h ↦ absurd (omega (arith, beyond h)) ]))
 
   -- no place can be raised; q were
-  pub seek-none : i ≡ 0 → {q : ℕ} → q ≡ raisedTo (take n start) (take n ring) → Finds start n k cs (record { some = false; ring = ring; raised = q })
+  pub seek-none : i ≡ 0 → {q : ℕ} → q ≡ raised_to (take n start) (take n ring) → Finds start n k cs (record { some = false; ring = ring; raised = q })
   seek-none z counted = record {
     ring = λ e. absurd (true≢false (sym e));
     raised = λ e. absurd (true≢false (sym e));
@@ -139,7 +139,7 @@ module _ {cs : List ℕ} {n k : ℕ} {start ring : List ℕ} {p : ℕ} (at : Sta
   }
 
   -- no more were raised than there are sectors
-  seek-few : (q : ℕ) → q ≡ raisedTo (take n start) (take n ring) → q ≤ n
+  seek-few : (q : ℕ) → q ≡ raised_to (take n start) (take n ring) → q ≤ n
   seek-few q counted = omega (arith, raised-few (take n start) (take n ring), long)
 
   module _ (z : i ≡ 0 → ⊥) where
@@ -213,28 +213,28 @@ module _ {cs : List ℕ} {n k : ℕ} {start ring : List ℕ} {p : ℕ} (at : Sta
       seek-run = rw next-holds.front rep.run
 
       risen : before (take n start) (take n (t ++ drop n (set ring (i - 1) b))) ≡ true
-      risen = rw next-holds.front (upTo-before-trans (take n start) (take n ring) t at.reached step.above)
+      risen = rw next-holds.front (up_to-before-trans (take n start) (take n ring) t at.reached step.above)
 
       -- the place that was raised last is now this one
-      seek-last : lastRaised n start (t ++ drop n (set ring (i - 1) b)) ≡ i
+      seek-last : last_raised n start (t ++ drop n (set ring (i - 1) b)) ≡ i
       seek-last = last_some n start (t ++ drop n (set ring (i - 1) b)) i risen seek-run
 
       -- fewer places are left behind it
-      pub seek-falls : n - lastRaised n start (t ++ drop n (set ring (i - 1) b)) < n - p
+      pub seek-falls : n - last_raised n start (t ++ drop n (set ring (i - 1) b)) < n - p
       seek-falls = omega (arith, seek-last, seek-right, found.within)
 
       -- one place more was raised
-      pub seek-counts : (q : ℕ) → q ≡ raisedTo (take n start) (take n ring) → q + 1 ≡ raisedTo (take n start) (take n (t ++ drop n (set ring (i - 1) b)))
+      pub seek-counts : (q : ℕ) → q ≡ raised_to (take n start) (take n ring) → q + 1 ≡ raised_to (take n start) (take n (t ++ drop n (set ring (i - 1) b)))
       seek-counts q counted = rw next-holds.front (omega (arith, more))
         where
-          more : raisedTo (take n start) t ≡ suc (raisedTo (take n start) (take n ring))
+          more : raised_to (take n start) t ≡ suc (raised_to (take n start) (take n ring))
           more =
               raised-more (take n start) (take n ring) t (i - 1) p (long ∙ sym whole) (at.begun ∙ sym whole) at.reached
               (omega (arith, inside, whole)) (subst (λ (x : ℕ). Run (sec t) x (suc (i - 1))) (sym whole) lifts.run) lifts.keeps
               (omega (arith, lifts.here, rises)) at.fresh (λ h. subst (λ (x : ℕ). Run (sec (take n ring)) x p) (sym long) (at.further h).run) (omega (arith, seek-right))
 
       -- it is a ring of the counts
-      seek_found : true ≡ countedNecklace cs (take n (t ++ drop n (set ring (i - 1) b))) → (q : ℕ) → q ≡ raisedTo (take n start) (take n ring) →
+      seek_found : true ≡ counted_necklace cs (take n (t ++ drop n (set ring (i - 1) b))) → (q : ℕ) → q ≡ raised_to (take n start) (take n ring) →
           Finds start n k cs (record { some = true; ring = t ++ drop n (set ring (i - 1) b); raised = q + 1 })
       seek_found h q counted = record {
         ring = λ e. rw next-holds.front (sym at.next ∙ step-found cs n k (take n ring) long t step (sym (rw next-holds.front at h)));
@@ -244,15 +244,15 @@ module _ {cs : List ℕ} {n k : ℕ} {start ring : List ℕ} {p : ℕ} (at : Sta
       }
 
       -- it is none
-      seek-on : false ≡ countedNecklace cs (take n (t ++ drop n (set ring (i - 1) b))) →
-          Standing cs n k start (t ++ drop n (set ring (i - 1) b)) (lastRaised n start (t ++ drop n (set ring (i - 1) b)))
+      seek-on : false ≡ counted_necklace cs (take n (t ++ drop n (set ring (i - 1) b))) →
+          Standing cs n k start (t ++ drop n (set ring (i - 1) b)) (last_raised n start (t ++ drop n (set ring (i - 1) b)))
       seek-on h = rw seek-last (record {
         size = next-holds.size;
         opening = step-opening cs n k ring t (t ++ drop n (set ring (i - 1) b)) at.opening.ready step next-holds.front;
         next = rw next-holds.front (sym (step-on cs n k (take n ring) long t step (sym (rw next-holds.front at h))) ∙ at.next);
         further =
             λ y. rw next-holds.front (record { run = rw whole at rep.run; other = sym (rw next-holds.front at h); ring = other-ring.ring; known = other-ring.known; agree = as-begun });
-        reached = before-upTo (take n start) (take n (t ++ drop n (set ring (i - 1) b))) risen;
+        reached = before-up_to (take n start) (take n (t ++ drop n (set ring (i - 1) b))) risen;
         within = found.within;
         begun = at.begun;
         fresh = λ y. absurd (omega arith);
@@ -269,7 +269,7 @@ module _ {cs : List ℕ} {n k : ℕ} {start ring : List ℕ} {p : ℕ} (at : Sta
                 | gt e ↦ absurd (omega arith)
               ]
 
-      pub rounded : {q : ℕ} → q ≡ raisedTo (take n start) (take n ring) → Rounded cs n k start p i q (t ++ drop n (set ring (i - 1) b))
+      pub rounded : {q : ℕ} → q ≡ raised_to (take n start) (take n ring) → Rounded cs n k start p i q (t ++ drop n (set ring (i - 1) b))
       rounded {q = q} counted =
           record {
             size = seek-size;
@@ -337,21 +337,21 @@ module _ {cs : List ℕ} {n k : ℕ} {start : List ℕ} (size : length start ≡
     above-run = rw settled-holds.front rep.run
 
     -- no place was raised
-    settled-unraised : raisedTo (take n start) t ≡ 0
+    settled-unraised : raised_to (take n start) t ≡ 0
     settled-unraised =
         raised-settled (take n start) t e p (settled-long ∙ sym start-long) rep.run settles.opening.fits
         (omega (arith, settled-long, settles.inside)) (settles-keeps n (take n start) t e p settles)
 
     -- and none more on the way to a greater ring
-    settled-counts : (u : List ℕ) → next_of (countedNecklace cs) k t ≡ some u → raisedTo t u ≡ raisedTo (take n start) u
+    settled-counts : (u : List ℕ) → next_of (counted_necklace cs) k t ≡ some u → raised_to t u ≡ raised_to (take n start) u
     settled-counts u q =
-        let f = next-facts (countedNecklace cs) k t u q in
+        let f = next-facts (counted_necklace cs) k t u q in
         sym (raised-from (take n start) t e p (settled-long ∙ sym start-long) rep.run
         settles.opening.fits (omega (arith, settled-long, settles.inside)) (settles-keeps n (take n start) t e p settles)
-        u f.0.long (before-upTo t u f.1) (settles-rises n (take n start) t e p settles))
+        u f.0.long (before-up_to t u f.1) (settles-rises n (take n start) t e p settles))
 
     -- it is a ring of the counts
-    pub above-found : true ≡ countedNecklace cs (take n (t ++ drop n start)) → Finds start n k cs (record { some = true; ring = t ++ drop n start; raised = 0 })
+    pub above-found : true ≡ counted_necklace cs (take n (t ++ drop n start)) → Finds start n k cs (record { some = true; ring = t ++ drop n start; raised = 0 })
     above-found h = record {
       ring = λ e. rw settled-holds.front (step-found cs n k (take n start) start-long t settled (sym (rw settled-holds.front at h)));
       raised = λ e. rw settled-holds.front (sym settled-unraised);
@@ -360,7 +360,7 @@ module _ {cs : List ℕ} {n k : ℕ} {start : List ℕ} (size : length start ≡
     }
 
     -- it is none
-    module _ (h : false ≡ countedNecklace cs (take n (t ++ drop n start))) where
+    module _ (h : false ≡ counted_necklace cs (take n (t ++ drop n start))) where
       pub above_on : Opening (t ++ drop n start) n k cs × Headed (t ++ drop n start) n p
       above_on = (step-opening cs n k start t (t ++ drop n start) ready settled settled-holds.front, headed (t ++ drop n start) n p (omega (arith, above-size, ready.size)) above-run)
 
@@ -372,5 +372,5 @@ module _ {cs : List ℕ} {n k : ℕ} {start : List ℕ} (size : length start ≡
         unraised = a.unraised;
       }
         where
-          on : next_of (countedNecklace cs) k (take n start) ≡ next_of (countedNecklace cs) k (take n (t ++ drop n start))
+          on : next_of (counted_necklace cs) k (take n start) ≡ next_of (counted_necklace cs) k (take n (t ++ drop n start))
           on = rw settled-holds.front (step-on cs n k (take n start) start-long t settled (sym (rw settled-holds.front at h)))

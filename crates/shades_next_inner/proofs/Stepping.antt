@@ -10,9 +10,9 @@ use native.Mathlib.Nat.{mod-lt}
 use Rattle.words.specs.{Order.before, Order.up_to, Readings.Reading, Readings.readings}
 use Rattle.words.proofs.Split.{lt, eq, gt, tri, both, both_left, both_right, agree, clash, refuted}
 use Rattle.words.proofs.Sequence.{sec, Less, Cmp, below, alike, above, cmp, place, one_more, less-asym}
-use Rattle.words.proofs.Lex.{Lex, ahead, equal, behind, lex, before-less, less-before, not-less-upTo, before-trans, upTo-not-before}
+use Rattle.words.proofs.Lex.{Lex, ahead, equal, behind, lex, before-less, less-before, not-less-up_to, before-trans, up_to-not-before}
 use Rattle.words.proofs.Readings.{all-weaken, readings-all, first-is, first-nothing, first_cong}
-use Rattle.rings.specs.{Prenecklace.prenecklace, Counts.countedNecklace, Steps.above_of, Steps.next_of}
+use Rattle.rings.specs.{Prenecklace.prenecklace, Counts.counted_necklace, Steps.above_of, Steps.next_of}
 use Rattle.ring_laws.proofs.{Run.Pre, Run.Run, Repeat.run_rep, Raise.run-floor, Words.pre-of, Words.necklace-prenecklace}
 use Rattle.ring_laws.proofs.Lyndon.{run-prenecklace}
 use Rattle.shades_raise_inner.specs.Places.{CountedRing, Blocked}
@@ -27,44 +27,44 @@ pub record Step (cs : List ℕ) (n k : ℕ) (w v : List ℕ) : Type 0 where
 
 module _ (cs : List ℕ) (n k : ℕ) (w : List ℕ) (long : length w ≡ n) where
   -- what passes the test of the next ring
-  passing : (w : List ℕ) (u : List ℕ) → Reading n k u → above_of (countedNecklace cs) w u ≡ true → CountedRing cs n k u × (before w u ≡ true)
+  passing : (w : List ℕ) (u : List ℕ) → Reading n k u → above_of (counted_necklace cs) w u ≡ true → CountedRing cs n k u × (before w u ≡ true)
   unfolding above_of
-  passing w u r h = (record { reading = r; counted = both_right (before w u) (countedNecklace cs u) h }, both_left (before w u) (countedNecklace cs u) h)
+  passing w u r h = (record { reading = r; counted = both_right (before w u) (counted_necklace cs u) h }, both_left (before w u) (counted_necklace cs u) h)
 
   -- there is no ring above w
-  pub step-none : ((u : List ℕ) → CountedRing cs n k u → before w u ≡ true → ⊥) → next_of (countedNecklace cs) k w ≡ none
+  pub step-none : ((u : List ℕ) → CountedRing cs n k u → before w u ≡ true → ⊥) → next_of (counted_necklace cs) k w ≡ none
   unfolding next_of
   step-none h =
       rw long
-      (first-nothing n k (above_of (countedNecklace cs) w) (λ u r. refuted (above_of (countedNecklace cs) w u) (λ p. let (ring, up) = passing w u r p in h u ring up)))
+      (first-nothing n k (above_of (counted_necklace cs) w) (λ u r. refuted (above_of (counted_necklace cs) w u) (λ p. let (ring, up) = passing w u r p in h u ring up)))
 
   module _ (v : List ℕ) (step : Step cs n k w v) where
     -- it is the next ring
-    pub step-found : countedNecklace cs v ≡ true → next_of (countedNecklace cs) k w ≡ some v
+    pub step-found : counted_necklace cs v ≡ true → next_of (counted_necklace cs) k w ≡ some v
     unfolding next_of above_of
     step-found h =
         rw long
-        (first-is n k (above_of (countedNecklace cs) w) v step.reading (both (before w v) (countedNecklace cs v) step.above h)
+        (first-is n k (above_of (counted_necklace cs) w) v step.reading (both (before w v) (counted_necklace cs v) step.above h)
         (λ u r p. let (ring, up) = passing w u r p in step.least u ring up))
 
     -- it is none, and the next ring above it is that above w
-    pub step-on : countedNecklace cs v ≡ false → next_of (countedNecklace cs) k w ≡ next_of (countedNecklace cs) k v
+    pub step-on : counted_necklace cs v ≡ false → next_of (counted_necklace cs) k w ≡ next_of (counted_necklace cs) k v
     unfolding next_of above_of
     step-on h =
         rw (long, step.reading.long)
-        (first_cong (above_of (countedNecklace cs) w) (above_of (countedNecklace cs) v) (readings n k)
-        (all-weaken (λ u r. agree (above_of (countedNecklace cs) w u) (above_of (countedNecklace cs) v u) (further u r) (nearer u)) (readings-all n k)))
+        (first_cong (above_of (counted_necklace cs) w) (above_of (counted_necklace cs) v) (readings n k)
+        (all-weaken (λ u r. agree (above_of (counted_necklace cs) w u) (above_of (counted_necklace cs) v u) (further u r) (nearer u)) (readings-all n k)))
       where
-        further : (u : List ℕ) → Reading n k u → above_of (countedNecklace cs) w u ≡ true → above_of (countedNecklace cs) v u ≡ true
-        further u r p = let (ring, up) = passing w u r p in both (before v u) (countedNecklace cs u) (beyond u ring (step.least u ring up) (lex v u)) ring.counted
+        further : (u : List ℕ) → Reading n k u → above_of (counted_necklace cs) w u ≡ true → above_of (counted_necklace cs) v u ≡ true
+        further u r p = let (ring, up) = passing w u r p in both (before v u) (counted_necklace cs u) (beyond u ring (step.least u ring up) (lex v u)) ring.counted
           where
             beyond : (u : List ℕ) → CountedRing cs n k u → up_to v u ≡ true → Lex v u → before v u ≡ true
             beyond u ring low (ahead e) = e
-            beyond u ring low (equal e) = clash (countedNecklace cs v) (rw (← e) at ring.counted) h
-            beyond u ring low (behind e) = clash (before u v) e (upTo-not-before u v low)
+            beyond u ring low (equal e) = clash (counted_necklace cs v) (rw (← e) at ring.counted) h
+            beyond u ring low (behind e) = clash (before u v) e (up_to-not-before u v low)
 
-        nearer : (u : List ℕ) → above_of (countedNecklace cs) v u ≡ true → above_of (countedNecklace cs) w u ≡ true
-        nearer u p = both (before w u) (countedNecklace cs u) (before-trans w v u step.above (both_left (before v u) (countedNecklace cs u) p)) (both_right (before v u) (countedNecklace cs u) p)
+        nearer : (u : List ℕ) → above_of (counted_necklace cs) v u ≡ true → above_of (counted_necklace cs) w u ≡ true
+        nearer u p = both (before w u) (counted_necklace cs u) (before-trans w v u step.above (both_left (before v u) (counted_necklace cs u) p)) (both_right (before v u) (counted_necklace cs u) p)
 
 -- ---- repetitions
 
@@ -92,7 +92,7 @@ module _ (cs : List ℕ) (n k p : ℕ) (w t : List ℕ) (long : length w ≡ n) 
     reading = record { long = size; shades = repeat-shades (sec t) n p k run shades };
     pre = run-prenecklace t p (rw size run);
     above = less-before w t (long ∙ sym size) (rw size up);
-    least = λ v ring h. not-less-upTo t v (size ∙ sym ring.reading.long) (λ l. below v ring (rw ring.reading.long at (before-less w v (long ∙ sym ring.reading.long) h)) (rw size at l));
+    least = λ v ring h. not-less-up_to t v (size ∙ sym ring.reading.long) (λ l. below v ring (rw ring.reading.long at (before-less w v (long ∙ sym ring.reading.long) h)) (rw size at l));
   }
     where
       below : (v : List ℕ) → CountedRing cs n k v → Less (sec w) (sec v) n → Less (sec v) (sec t) n → ⊥
@@ -107,7 +107,7 @@ module _ (cs : List ℕ) (n k p : ℕ) (w t : List ℕ) (long : length w ≡ n) 
 -- where a place was raised before: t repeats its first p sectors and is no ring of the counts, but some ring begins so
 pub record Further (cs : List ℕ) (n k : ℕ) (t : List ℕ) (p : ℕ) : Type 0 where
   pub run : Run (sec t) n p
-  pub other : countedNecklace cs t ≡ false
+  pub other : counted_necklace cs t ≡ false
   pub ring : List ℕ
   pub known : CountedRing cs n k ring
   pub agree : (m : ℕ) → m < p → sec ring m ≡ sec t m
@@ -125,8 +125,8 @@ further-right cs n k t p e long f blocked = go (cmp (sec t) (sec v) n)
     go : Cmp (sec t) (sec v) n → p < e
     go (above d) = absurd (run-floor (sec t) (sec v) n p f.run (ring-pre cs n k v f.known) d (far d.at (λ q. omega (arith, d.less))))
     go (alike h) =
-        clash (countedNecklace cs v) f.known.counted
-        (subst (λ x. countedNecklace cs x ≡ false) (ext_get_or 0 t v (long ∙ sym f.known.reading.long) (λ i l. h i (omega (arith, long)))) f.other)
+        clash (counted_necklace cs v) f.known.counted
+        (subst (λ x. counted_necklace cs x ≡ false) (ext_get_or 0 t v (long ∙ sym f.known.reading.long) (λ i l. h i (omega (arith, long)))) f.other)
     go (below d) = elim (tri d.at e) [ lt h ↦ omega (arith, far d.at (λ q. omega (arith, d.less))) | eq h ↦ absurd (hit (omega arith)) | gt h ↦ absurd (hit (omega arith)) ]
       where
         hit : e ≤ d.at → ⊥

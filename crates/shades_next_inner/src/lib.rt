@@ -1,6 +1,9 @@
 // The next ring of given shade counts above a reading. No public call of the catalogue: those of `shades` check what these ask for.
 // Rings are looked for from one prenecklace to a greater one. Each time the last place is found that can be raised so that the pool leaves a
 // completion (`shades_raise_inner`); what follows that place repeats what stands before it.
+
+#![tactic(auto)]
+
 ghost use Rattle.shades_raise_inner.specs.Ready.{Ready, Opening};
 ghost use Rattle.shades_raise_inner.specs.Places.{Headed};
 ghost use Rattle.shades_next_inner.specs.Runs.{Repeatable, Repeats};

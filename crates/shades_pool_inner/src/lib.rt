@@ -1,4 +1,7 @@
 // Words of the pool as chains of nodes: a word is a beginning of al and then the word of another node, or a letter. Comparing such a word with al. No public calls.
+
+#![tactic(auto)]
+
 ghost use Rattle.shades_pool_inner.specs.Chain.{Agree, Chained, Compares};
 
 // How far v and w agree.

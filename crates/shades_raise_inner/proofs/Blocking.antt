@@ -8,11 +8,11 @@
 --     Ahead, reach-start, reach-none, reach-asks, reach-stop, reach-more, reach-end    how far a ring may follow w
 --     find-asks, Tried, find-found, find-more, find-end              one place after the other, from there back
 use Rattle.words.proofs.Plain.{ℕ, suc, ◌+◌, ◌-◌, ◌<◌, ◌≤◌, arith, ◌≡◌, refl, sym, ap, ◌∙◌, subst, true, false, List, ◌∷◌, ◌++◌, append_assoc, length, get_or}
-use Rattle.words.proofs.Plain.{take, drop, set, take-append-drop, List·getD-append, List·getD-eq-default, split_at, length-take-le, get_or-take, get_or_at}
+use Rattle.words.proofs.Plain.{take, drop, set, take-append-drop, List·get_d-append, List·get_d-eq-default, split_at, length-take-le, get_or-take, get_or_at}
 use Rattle.words.proofs.{Plain.ext_get_or, Plain.take-take, Sequence.sec}
 use Rattle.words.proofs.Split.{lt, eq, gt, tri, both, both_left, both_right}
 use Rattle.rings.specs.{Necklace.necklace, Prenecklace.prenecklace}
-use Rattle.rings.specs.Counts.{occurs, hasCounts, countedNecklace}
+use Rattle.rings.specs.Counts.{occurs, has_counts, counted_necklace}
 use Rattle.words.specs.Sum.{sum_of}
 use Rattle.ring_laws.proofs.Run.{pre-shorter, pre-through, lyn-through}
 use Rattle.ring_laws.proofs.{Words.pre-of, Words.of-pre, Lyndon.lyndon-of}
@@ -37,13 +37,13 @@ beginning-pre w n m h room pre =
 module _ (cs : List ℕ) (n k : ℕ) (v : List ℕ) (ring : CountedRing cs n k v) where
   -- a ring of counts is a necklace
   pub ring-necklace : necklace v ≡ true
-  unfolding countedNecklace
-  ring-necklace = both_left (necklace v) (hasCounts cs v) ring.counted
+  unfolding counted_necklace
+  ring-necklace = both_left (necklace v) (has_counts cs v) ring.counted
 
   -- a shade that is counted stands in it as often as its count says
   pub ring-known : (b : ℕ) → b < length cs → occurs b v ≡ get_or cs b 0
-  unfolding countedNecklace
-  ring-known = counts-at cs v (both_right (necklace v) (hasCounts cs v) ring.counted)
+  unfolding counted_necklace
+  ring-known = counts-at cs v (both_right (necklace v) (has_counts cs v) ring.counted)
 
   -- and each other does not stand in it
   pub ring-past : length cs ≡ k → (b : ℕ) → length cs ≤ b → occurs b v ≡ 0
@@ -109,14 +109,14 @@ module _ (cs : List ℕ) (n k : ℕ) (w : List ℕ) (l b : ℕ) (inside : l < n)
 pub begun-fitting : (cs : List ℕ) (k : ℕ) (w : List ℕ) (l b : ℕ) (rem : List ℕ) → l ≤ length w → length cs ≡ k → ((m : ℕ) → m < l → sec w m < k) →
     Remains cs (take l w) rem → Fitting (take l w) b rem →
     Begun cs (sum_of cs) k w l b
-unfolding countedNecklace
+unfolding counted_necklace
 begun-fitting cs k w l b rem room many known r f = record {
   ring = v;
   known = record {
     reading = record { long = counts-long v cs counts; shades = λ i h. below (sec v i) (occurs-at v i (omega (arith, counts-long v cs counts))) };
-    counted = both (necklace v) (hasCounts cs v) f.whole (sym (counts_end cs v (length cs) (omega arith) (λ x h. counts x)));
+    counted = both (necklace v) (has_counts cs v) f.whole (sym (counts_end cs v (length cs) (omega arith) (λ x h. counts x)));
   };
-  agree = λ m h. List·getD-append (take l w) (b ∷ f.rest) 0 m (omega (arith, short)) ∙ get_or-take l w m 0 h;
+  agree = λ m h. List·get_d-append (take l w) (b ∷ f.rest) 0 m (omega (arith, short)) ∙ get_or-take l w m 0 h;
   here = get_or_at (take l w) b f.rest 0 l short;
 }
   where
@@ -133,7 +133,7 @@ begun-fitting cs k w l b rem room many known r f = record {
           occurs-append x (take l w) (b ∷ f.rest),
           f.letters x,
           r.past x h,
-          List·getD-eq-default cs 0 {n = x} h,
+          List·get_d-eq-default cs 0 {n = x} h,
           occurs-past x k (take l w) (λ i q. let i< : i < l = omega (arith, short) in rw (get_or-take l w i 0 i<) (known i i<)) (omega arith),
         )
 
@@ -149,8 +149,8 @@ begun-fitting cs k w l b rem room many known r f = record {
     below x h =
         elim (tri x k) [
           | lt e ↦ e
-          | eq e ↦ absurd (omega (arith, counts x, List·getD-eq-default cs 0 {n = x} (omega arith)))
-          | gt e ↦ absurd (omega (arith, counts x, List·getD-eq-default cs 0 {n = x} (omega arith)))
+          | eq e ↦ absurd (omega (arith, counts x, List·get_d-eq-default cs 0 {n = x} (omega arith)))
+          | gt e ↦ absurd (omega (arith, counts x, List·get_d-eq-default cs 0 {n = x} (omega arith)))
         ]
 
 -- ---- one place after the other, from the last on

@@ -9,7 +9,7 @@
 use Rattle.std.specs.Prelude.{ℕ, suc, ◌-◌, ◌<◌, ◌≤◌, ◌≡◌, true, List, take}
 use Rattle.words.specs.Readings.{Reading}
 use Rattle.words.specs.Sequence.{sec}
-use Rattle.rings.specs.Counts.{countedNecklace}
+use Rattle.rings.specs.Counts.{counted_necklace}
 use Rattle.ring_laws.specs.Run.{Lyn}
 use Rattle.shades_tally_inner.specs.Remaining.{Remains}
 use Rattle.shades_raise_inner.specs.declared.Place.{Place}
@@ -17,7 +17,7 @@ use Rattle.shades_raise_inner.specs.declared.Place.{Place}
 -- v is a ring of n and k with the counts cs
 pub record CountedRing (cs : List ℕ) (n k : ℕ) (v : List ℕ) : Type 0 where
   pub reading : Reading n k v
-  pub counted : countedNecklace cs v ≡ true
+  pub counted : counted_necklace cs v ≡ true
 
 -- no such ring agrees with w below place l and has the shade b there
 abbrev pub Blocked : List ℕ → ℕ → ℕ → List ℕ → ℕ → ℕ → Type 0

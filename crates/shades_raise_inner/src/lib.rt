@@ -1,4 +1,7 @@
 // The last place of a prenecklace that can be raised so that the pool leaves a completion (`shades_completable_inner`). No public calls.
+
+#![tactic(auto)]
+
 ghost use Rattle.shades_raise_inner.specs.Places.{Seeking, Headed, PlaceFound};
 ghost use Rattle.shades_raise_inner.specs.Ready.{Opening};
 

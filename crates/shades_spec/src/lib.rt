@@ -1,5 +1,7 @@
 // What the calls by fixed shade counts answer (01, 'Walks'). The calls are `shades`'s.
 
+#![tactic(auto)]
+
 use refusal::Refusal;
 
 // What `first_ring` answers: the ring is in the output, or the call is refused.

@@ -1,6 +1,9 @@
 // Counting the shades of a reading. No public calls.
+
+#![tactic(auto)]
+
 ghost use Rattle.std.specs.Prelude.{◌≡◌, ◌≤◌, [], length};
-ghost use Rattle.rings.specs.Counts.{occurs, hasCounts, countedNecklace};
+ghost use Rattle.rings.specs.Counts.{occurs, has_counts, counted_necklace};
 ghost use Rattle.ring_laws.specs.Run.{Run};
 ghost use Rattle.words.specs.Sequence.{sec};
 ghost use Rattle.shades_tally_inner.specs.Remaining.{Remains, Fittable, Fitted};
@@ -22,7 +25,7 @@ fn tally(s: &[u8], b: usize) -> usize
 
 // Whether s has exactly these counts.
 fn has_counts(s: &[u8], counts: &[usize]) -> bool
-    ensures { result ≡ hasCounts counts.now s.now }
+    ensures { result ≡ has_counts counts.now s.now }
 {
     let mut b: usize = 0;
     while b < counts.len() {
@@ -37,7 +40,7 @@ fn has_counts(s: &[u8], counts: &[usize]) -> bool
 // Whether s, a prenecklace whose lyn is p, is a necklace with exactly these counts.
 pub fn is_counted(s: &[u8], p: usize, counts: &[usize]) -> bool
     requires { Run (sec s.now) (length s.now) p }
-    ensures { result ≡ countedNecklace counts.now s.now }
+    ensures { result ≡ counted_necklace counts.now s.now }
 {
     if s.len() % p != 0 {
         return false;

@@ -1,11 +1,13 @@
 // A target of a sheet as SVG text, placed into a lent buffer. No public calls.
 
+#![tactic(auto)]
+
 ghost use Rattle.std.specs.Prelude.{◌+◌, ◌≤◌, ◌<◌, ◌≡◌, ◌||◌, ◌%◌, eqb, length};
 ghost use Rattle.rings.specs.Home.{home};
 ghost use Rattle.refusal.specs.Calls.{Below};
 ghost use Rattle.text_form_inner.specs.Fits.{Fits};
 ghost use Rattle.sheet_spec.specs.Layout.{FitsPage};
-ghost use Rattle.sheet_spec.specs.Text.{cellHead, cellFoot, cellText, leafHead, footOf, whereTrue, footText, targetText};
+ghost use Rattle.sheet_spec.specs.Text.{cell_head, cell_foot, cell_text, leaf_head, foot_of, where_true, foot_text, target_text};
 
 use sheet_spec::{Sheet, Source};
 
@@ -13,7 +15,7 @@ use sheet_spec::{Sheet, Source};
 fn place_cell_head(buf: &mut [u8], at: usize, x: usize, y: usize, size: usize, n: usize) -> usize
     requires size_bound { (size ≤ 196) × (n ≤ 64) }
     requires at_in_bounds { at + 512 ≤ length buf.old }
-    ensures { Fits 512 buf.old at (cellHead x y size n) result buf.new }
+    ensures { Fits 512 buf.old at (cell_head x y size n) result buf.new }
 {
     let reach = 5 * size;
     let width = 10 * size;
@@ -45,7 +47,7 @@ fn place_cell_head(buf: &mut [u8], at: usize, x: usize, y: usize, size: usize, n
 fn place_cell_foot(buf: &mut [u8], at: usize, size: usize, i: usize, ring: &[u8]) -> usize
     requires le_size { (10 ≤ size) × (size ≤ 196) × (i < 1000000) }
     requires at_in_bounds { at + 832 ≤ length buf.old }
-    ensures { Fits 832 buf.old at (cellFoot size i ring.now) result buf.new }
+    ensures { Fits 832 buf.old at (cell_foot size i ring.now) result buf.new }
 {
     let a = 5 * size + 10;
     let b = 5 * size - 10;
@@ -71,7 +73,7 @@ fn place_cell(buf: &mut [u8], at: usize, sheet: Sheet, i: usize, ring: &[u8]) ->
     requires below { Below ring.now (λ j. sheet.k) }
     requires fits_page { FitsPage sheet.size sheet.columns }
     requires at_in_bounds { at + 17792 ≤ length buf.old }
-    ensures { Fits 17792 buf.old at (cellText sheet i ring.now) result buf.new }
+    ensures { Fits 17792 buf.old at (cell_text sheet i ring.now) result buf.new }
 {
     let size = sheet.size;
     let columns = sheet.columns;
@@ -92,7 +94,7 @@ fn place_home(buf: &mut [u8], at: usize, sheet: Sheet, i: usize, ring: &[u8]) ->
     requires below { Below ring.now (λ j. sheet.k) }
     requires fits_page { FitsPage sheet.size sheet.columns }
     requires at_in_bounds { at + 17792 ≤ length buf.old }
-    ensures { Fits 17792 buf.old at (cellText sheet i (home ring.now)) result buf.new }
+    ensures { Fits 17792 buf.old at (cell_text sheet i (home ring.now)) result buf.new }
 {
     let n = ring.len();
     let o = home_shift_inner::least_shift(ring);
@@ -104,7 +106,7 @@ fn place_home(buf: &mut [u8], at: usize, sheet: Sheet, i: usize, ring: &[u8]) ->
 // The beginning of a page, where one begins.
 fn place_opening(buf: &mut [u8], at: usize, first: bool) -> usize
     requires { at + 320 ≤ length buf.old }
-    ensures { Fits 320 buf.old at (whereTrue first leafHead) result buf.new }
+    ensures { Fits 320 buf.old at (where_true first leaf_head) result buf.new }
 {
     if !first {
         return at;
@@ -119,7 +121,7 @@ fn place_opening(buf: &mut [u8], at: usize, first: bool) -> usize
 // The line at the foot, and the end of the page.
 fn place_foot(buf: &mut [u8], at: usize, sheet: Sheet, page: usize) -> usize
     requires { at + 320 ≤ length buf.old }
-    ensures { Fits 320 buf.old at (footOf sheet.source sheet.n sheet.k sheet.d sheet.wanted page) result buf.new }
+    ensures { Fits 320 buf.old at (foot_of sheet.source sheet.n sheet.k sheet.d sheet.wanted page) result buf.new }
 {
     let n = sheet.n;
     let k = sheet.k;
@@ -157,7 +159,7 @@ fn place_foot(buf: &mut [u8], at: usize, sheet: Sheet, page: usize) -> usize
 // It, where a page ends.
 fn place_closing(buf: &mut [u8], at: usize, sheet: Sheet, ends: bool, page: usize) -> usize
     requires { (page < 1000000) × (at + 320 ≤ length buf.old) }
-    ensures { Fits 320 buf.old at (whereTrue ends (footText sheet page)) result buf.new }
+    ensures { Fits 320 buf.old at (where_true ends (foot_text sheet page)) result buf.new }
 {
     if !ends {
         return at;
@@ -182,7 +184,7 @@ pub fn place_target(buf: &mut [u8], sheet: Sheet, i: usize, last: bool, ring: &[
     requires below { Below ring.now (λ j. sheet.k) }
     requires fits_page { FitsPage sheet.size sheet.columns }
     requires in_bounds { 18432 ≤ length buf.old }
-    ensures { Fits 18432 buf.old 0 (targetText sheet i last ring.now) result buf.new }
+    ensures { Fits 18432 buf.old 0 (target_text sheet i last ring.now) result buf.new }
 {
     let per = sheet_layout_inner::per_page(sheet.size, sheet.columns);
     let a = place_opening(buf, 0, i % per == 0);

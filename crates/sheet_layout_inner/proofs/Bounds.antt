@@ -4,14 +4,14 @@
 --     cell-down               the rows' numbers stay small
 use Rattle.words.proofs.Plain.{ℕ, ◌+◌, ◌*◌, ◌/◌, ◌%◌, ◌<◌, ◌≤◌, arith, ◌≡◌, ap, sym, ◌∙◌}
 use native.Mathlib.Nat.{mul_assoc, mul-le-mul_right, div-le_self, le-div_iff_mul-le, mod-lt}
-use Rattle.sheet_spec.specs.Layout.{pitch, rowsFor, perPage, FitsPage}
+use Rattle.sheet_spec.specs.Layout.{pitch, rows_for, per_page, FitsPage}
 
 module _ (s c : ℕ) (f : FitsPage s c) where
   few : c ≤ 210
   few = omega (arith, f.fits, div-le_self 210 (s + 14))
 
-  pub per-most : perPage s c ≤ 577500
-  per-most = omega (arith, mul-le-mul_right {m = c} {n = 210} (rowsFor s) few, div-le_self 2750 (pitch s))
+  pub per-most : per_page s c ≤ 577500
+  per-most = omega (arith, mul-le-mul_right {m = c} {n = 210} (rows_for s) few, div-le_self 2750 (pitch s))
 
   pub wide : c * pitch s ≤ 2100
   wide =

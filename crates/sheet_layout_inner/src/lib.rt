@@ -1,12 +1,14 @@
 // Where a target of a sheet stands on its page. No public calls.
 
+#![tactic(auto)]
+
 ghost use Rattle.std.specs.Prelude.{◌≤◌, ◌<◌, ◌≡◌};
-ghost use Rattle.sheet_spec.specs.Layout.{perPage, across, down, FitsPage};
+ghost use Rattle.sheet_spec.specs.Layout.{per_page, across, down, FitsPage};
 
 // How many targets a page has.
 pub fn per_page(size: usize, columns: usize) -> usize
     requires { FitsPage size columns }
-    ensures { (result ≡ perPage size columns) × (0 < result) × (result ≤ 577500) }
+    ensures { (result ≡ per_page size columns) × (0 < result) × (result ≤ 577500) }
 {
     let rows = 2750 / (10 * size + 140);
     columns * rows

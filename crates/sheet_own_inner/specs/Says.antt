@@ -6,19 +6,19 @@ use Rattle.std.specs.Prelude.{ℕ, ◌+◌, ◌<◌, ◌≡◌, List, length}
 use Rattle.refusal.specs.declared.Refusal.{Refusal}
 use Rattle.refusal.specs.Order.{Passed, Given}
 use Rattle.sheet_spec.specs.declared.Sheet.{Sheet}
-use Rattle.sheet_print_spec.specs.Prints.{ownOrder}
+use Rattle.sheet_print_spec.specs.Prints.{own_order}
 use Rattle.sheet_own_inner.specs.declared.LinesTold.{LinesTold}
 use Rattle.sheet_own_inner.specs.declared.LinesTold.TheVariants.{Good, Refused}
 
 abbrev pub LinesPass : Sheet → List (List ℕ) → ℕ → Type 0
-LinesPass o ls m = (i : ℕ) → i < m → Passed (ownOrder o ls i)
+LinesPass o ls m = (i : ℕ) → i < m → Passed (own_order o ls i)
 
 pub record WrongLine (o : Sheet) (ls : List (List ℕ)) (r : Refusal) (j : ℕ) : Type 0 where
   pub place : ℕ
   pub number : j ≡ place + 1
   pub within : place < length ls
   pub before : LinesPass o ls place
-  pub given : Given (ownOrder o ls place) r
+  pub given : Given (own_order o ls place) r
 
 abbrev pub LinesSay : Sheet → List (List ℕ) → LinesTold → Type 0
 LinesSay o ls (Good t) = (t ≡ length ls) × LinesPass o ls t

@@ -1,9 +1,11 @@
 // Rings of one's own for a sheet, a line of digits each: all lines checked before the first target is placed. No public calls.
 
+#![tactic(auto)]
+
 ghost use Rattle.std.specs.Prelude.{◌≤◌, ◌≡◌, length};
 ghost use Rattle.stream_spec.specs.Lines.{lines};
 ghost use Rattle.refusal.specs.Order.{CheckSays};
-ghost use Rattle.sheet_print_spec.specs.Prints.{lineOrder};
+ghost use Rattle.sheet_print_spec.specs.Prints.{line_order};
 ghost use Rattle.sheet_own_inner.specs.Says.{LinesSay};
 
 use refusal::{Checked, Refusal};
@@ -22,7 +24,7 @@ pub enum LinesTold {
 // The checks of target i, which shows the ring of a line; it is spelt into the lent bytes.
 fn check_line(sheet: Sheet, line: &[u8], i: usize, ring: &mut [u8]) -> Checked
     requires { length ring.old ≡ length line.now }
-    ensures { CheckSays (lineOrder sheet line.now i) result }
+    ensures { CheckSays (line_order sheet line.now i) result }
 {
     if !text_spell_inner::spell(line, ring) {
         return Checked::Refused(Refusal::Line);

@@ -11,42 +11,42 @@ use Rattle.text_spell_inner.specs.Says.{SpelledSays}
 use Rattle.picture_spec.specs.declared.Drawn.{Drawn}
 use Rattle.picture_spec.specs.declared.Drawn.TheVariants as D
 use Rattle.sheet_spec.specs.declared.Sheet.{Sheet}
-use Rattle.sheet_spec.specs.Says.{targetRoom, sheetOrder, TargetSays}
-use Rattle.sheet_print_spec.specs.Prints.{ringIn, lineOrder, ownOrder}
-use Rattle.sheet_print_spec.proofs.Rings.{ring_in}
+use Rattle.sheet_spec.specs.Says.{target_room, sheet_order, TargetSays}
+use Rattle.sheet_print_spec.specs.Prints.{ring_in, line_order, own_order}
+use Rattle.sheet_print_spec.proofs.Rings.{ring_in_lem}
 use Rattle.sheet_lines_inner.specs.Says.{LineReached}
 use Rattle.sheet_own_target_inner.specs.Says.{LineStep}
 
-module _ (o : Sheet) (l : List ℕ) (i : ℕ) (pass : Passed (lineOrder o l i)) where
+module _ (o : Sheet) (l : List ℕ) (i : ℕ) (pass : Passed (line_order o l i)) where
   -- a line that has passed has at most 64 digits
   pub line-short : length l ≤ 64
-  line-short = omega (arith, spelt-long l (ringIn l) pass.0, pass.1.0.0.0.0.0.0.0.0.0.0)
+  line-short = omega (arith, spelt-long l (ring_in l) pass.0, pass.1.0.0.0.0.0.0.0.0.0.0)
 
   module _ (w : List ℕ) (r : Bool) (s : SpelledSays l r w) where
     -- what was spelt is its ring
-    same-ring : w ≡ ringIn l
+    same-ring : w ≡ ring_in l
     same-ring = go r s
       where
-        go : (r : Bool) → SpelledSays l r w → w ≡ ringIn l
-        go true x = sym (ring_in l w x)
-        go false x = absurd (x (ringIn l) pass.0)
+        go : (r : Bool) → SpelledSays l r w → w ≡ ring_in l
+        go true x = sym (ring_in_lem l w x)
+        go false x = absurd (x (ring_in l) pass.0)
 
     -- so its target is placed, and never refused
     module _ (last : Bool) (b : List ℕ) (d : Drawn) (b' : List ℕ) (t : TargetSays o w i last b d b') where
-      placed-as : (e : Drawn) → d ≡ e → TargetSays o (ringIn l) i last b e b'
+      placed-as : (e : Drawn) → d ≡ e → TargetSays o (ring_in l) i last b e b'
       placed-as e q = rw (same-ring, q) at t
 
-      pub line-placed : (m : ℕ) → d ≡ D.Whole m → TargetSays o (ringIn l) i last b (D.Whole m) b'
+      pub line-placed : (m : ℕ) → d ≡ D.Whole m → TargetSays o (ring_in l) i last b (D.Whole m) b'
       line-placed m q = placed-as (D.Whole m) q
 
-      pub line-never : targetRoom ≤ length b → (x : Refusal) → d ≡ D.Refused x → ⊥
-      line-never room x q = never_both (sheetOrder o (ringIn l) i (length b)) x (placed-as (D.Refused x) q).0 (pass.1.0, room)
+      pub line-never : target_room ≤ length b → (x : Refusal) → d ≡ D.Refused x → ⊥
+      line-never room x q = never_both (sheet_order o (ring_in l) i (length b)) x (placed-as (D.Refused x) q).0 (pass.1.0, room)
 
 -- ---- the target of a line of a text
 
 module _ (o : Sheet) (s : List ℕ) (i : ℕ) (l : List ℕ) (is : get_or (lines s) i [] ≡ l) where
-  pub line-passed : Passed (ownOrder o (lines s) i) → Passed (lineOrder o l i)
-  line-passed p = subst (λ (x : List ℕ). Passed (lineOrder o x i)) is p
+  pub line-passed : Passed (own_order o (lines s) i) → Passed (line_order o l i)
+  line-passed p = subst (λ (x : List ℕ). Passed (line_order o x i)) is p
 
-  pub line_step : (t : ℕ) (b : List ℕ) (m e : ℕ) (b' : List ℕ) → TargetSays o (ringIn l) i (eqb (i + 1) t) b (D.Whole m) b' → LineReached s e (i + 1) → LineStep o s t i b m e b'
-  line_step t b m e b' p g = record { target = subst (λ (x : List ℕ). TargetSays o (ringIn x) i (eqb (i + 1) t) b (D.Whole m) b') (sym is) p; next = g }
+  pub line_step : (t : ℕ) (b : List ℕ) (m e : ℕ) (b' : List ℕ) → TargetSays o (ring_in l) i (eqb (i + 1) t) b (D.Whole m) b' → LineReached s e (i + 1) → LineStep o s t i b m e b'
+  line_step t b m e b' p g = record { target = subst (λ (x : List ℕ). TargetSays o (ring_in x) i (eqb (i + 1) t) b (D.Whole m) b') (sym is) p; next = g }

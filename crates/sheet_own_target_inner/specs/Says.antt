@@ -5,9 +5,9 @@ use Rattle.stream_spec.specs.Lines.{lines}
 use Rattle.picture_spec.specs.declared.Drawn.TheVariants.{Whole}
 use Rattle.sheet_spec.specs.declared.Sheet.{Sheet}
 use Rattle.sheet_spec.specs.Says.{TargetSays}
-use Rattle.sheet_print_spec.specs.Prints.{ringIn}
+use Rattle.sheet_print_spec.specs.Prints.{ring_in}
 use Rattle.sheet_lines_inner.specs.Says.{LineReached}
 
 pub record LineStep (o : Sheet) (s : List ℕ) (t i : ℕ) (b : List ℕ) (m e : ℕ) (b' : List ℕ) : Type 0 where
-  pub target : TargetSays o (ringIn (get_or (lines s) i [])) i (eqb (i + 1) t) b (Whole m) b'
+  pub target : TargetSays o (ring_in (get_or (lines s) i [])) i (eqb (i + 1) t) b (Whole m) b'
   pub next : LineReached s e (i + 1)

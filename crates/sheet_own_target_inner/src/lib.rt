@@ -1,11 +1,13 @@
 // Targets of rings of one's own for a sheet, each placed from its line, which has passed its checks. No public calls.
 
+#![tactic(auto)]
+
 ghost use Rattle.std.specs.Prelude.{◌<◌, ◌≤◌, ◌≡◌, Bool, length};
 ghost use Rattle.stream_spec.specs.Lines.{lines};
 ghost use Rattle.refusal.specs.Order.{Passed};
 ghost use Rattle.picture_spec.specs.declared.Drawn.TheVariants.{Whole};
-ghost use Rattle.sheet_spec.specs.Says.{targetRoom, TargetSays};
-ghost use Rattle.sheet_print_spec.specs.Prints.{ringIn, lineOrder};
+ghost use Rattle.sheet_spec.specs.Says.{target_room, TargetSays};
+ghost use Rattle.sheet_print_spec.specs.Prints.{ring_in, line_order};
 ghost use Rattle.sheet_lines_inner.specs.Says.{LineReached};
 ghost use Rattle.sheet_own_inner.specs.Says.{LinesPass};
 ghost use Rattle.sheet_own_target_inner.specs.Says.{LineStep};
@@ -29,10 +31,10 @@ fn place_spelt(
     ring: &mut [u8],
     buf: &mut [u8],
 ) -> usize
-    requires passed { Passed (lineOrder sheet line.now i) }
+    requires passed { Passed (line_order sheet line.now i) }
     requires ring_len { length ring.old ≡ length line.now }
-    requires target_room_in_bounds { targetRoom ≤ length buf.old }
-    ensures { TargetSays sheet (ringIn line.now) i last buf.old (Whole result) buf.new }
+    requires target_room_in_bounds { target_room ≤ length buf.old }
+    ensures { TargetSays sheet (ring_in line.now) i last buf.old (Whole result) buf.new }
 {
     text_spell_inner::spell(line, ring);
     match sheets::target(sheet, ring, i, last, buf) {
@@ -43,9 +45,9 @@ fn place_spelt(
 
 // The same, with bytes of its own for the ring.
 fn place_line(sheet: Sheet, line: &[u8], i: usize, last: bool, buf: &mut [u8]) -> usize
-    requires passed { Passed (lineOrder sheet line.now i) }
-    requires target_room_in_bounds { targetRoom ≤ length buf.old }
-    ensures { TargetSays sheet (ringIn line.now) i last buf.old (Whole result) buf.new }
+    requires passed { Passed (line_order sheet line.now i) }
+    requires target_room_in_bounds { target_room ≤ length buf.old }
+    ensures { TargetSays sheet (ring_in line.now) i last buf.old (Whole result) buf.new }
 {
     let mut ring = [0u8; 64];
     let n = line.len();
@@ -56,7 +58,7 @@ fn place_line(sheet: Sheet, line: &[u8], i: usize, last: bool, buf: &mut [u8]) -
 pub fn place_next(sheet: Sheet, s: &[u8], at: usize, i: usize, count: usize, buf: &mut [u8]) -> Step
     requires count_value { (count ≡ length (lines s.now)) × LinesPass sheet (lines s.now) count }
     requires line_reached { LineReached s.now at i × (i < count) }
-    requires target_room_in_bounds { targetRoom ≤ length buf.old }
+    requires target_room_in_bounds { target_room ≤ length buf.old }
     ensures { LineStep sheet s.now count i buf.old result.length result.next buf.new }
 {
     let e = sheet_lines_inner::line_end(s, at);

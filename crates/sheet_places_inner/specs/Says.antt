@@ -4,7 +4,7 @@
 --     PlacedAt o p t i b m b'     the same of the rings in the places p
 use Rattle.std.specs.Prelude.{ℕ, ◌+◌, ◌≤◌, ◌≡◌, List, eqb, length}
 use Rattle.picture_spec.specs.declared.Drawn.TheVariants.{Whole}
-use Rattle.set_spec.specs.Places.{placeAt}
+use Rattle.set_spec.specs.Places.{place_at}
 use Rattle.sheet_spec.specs.declared.Sheet.{Sheet}
 use Rattle.sheet_spec.specs.Says.{TargetSays}
 
@@ -17,4 +17,4 @@ abbrev pub TargetAt : Sheet → (ℕ → List ℕ) → ℕ → ℕ → List ℕ 
 TargetAt o ring t i b m b' = TargetSays o (ring i) i (eqb (i + 1) t) b (Whole m) b'
 
 abbrev pub PlacedAt : Sheet → List ℕ → ℕ → ℕ → List ℕ → ℕ → List ℕ → Type 0
-PlacedAt o p t i b m b' = TargetAt o (placeAt o.n p) t i b m b'
+PlacedAt o p t i b m b' = TargetAt o (place_at o.n p) t i b m b'

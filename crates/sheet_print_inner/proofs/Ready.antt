@@ -14,72 +14,72 @@ use Rattle.stream_spec.specs.Lines.{lines}
 use Rattle.refusal.specs.{declared.Refusal.Refusal, declared.Refusal.TheVariants.Line, declared.Refusal.TheVariants.Set}
 use Rattle.refusal.specs.{declared.Checked.Checked, declared.Checked.TheVariants.Good, declared.Checked.TheVariants.Refused}
 use Rattle.refusal.specs.Order.{Passed, Given, CheckSays}
-use Rattle.set_spec.specs.Places.{placeAt, setIn}
+use Rattle.set_spec.specs.Places.{place_at, set_in}
 use Rattle.set_laws.proofs.Places.{laid-length, length-set-in, set-in-at}
-use Rattle.guard_spec.specs.{declared.Rule.Rule, Choice.chosenBy}
-use Rattle.set_pick_spec.specs.{Order.setOrder, Says.SetChosen, Says.SetAnswers}
+use Rattle.guard_spec.specs.{declared.Rule.Rule, Choice.chosen_by}
+use Rattle.set_pick_spec.specs.{Order.set_order, Says.SetChosen, Says.SetAnswers}
 use Rattle.set_pick_spec.proofs.Worth.{rule-most, rule-set}
-use Rattle.sheet_spec.specs.{declared.Source.Source, declared.Sheet.Sheet, Text.sheetText, Text.sheetFrom}
+use Rattle.sheet_spec.specs.{declared.Source.Source, declared.Sheet.Sheet, Text.sheet_text, Text.sheet_from}
 use Rattle.sheet_spec.specs.declared.Source.TheVariants as S
 use Rattle.sheet_spec.specs.Text as text
-use Rattle.sheet_spec.specs.Says.{targetRoom, sheetOrder}
+use Rattle.sheet_spec.specs.Says.{target_room, sheet_order}
 use Rattle.sheet_laws.specs.Placing.{Placing, all, then}
 use Rattle.sheet_laws.proofs.Placing.{placing-sheet}
 use Rattle.sheet_words_spec.proofs.Unique.{one-sheet}
 use Rattle.sheet_words_inner.specs.Says.{ReadsAs}
-use Rattle.desk_spec.specs.Texts.{refusalText}
+use Rattle.desk_spec.specs.Texts.{refusal_text}
 use Rattle.desk_spec.specs.Questions.{Replies, good, bad}
 use Rattle.desk_spec.proofs.Questions.{place-one}
-use Rattle.program_refusal_spec.specs.Text.{refusedLineText}
-use Rattle.sheet_print_spec.specs.Prints.{none, wrong, whole, targetOrder, TargetsPrint, ruleOf, chosenFor, ChosenPrints, refused, taken}
-use Rattle.sheet_print_spec.specs.Prints.{ringIn, ownSheet, OwnPrints, ReadsSheet, PrintsBy, SheetPrints}
+use Rattle.program_refusal_spec.specs.Text.{refused_line_text}
+use Rattle.sheet_print_spec.specs.Prints.{none, wrong, whole, target_order, TargetsPrint, rule_of, chosen_for, ChosenPrints, refused, taken}
+use Rattle.sheet_print_spec.specs.Prints.{ring_in, own_sheet, OwnPrints, ReadsSheet, PrintsBy, SheetPrints}
 use Rattle.sheet_print_spec.proofs.Rings.{rings-at}
 use Rattle.sheet_own_inner.specs.Says.{LinesPass, WrongLine}
 use Rattle.sheet_lines_inner.proofs.Lines.{rest-is}
 use Rattle.sheet_places_inner.specs.Says.{SetPlaces}
 use Rattle.sheet_places_inner.proofs.Places.{passed-at, given-at}
-use Rattle.sheet_source_inner.specs.Says.{isOwn, BehindLine}
+use Rattle.sheet_source_inner.specs.Says.{is_own, BehindLine}
 use Rattle.sheet_print_inner.specs.declared.Answer.{Answer}
 use Rattle.sheet_print_inner.specs.declared.Answer.TheVariants as A
-use Rattle.sheet_print_inner.specs.Says.{isGood, AllPass, FirstWrong, CheckedTargets, ReadySet, JobAnswers, setAnswer, SetPrepared}
-use Rattle.sheet_print_inner.specs.Says.{ownAnswer, ReadyOwn, OwnPrepared, linesAt, Prepared}
-use Rattle.sheet_print_inner.specs.Steps.{ownRings, SheetSteps, over, step}
+use Rattle.sheet_print_inner.specs.Says.{is_good, AllPass, FirstWrong, CheckedTargets, ReadySet, JobAnswers, set_answer, SetPrepared}
+use Rattle.sheet_print_inner.specs.Says.{own_answer, ReadyOwn, OwnPrepared, lines_at, Prepared}
+use Rattle.sheet_print_inner.specs.Steps.{own_rings, SheetSteps, over, step}
 
 -- ---- the checks of all targets
 
 module _ (o : Sheet) (p : List ℕ) (t : ℕ) where
   -- one target more
-  pub pass-more : (j : ℕ) (v : Checked) → j < t → isGood v ≡ true → CheckSays (sheetOrder o (placeAt o.n p j) j targetRoom) v → AllPass o p t j → AllPass o p t (j + 1)
+  pub pass-more : (j : ℕ) (v : Checked) → j < t → is_good v ≡ true → CheckSays (sheet_order o (place_at o.n p j) j target_room) v → AllPass o p t j → AllPass o p t (j + 1)
   pass-more j Good h e s a i l =
       elim (dec_lt i j) [
         | yes k ↦ a i k
-        | no k ↦ let q : i ≡ j = omega arith in subst (λ (x : ℕ). Passed (targetOrder o (setIn o.n p t) x)) (sym q) (passed-at o p t j h s)
+        | no k ↦ let q : i ≡ j = omega arith in subst (λ (x : ℕ). Passed (target_order o (set_in o.n p t) x)) (sym q) (passed-at o p t j h s)
       ]
   pass-more j (Refused r) h e s a i l = absurd (false≢true e)
 
   -- the first that is refused
-  pub wrong-at : (j : ℕ) (v : Checked) → j < t → isGood v ≡ false → CheckSays (sheetOrder o (placeAt o.n p j) j targetRoom) v → AllPass o p t j → CheckedTargets o p t v
+  pub wrong-at : (j : ℕ) (v : Checked) → j < t → is_good v ≡ false → CheckSays (sheet_order o (place_at o.n p j) j target_room) v → AllPass o p t j → CheckedTargets o p t v
   wrong-at j Good h e s a = absurd (false≢true (sym e))
   wrong-at j (Refused r) h e s a = record { place = j; within = h; before = a; given = given-at o p t j h r s }
 
 -- ---- a set that was picked
 
 module _ (o : Sheet) (p : List ℕ) (t : ℕ) (f : Bool) where
-  pub picked-places : SetChosen o.n o.k o.d o.wanted (chosenFor o) p t f → SetPlaces p o.n t
+  pub picked-places : SetChosen o.n o.k o.d o.wanted (chosen_for o) p t f → SetPlaces p o.n t
   picked-places c =
       record {
-        size = ap length c.places ∙ laid-length (chosenFor o);
+        size = ap length c.places ∙ laid-length (chosen_for o);
         short = c.asked.short;
-        most = omega (arith, rule-most (ruleOf o.source) o.n o.k o.d o.wanted p t f c, c.asked.settable.most-wanted);
+        most = omega (arith, rule-most (rule_of o.source) o.n o.k o.d o.wanted p t f c, c.asked.settable.most-wanted);
       }
 
-  the-set : SetChosen o.n o.k o.d o.wanted (chosenFor o) p t f → setIn o.n p t ≡ chosenFor o
-  the-set c = rule-set (ruleOf o.source) o.n o.k o.d o.wanted p t f c
+  the-set : SetChosen o.n o.k o.d o.wanted (chosen_for o) p t f → set_in o.n p t ≡ chosen_for o
+  the-set c = rule-set (rule_of o.source) o.n o.k o.d o.wanted p t f c
 
-  pub judge-refused : (r : Refusal) → Given (setOrder o.n o.k o.d o.wanted) r → JobAnswers o p t (Refused r)
+  pub judge-refused : (r : Refusal) → Given (set_order o.n o.k o.d o.wanted) r → JobAnswers o p t (Refused r)
   judge-refused r g = refused r g refl
 
-  module _ (c : SetChosen o.n o.k o.d o.wanted (chosenFor o) p t f) where
+  module _ (c : SetChosen o.n o.k o.d o.wanted (chosen_for o) p t f) where
     pub judge-none : t ≡ 0 → JobAnswers o p t (Refused Set)
     judge-none e = taken c.asked (none (sym c.number ∙ e) refl)
 
@@ -87,68 +87,68 @@ module _ (o : Sheet) (p : List ℕ) (t : ℕ) (f : Bool) where
     judge-checked Good z s = record { places = picked-places c; asked = c.asked; set = the-set c; some = omega arith; passed = s }
     judge-checked (Refused r) z s =
         let e = the-set c in
-        let l : s.place < length (chosenFor o) = omega (arith, s.within, c.number) in
+        let l : s.place < length (chosen_for o) = omega (arith, s.within, c.number) in
         taken c.asked (wrong s.place l (rw e at s.before) r (rw e at s.given) refl)
 
 -- what is ready prints the sheet
-ready-prints : (o : Sheet) (p : List ℕ) (t : ℕ) → ReadySet o p t → ChosenPrints o (sheetText o (setIn o.n p t))
+ready-prints : (o : Sheet) (p : List ℕ) (t : ℕ) → ReadySet o p t → ChosenPrints o (sheet_text o (set_in o.n p t))
 ready-prints o p t r =
     let e = r.set in
     let l = length-set-in o.n p t in
-    let q : (i : ℕ) → i < length (setIn o.n p t) → Passed (targetOrder o (setIn o.n p t) i) = λ i h. r.passed i (omega (arith, l, h)) in
-    let x : TargetsPrint o (setIn o.n p t) (sheetText o (setIn o.n p t)) = whole (omega (arith, l, r.some)) q refl in
-    let y : TargetsPrint o (chosenFor o) (sheetText o (chosenFor o)) = subst (λ (ws : List (List ℕ)). TargetsPrint o ws (sheetText o ws)) e x in
-    subst (λ (ws : List (List ℕ)). ChosenPrints o (sheetText o ws)) (sym e) (taken r.asked y)
+    let q : (i : ℕ) → i < length (set_in o.n p t) → Passed (target_order o (set_in o.n p t) i) = λ i h. r.passed i (omega (arith, l, h)) in
+    let x : TargetsPrint o (set_in o.n p t) (sheet_text o (set_in o.n p t)) = whole (omega (arith, l, r.some)) q refl in
+    let y : TargetsPrint o (chosen_for o) (sheet_text o (chosen_for o)) = subst (λ (ws : List (List ℕ)). TargetsPrint o ws (sheet_text o ws)) e x in
+    subst (λ (ws : List (List ℕ)). ChosenPrints o (sheet_text o ws)) (sym e) (taken r.asked y)
 
 -- what is printed of a set
-pub set-prepared : (o : Sheet) (p : List ℕ) (t : ℕ) (v : Checked) → JobAnswers o p t v → SetPrepared o p t (setAnswer v)
+pub set-prepared : (o : Sheet) (p : List ℕ) (t : ℕ) (v : Checked) → JobAnswers o p t v → SetPrepared o p t (set_answer v)
 set-prepared o p t Good x = x
 set-prepared o p t (Refused r) x = x
 
 -- ---- rings of one's own
 
-module _ (o : Sheet) (ls : List (List ℕ)) (q : Sheet) (is : q ≡ ownSheet o ls) where
+module _ (o : Sheet) (ls : List (List ℕ)) (q : Sheet) (is : q ≡ own_sheet o ls) where
   -- of lines that all pass
-  pub own-good : (t : ℕ) → (t ≡ length ls) × LinesPass q ls t → OwnPrepared o ls q t (ownAnswer t)
+  pub own-good : (t : ℕ) → (t ≡ length ls) × LinesPass q ls t → OwnPrepared o ls q t (own_answer t)
   own-good zero x = none (sym x.0) refl
   own-good (suc t) x = (is, record { number = x.0; some = omega arith; passed = x.1 })
 
   -- of a line that is refused
   pub own-wrong : (t : ℕ) (r : Refusal) (j : ℕ) → WrongLine q ls r j → OwnPrepared o ls q t (A.Wrong r j)
-  own-wrong t r j w = wrong w.place w.within (rw is at w.before) r (rw is at w.given) (ap (refusedLineText r) w.number)
+  own-wrong t r j w = wrong w.place w.within (rw is at w.before) r (rw is at w.given) (ap (refused_line_text r) w.number)
 
   -- what is ready prints the sheet
-  own-prints : (t : ℕ) → ReadyOwn q ls t → OwnPrints o ls (sheetText q (map ringIn ls))
+  own-prints : (t : ℕ) → ReadyOwn q ls t → OwnPrints o ls (sheet_text q (map ring_in ls))
   own-prints t r =
       let q : LinesPass q ls (length ls) = λ i h. r.passed i (omega (arith, r.number, h)) in
-      whole (omega (arith, r.number, r.some)) (rw is at q) (ap (λ (x : Sheet). sheetText x (map ringIn ls)) is)
+      whole (omega (arith, r.number, r.some)) (rw is at q) (ap (λ (x : Sheet). sheet_text x (map ring_in ls)) is)
 
 -- the same of what is called by other names
 pub own-as : (o : Sheet) (ls : List (List ℕ)) (q r : Sheet) (t m : ℕ) (a b : Answer) → r ≡ q → m ≡ t → b ≡ a → OwnPrepared o ls q t a → OwnPrepared o ls r m b
 own-as o ls q r t m a b e f g x = rw (e, f, g) x
 
 -- there are no lines, or there are some
-pub own-none : (t : ℕ) → t ≡ 0 → A.Refused Set ≡ ownAnswer t
+pub own-none : (t : ℕ) → t ≡ 0 → A.Refused Set ≡ own_answer t
 own-none t e = rw e refl
 
-pub own-some : (t : ℕ) → (t ≡ 0 → ⊥) → A.Own ≡ ownAnswer t
+pub own-some : (t : ℕ) → (t ≡ 0 → ⊥) → A.Own ≡ own_answer t
 own-some zero n = absurd (n refl)
 own-some (suc t) n = refl
 
 -- ---- an input
 
 -- what it prints, by where its rings come from
-by-set : (a : Source) (o : Sheet) (ls : List (List ℕ)) (t : List ℕ) → isOwn a ≡ false → ChosenPrints o t → PrintsBy a o ls t
+by-set : (a : Source) (o : Sheet) (ls : List (List ℕ)) (t : List ℕ) → is_own a ≡ false → ChosenPrints o t → PrintsBy a o ls t
 by-set S.Guarded o ls t e x = x
 by-set S.Plain o ls t e x = x
 by-set S.Own o ls t e x = absurd (false≢true (sym e))
 
-by-own : (a : Source) (o : Sheet) (ls : List (List ℕ)) (t : List ℕ) → isOwn a ≡ true → OwnPrints o ls t → PrintsBy a o ls t
+by-own : (a : Source) (o : Sheet) (ls : List (List ℕ)) (t : List ℕ) → is_own a ≡ true → OwnPrints o ls t → PrintsBy a o ls t
 by-own S.Guarded o ls t e x = absurd (false≢true e)
 by-own S.Plain o ls t e x = absurd (false≢true e)
 by-own S.Own o ls t e x = x
 
-own-source : (a : Source) → isOwn a ≡ true → a ≡ S.Own
+own-source : (a : Source) → is_own a ≡ true → a ≡ S.Own
 own-source S.Guarded e = absurd (false≢true e)
 own-source S.Plain e = absurd (false≢true e)
 own-source S.Own e = refl
@@ -157,19 +157,19 @@ module _ (s : List ℕ) (e : ℕ) (at : PieceAt 10 s e) where
   line_of : (q : Sheet × List (List ℕ)) → ReadsSheet s q → ReadsAs (take e s) q.0 true
   line_of q x = rw (place-one 10 s x.at e x.ends at) at x.line
 
-  pub not-read : (o : Sheet) → ReadsAs (take e s) o false → SheetPrints s (refusalText Line)
+  pub not-read : (o : Sheet) → ReadsAs (take e s) o false → SheetPrints s (refusal_text Line)
   not-read o n = bad (λ q x. n q.0 (line_of q x)) refl
 
   module _ (o : Sheet) (l : ReadsAs (take e s) o true) where
     source_of : (q : Sheet × List (List ℕ)) → ReadsSheet s q → q.0.source ≡ o.source
     source_of q x = ap (λ (y : Sheet). y.source) (one-sheet (pieces 32 (take e s)) q.0 o (line_of q x) l)
 
-    module _ (set : isOwn o.source ≡ false) where
+    module _ (set : is_own o.source ≡ false) where
       not_own : (a : Source) → a ≡ o.source → a ≡ S.Own → ⊥
-      not_own a f g = false≢true (sym set ∙ ap isOwn (sym f ∙ g))
+      not_own a f g = false≢true (sym set ∙ ap is_own (sym f ∙ g))
 
       -- something stands behind the line
-      pub too_long : 1 < length s - e → SheetPrints s (refusalText Line)
+      pub too_long : 1 < length s - e → SheetPrints s (refusal_text Line)
       too_long h = bad (λ q x. omega (arith, place-one 10 s x.at e x.ends at, x.alone (not_own q.0.source (source_of q x)), h)) refl
 
       pub prepared-set : length s - e ≤ 1 → (r : Sheet) (p : List ℕ) (f t : ℕ) (a : Answer) → r ≡ o → SetPrepared o p t a → Prepared s r p f t a
@@ -187,7 +187,7 @@ module _ (s : List ℕ) (e : ℕ) (at : PieceAt 10 s e) where
           go (A.Refused r) y = prints _ y
           go (A.Wrong r j) y = absurd y
 
-    module _ (own : isOwn o.source ≡ true) (f : ℕ) (b : BehindLine s e f) where
+    module _ (own : is_own o.source ≡ true) (f : ℕ) (b : BehindLine s e f) where
       prepared-own : (q : Sheet) (p : List ℕ) (t : ℕ) (a : Answer) → OwnPrepared o (lines (drop f s)) q t a → Prepared s q p f t a
       prepared-own q p t a j = go a j
         where
@@ -208,7 +208,7 @@ module _ (s : List ℕ) (e : ℕ) (at : PieceAt 10 s e) where
       prepared-lines q p g t a is j = rw is (prepared-own q p t a (rw (rest-is s f) at j))
 
 -- the answer where nothing is asked for
-pub prepared-none : (s : List ℕ) (o : Sheet) (p : List ℕ) (f t : ℕ) (a : Answer) → a ≡ A.Refused Line → SheetPrints s (refusalText Line) → Prepared s o p f t a
+pub prepared-none : (s : List ℕ) (o : Sheet) (p : List ℕ) (f t : ℕ) (a : Answer) → a ≡ A.Refused Line → SheetPrints s (refusal_text Line) → Prepared s o p f t a
 prepared-none s o p f t a e x = rw e x
 
 -- ---- step after step
@@ -244,19 +244,19 @@ module _ (o : Sheet) (ring : ℕ → List ℕ) (ws : List (List ℕ)) (gives : (
       let d : drop i ws ≡ ring i ∷ drop (suc i) ws = drop_at ws i h ∙ ap (λ (w : List ℕ). w ∷ drop (suc i) ws) (gives i h) in
       rw d (then (rw (sym (none-drop ws i h)) at s) (steps-placing q))
 
-  pub steps-sheet : {x : List ℕ} → SheetSteps o ring (length ws) 0 x → x ≡ sheetText o ws
+  pub steps-sheet : {x : List ℕ} → SheetSteps o ring (length ws) 0 x → x ≡ sheet_text o ws
   steps-sheet s = placing-sheet o (steps-placing s)
 
 -- the steps of a sheet that is ready are what the input prints: of a set, and of rings of one's own
 module _ (s : List ℕ) (o : Sheet) (p : List ℕ) (f t : ℕ) {x : List ℕ} where
-  pub steps-printed : Prepared s o p f t A.Set → SheetSteps o (placeAt o.n p) t 0 x → SheetPrints s x
+  pub steps-printed : Prepared s o p f t A.Set → SheetSteps o (place_at o.n p) t 0 x → SheetPrints s x
   steps-printed r q =
-      let ws = setIn o.n p t in
+      let ws = set_in o.n p t in
       let l = length-set-in o.n p t in
-      rw (steps-sheet o (placeAt o.n p) ws (λ i h. set-in-at o.n p t i (omega (arith, l, h))) (rw (sym l) at q)) r.1
+      rw (steps-sheet o (place_at o.n p) ws (λ i h. set-in-at o.n p t i (omega (arith, l, h))) (rw (sym l) at q)) r.1
 
-  pub own-printed : Prepared s o p f t A.Own → SheetSteps o (ownRings (linesAt s f)) t 0 x → SheetPrints s x
+  pub own-printed : Prepared s o p f t A.Own → SheetSteps o (own_rings (lines_at s f)) t 0 x → SheetPrints s x
   own-printed r q =
-      let ls = linesAt s f in
-      let l : t ≡ length (map ringIn ls) = r.1.number ∙ sym (length-map ls ringIn) in
-      rw (steps-sheet o (ownRings ls) (map ringIn ls) (λ i h. rings-at ls i (omega (arith, length-map ls ringIn, h))) (rw l at q)) r.2
+      let ls = lines_at s f in
+      let l : t ≡ length (map ring_in ls) = r.1.number ∙ sym (length-map ls ring_in) in
+      rw (steps-sheet o (own_rings ls) (map ring_in ls) (λ i h. rings-at ls i (omega (arith, length-map ls ring_in, h))) (rw l at q)) r.2

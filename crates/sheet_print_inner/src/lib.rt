@@ -1,10 +1,12 @@
 // What the command for a sheet prints: the line of words read, its set chosen or its lines read, and every target checked before the first is placed. No public calls.
 
+#![tactic(auto)]
+
 ghost use Rattle.std.specs.Prelude.{◌≤◌, ◌≡◌, Bool, length};
 ghost use Rattle.stream_spec.specs.Lines.{lines};
 ghost use Rattle.set_pick_spec.specs.Says.{SetAnswers};
-ghost use Rattle.sheet_print_spec.specs.Prints.{chosenFor};
-ghost use Rattle.sheet_print_inner.specs.Says.{isGood, setAnswer, ownAnswer, CheckedTargets, JobAnswers, SetPrepared, OwnPrepared, Prepared};
+ghost use Rattle.sheet_print_spec.specs.Prints.{chosen_for};
+ghost use Rattle.sheet_print_inner.specs.Says.{is_good, set_answer, own_answer, CheckedTargets, JobAnswers, SetPrepared, OwnPrepared, Prepared};
 ghost use Rattle.sheet_places_inner.specs.Says.{SetPlaces};
 
 use refusal::{Checked, Refusal};
@@ -34,7 +36,7 @@ pub struct Job {
 }
 
 fn is_good(v: Checked) -> bool
-    ensures { result ≡ isGood v }
+    ensures { result ≡ is_good v }
 {
     match v {
         Checked::Good => true,
@@ -63,7 +65,7 @@ fn check_targets(sheet: Sheet, places: &[u8], count: usize) -> Checked
 
 // Whether a set that was picked may be printed.
 fn judge(sheet: Sheet, places: &[u8], taken: usize, full: bool, answer: Checked) -> Checked
-    requires { SetAnswers sheet.n sheet.k sheet.d sheet.wanted (chosenFor sheet) places.now taken full answer }
+    requires { SetAnswers sheet.n sheet.k sheet.d sheet.wanted (chosen_for sheet) places.now taken full answer }
     ensures { JobAnswers sheet places.now taken result }
 {
     match answer {
@@ -79,7 +81,7 @@ fn judge(sheet: Sheet, places: &[u8], taken: usize, full: bool, answer: Checked)
 
 // What is printed for a set.
 fn set_answer(v: Checked) -> Answer
-    ensures { result ≡ setAnswer v }
+    ensures { result ≡ set_answer v }
 {
     match v {
         Checked::Good => Answer::Set,
@@ -126,7 +128,7 @@ fn bare_job(sheet: Sheet, from: usize, count: usize, answer: Answer) -> Job
 
 // What is printed for so many lines that pass.
 fn own_answer(count: usize) -> Answer
-    ensures { result ≡ ownAnswer count }
+    ensures { result ≡ own_answer count }
 {
     if count == 0 {
         return Answer::Refused(Refusal::Set);

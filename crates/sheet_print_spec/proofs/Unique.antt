@@ -8,14 +8,14 @@ use Rattle.words.proofs.Split.{lt, eq, gt, tri}
 use Rattle.refusal.specs.declared.Refusal.{Refusal}
 use Rattle.refusal.specs.Order.{Checks, Passed, Given}
 use Rattle.refusal.proofs.Unique.{one-refusal, never_both}
-use Rattle.set_pick_spec.specs.Order.{setOrder}
+use Rattle.set_pick_spec.specs.Order.{set_order}
 use Rattle.set_pick_spec.proofs.Unique.{askable-passed}
-use Rattle.sheet_spec.specs.{declared.Source.Source, declared.Sheet.Sheet, Text.sheetText}
+use Rattle.sheet_spec.specs.{declared.Source.Source, declared.Sheet.Sheet, Text.sheet_text}
 use Rattle.sheet_spec.specs.declared.Source.TheVariants as S
 use Rattle.sheet_words_spec.proofs.Unique.{one-sheet}
-use Rattle.desk_spec.specs.Texts.{refusalText}
+use Rattle.desk_spec.specs.Texts.{refusal_text}
 use Rattle.desk_spec.proofs.{Questions.place-one, Unique.one-asked}
-use Rattle.sheet_print_spec.specs.Prints.{SheetSays, none, wrong, whole, chosenFor, ChosenPrints, refused, taken, ReadsSheet, PrintsBy, SheetPrints}
+use Rattle.sheet_print_spec.specs.Prints.{SheetSays, none, wrong, whole, chosen_for, ChosenPrints, refused, taken, ReadsSheet, PrintsBy, SheetPrints}
 
 module _ (m : ℕ) (order : ℕ → Checks) (told : ℕ → Refusal → List ℕ) (x : List ℕ) where
   -- there is one first refusal
@@ -40,9 +40,9 @@ module _ (m : ℕ) (order : ℕ → Checks) (told : ℕ → Refusal → List ℕ
   one-said t u (whole z p e) (whole y s f) = e ∙ sym f
 
 pub one-chosen : (o : Sheet) (t u : List ℕ) → ChosenPrints o t → ChosenPrints o u → t ≡ u
-one-chosen o t u (refused r g e) (refused q h f) = e ∙ ap refusalText (one-refusal (setOrder o.n o.k o.d o.wanted) r q g h) ∙ sym f
-one-chosen o t u (refused r g e) (taken a x) = absurd (never_both (setOrder o.n o.k o.d o.wanted) r g (askable-passed o.n o.k o.d o.wanted a))
-one-chosen o t u (taken a x) (refused q h f) = absurd (never_both (setOrder o.n o.k o.d o.wanted) q h (askable-passed o.n o.k o.d o.wanted a))
+one-chosen o t u (refused r g e) (refused q h f) = e ∙ ap refusal_text (one-refusal (set_order o.n o.k o.d o.wanted) r q g h) ∙ sym f
+one-chosen o t u (refused r g e) (taken a x) = absurd (never_both (set_order o.n o.k o.d o.wanted) r g (askable-passed o.n o.k o.d o.wanted a))
+one-chosen o t u (taken a x) (refused q h f) = absurd (never_both (set_order o.n o.k o.d o.wanted) q h (askable-passed o.n o.k o.d o.wanted a))
 one-chosen o t u (taken a x) (taken b y) = one-said _ _ _ _ t u x y
 
 -- by where the rings come from

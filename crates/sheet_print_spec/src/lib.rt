@@ -1,1 +1,4 @@
 // What the command for a sheet reads and prints. No functions.
+
+#![tactic(auto)]
+

@@ -5,19 +5,19 @@ use Rattle.words.proofs.Plain.{ℕ, ◌-◌, ◌≤◌, arith, ◌≡◌, List, 
 use Rattle.stream_spec.specs.Lines.{lines}
 use Rattle.text_spec.proofs.Put.{placed-length}
 use Rattle.text_spec.specs.Put.{Placed}
-use Rattle.program_refusal_inner.specs.Room.{refusedLineRoom}
-use Rattle.sheet_spec.specs.{declared.Sheet.Sheet, Says.targetRoom}
+use Rattle.program_refusal_inner.specs.Room.{refused_line_room}
+use Rattle.sheet_spec.specs.{declared.Sheet.Sheet, Says.target_room}
 use Rattle.desk_texts_inner.specs.Says.{LinePrinted}
 use Rattle.sheet_print_inner.specs.declared.Answer.{Answer}
 use Rattle.sheet_print_inner.specs.declared.Answer.TheVariants as A
-use Rattle.sheet_print_inner.specs.Says.{ReadyOwn, linesAt, Prepared}
+use Rattle.sheet_print_inner.specs.Says.{ReadyOwn, lines_at, Prepared}
 use Rattle.sheet_lines_inner.proofs.Lines.{rest-is}
 use Rattle.sheet_program_inner.specs.Says.{AnswerReady}
 
-pub line-inside : (b t : List ℕ) (m : ℕ) (b' : List ℕ) → targetRoom ≤ length b → LinePrinted b 0 t m b' → (m ≤ length b) × (length b' ≡ length b)
+pub line-inside : (b t : List ℕ) (m : ℕ) (b' : List ℕ) → target_room ≤ length b → LinePrinted b 0 t m b' → (m ≤ length b) × (length b' ≡ length b)
 line-inside b t m b' h s = (omega (arith, s.short, s.placed.next), placed-length b 0 t m b' s.placed)
 
-pub wrong-inside : (b t : List ℕ) (m : ℕ) (b' : List ℕ) → targetRoom ≤ length b → Placed b 0 t m b' → m ≤ refusedLineRoom → (m ≤ length b) × (length b' ≡ length b)
+pub wrong-inside : (b t : List ℕ) (m : ℕ) (b' : List ℕ) → target_room ≤ length b → Placed b 0 t m b' → m ≤ refused_line_room → (m ≤ length b) × (length b' ≡ length b)
 wrong-inside b t m b' h p l = (omega arith, placed-length b 0 t m b' p)
 
 pub ready_of : (s : List ℕ) (o : Sheet) (p : List ℕ) (f t : ℕ) (a : Answer) → Prepared s o p f t a → AnswerReady s o p f t a
@@ -27,5 +27,5 @@ ready_of s o p f t (A.Refused r) x = tt
 ready_of s o p f t (A.Wrong r j) x = tt
 
 -- what a slice to the end holds
-pub lines-ready : (s : List ℕ) (o : Sheet) (f t : ℕ) → ReadyOwn o (linesAt s f) t → ReadyOwn o (lines (take (length s - f) (drop f s))) t
+pub lines-ready : (s : List ℕ) (o : Sheet) (f t : ℕ) → ReadyOwn o (lines_at s f) t → ReadyOwn o (lines (take (length s - f) (drop f s))) t
 lines-ready s o f t x = rw (rest-is s f) x

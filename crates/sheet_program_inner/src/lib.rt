@@ -1,8 +1,10 @@
 // The program of the command for a sheet: it reads its whole input, and writes the sheet that it asks for, target after target. No public calls: no contract can say what
 // is read or written.
 
+#![tactic(auto)]
+
 ghost use Rattle.std.specs.Prelude.{◌≤◌, length};
-ghost use Rattle.sheet_spec.specs.Says.{targetRoom};
+ghost use Rattle.sheet_spec.specs.Says.{target_room};
 ghost use Rattle.program_reading_inner.specs.Says.{MostSays};
 ghost use Rattle.sheet_program_inner.specs.Says.{AnswerReady};
 
@@ -13,7 +15,7 @@ use sheet_print_inner::{Answer, Job};
 
 // Writes a refusal's line.
 fn print_refusal(r: Refusal, buf: &mut [u8]) -> bool
-    requires { targetRoom ≤ length buf.old }
+    requires { target_room ≤ length buf.old }
 {
     let m = desk_texts_inner::place_refusal(buf, 0, r);
     io::write_all(STDOUT_FILENO, &buf[..m])
@@ -21,7 +23,7 @@ fn print_refusal(r: Refusal, buf: &mut [u8]) -> bool
 
 // Writes the line of a refused line of the input.
 fn print_wrong(r: Refusal, j: usize, buf: &mut [u8]) -> bool
-    requires { targetRoom ≤ length buf.old }
+    requires { target_room ≤ length buf.old }
 {
     let m = program_refusal_inner::place_refused_line(r, j, buf);
     io::write_all(STDOUT_FILENO, &buf[..m])
@@ -30,7 +32,7 @@ fn print_wrong(r: Refusal, j: usize, buf: &mut [u8]) -> bool
 // Writes what was made ready of an input: the sheet, or a refusal's line.
 fn print_job(job: Job, input: &[u8], buf: &mut [u8]) -> bool
     requires answer_ready { AnswerReady input.now job.sheet job.places job.from job.count job.answer }
-    requires target_room_in_bounds { targetRoom ≤ length buf.old }
+    requires target_room_in_bounds { target_room ≤ length buf.old }
 {
     let answer = job.answer;
     match answer {
@@ -52,7 +54,7 @@ fn print_job(job: Job, input: &[u8], buf: &mut [u8]) -> bool
 // Writes what an input prints.
 fn print_sheet(input: &[u8], buf: &mut [u8]) -> bool
     requires input_in_bounds { length input.now ≤ length buf.old }
-    requires target_room_in_bounds { targetRoom ≤ length buf.old }
+    requires target_room_in_bounds { target_room ≤ length buf.old }
 {
     let job = sheet_print_inner::prepare(input, buf);
     print_job(job, input, buf)
@@ -62,7 +64,7 @@ fn print_sheet(input: &[u8], buf: &mut [u8]) -> bool
 fn print_input(most: Most, input: &[u8], buf: &mut [u8]) -> bool
     requires most_says { MostSays most input.now }
     requires input_in_bounds { length input.now ≤ length buf.old }
-    requires target_room_in_bounds { targetRoom ≤ length buf.old }
+    requires target_room_in_bounds { target_room ≤ length buf.old }
 {
     match most {
         Most::Full => true,

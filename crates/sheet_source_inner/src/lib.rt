@@ -1,15 +1,17 @@
 // Where the rings of a sheet come from: of a set the rule by which it is chosen, and of rings of one's own where their lines begin. No public calls.
 
+#![tactic(auto)]
+
 ghost use Rattle.std.specs.Prelude.{◌≤◌, ◌≡◌, length};
-ghost use Rattle.sheet_print_spec.specs.Prints.{ruleOf};
-ghost use Rattle.sheet_source_inner.specs.Says.{isOwn, BehindLine};
+ghost use Rattle.sheet_print_spec.specs.Prints.{rule_of};
+ghost use Rattle.sheet_source_inner.specs.Says.{is_own, BehindLine};
 
 use guard_spec::Rule;
 use sheet_spec::Source;
 
 // Whether they are one's own.
 pub fn is_own(s: Source) -> bool
-    ensures { result ≡ isOwn s }
+    ensures { result ≡ is_own s }
 {
     match s {
         Source::Guarded => false,
@@ -20,7 +22,7 @@ pub fn is_own(s: Source) -> bool
 
 // The rule of a set.
 pub fn rule_of(s: Source) -> Rule
-    ensures { result ≡ ruleOf s }
+    ensures { result ≡ rule_of s }
 {
     match s {
         Source::Guarded => Rule::Guarded,

@@ -1,5 +1,7 @@
 // What a sheet of targets is asked. The call is `sheets`'s, and answers as drawing does. No functions.
 
+#![tactic(auto)]
+
 use picture_spec::Tone;
 
 // Where the rings of a sheet come from: the guarded choice, the plain one, or rings of one's own.

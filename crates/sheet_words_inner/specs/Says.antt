@@ -1,5 +1,5 @@
 -- What the functions promise.
---     wordsFrom t at      the words of t from place `at` on; none from behind its end on
+--     words_from t at      the words of t from place `at` on; none from behind its end on
 --     WordAt t at r       the word that begins at `at` ends at r
 --     EndsAs a o q good   whether the words may end there, and the sheet q that they ask for then
 --     ReadsAs t r         r tells what the line t asks for: the sheet, or that it asks for none
@@ -10,13 +10,13 @@ use Rattle.sheet_spec.specs.declared.Sheet.{Sheet}
 use Rattle.sheet_words_spec.specs.declared.Awaits.{Awaits}
 use Rattle.sheet_words_spec.specs.Words.{EndsWith, SheetAsked}
 
-unfoldable pub wordsFrom : List ℕ → ℕ → List (List ℕ)
-wordsFrom t at = elim (ltb (length t) at) [ true ↦ [] | false ↦ pieces space (drop at t) ]
+unfoldable pub words_from : List ℕ → ℕ → List (List ℕ)
+words_from t at = elim (ltb (length t) at) [ true ↦ [] | false ↦ pieces space (drop at t) ]
 
 pub record WordAt (t : List ℕ) (at r : ℕ) : Type 0 where
   pub from : at ≤ r
   pub within : r ≤ length t
-  pub first : wordsFrom t at ≡ take (r - at) (drop at t) ∷ wordsFrom t (r + 1)
+  pub first : words_from t at ≡ take (r - at) (drop at t) ∷ words_from t (r + 1)
 
 abbrev pub EndsAs : Awaits → Sheet → Sheet → Bool → Type 0
 EndsAs a o q true = EndsWith a o q

@@ -1,9 +1,11 @@
 // The words of the command for a sheet, read. No public calls.
 
+#![tactic(auto)]
+
 ghost use Rattle.std.specs.Prelude.{◌≤◌, ◌≡◌, length};
-ghost use Rattle.sheet_words_spec.specs.Words.{number_in, numberOrOther, word_of, nothingAsked, oneNumber, plainFor, wishFor, meantNumber, meantName, meant, asked, fitted};
-ghost use Rattle.sheet_words_spec.specs.Words.{withSource, withTone, withColumns};
-ghost use Rattle.sheet_words_inner.specs.Says.{wordsFrom, WordAt, EndsAs, ReadsAs};
+ghost use Rattle.sheet_words_spec.specs.Words.{number_in, number_or_other, word_of, nothing_asked, one_number, plain_for, wish_for, meant_number, meant_name, meant, asked, fitted};
+ghost use Rattle.sheet_words_spec.specs.Words.{with_source, with_tone, with_columns};
+ghost use Rattle.sheet_words_inner.specs.Says.{words_from, WordAt, EndsAs, ReadsAs};
 
 use line_spec::Numeral;
 use picture_spec::Tone;
@@ -19,7 +21,7 @@ pub struct Read {
 
 // What a word is that is no name.
 fn number_or_other(t: &[u8]) -> Word
-    ensures { result ≡ numberOrOther (number_in t.now) }
+    ensures { result ≡ number_or_other (number_in t.now) }
 {
     match line::parse_number(t) {
         Numeral::Malformed => Word::Other,
@@ -48,7 +50,7 @@ fn word_of(t: &[u8]) -> Word
 
 // The sheet with another source, gray or number of columns.
 fn with_source(x: Source, o: Sheet) -> Sheet
-    ensures { result ≡ withSource x o }
+    ensures { result ≡ with_source x o }
 {
     let tone = o.tone;
     Sheet {
@@ -64,7 +66,7 @@ fn with_source(x: Source, o: Sheet) -> Sheet
 }
 
 fn with_tone(x: Tone, o: Sheet) -> Sheet
-    ensures { result ≡ withTone x o }
+    ensures { result ≡ with_tone x o }
 {
     let source = o.source;
     Sheet {
@@ -80,7 +82,7 @@ fn with_tone(x: Tone, o: Sheet) -> Sheet
 }
 
 fn with_columns(x: usize, o: Sheet) -> Sheet
-    ensures { result ≡ withColumns x o }
+    ensures { result ≡ with_columns x o }
 {
     let mut sheet = o;
     sheet.columns = x;
@@ -89,7 +91,7 @@ fn with_columns(x: usize, o: Sheet) -> Sheet
 
 // One number was given: it is K, and the rings are one's own.
 fn one_number(o: Sheet) -> Sheet
-    ensures { result ≡ oneNumber o }
+    ensures { result ≡ one_number o }
 {
     let mut sheet = o;
     sheet.k = o.n;
@@ -99,7 +101,7 @@ fn one_number(o: Sheet) -> Sheet
 
 // The plain choice, where a guarded one stood.
 fn plain_for(o: Sheet) -> Asked
-    ensures { result ≡ plainFor o.source o }
+    ensures { result ≡ plain_for o.source o }
 {
     let source = o.source;
     match source {
@@ -123,7 +125,7 @@ fn plain_for(o: Sheet) -> Asked
 
 // A wish.
 fn wish_for(v: Word, o: Sheet) -> Asked
-    ensures { result ≡ wishFor v o }
+    ensures { result ≡ wish_for v o }
 {
     match v {
         Word::Number(_) => Asked {
@@ -155,7 +157,7 @@ fn wish_for(v: Word, o: Sheet) -> Asked
 
 // What a number means.
 fn meant_number(a: Awaits, x: usize, o: Sheet) -> Asked
-    ensures { result ≡ meantNumber a x o }
+    ensures { result ≡ meant_number a x o }
 {
     match a {
         Awaits::First => {
@@ -219,7 +221,7 @@ fn meant_number(a: Awaits, x: usize, o: Sheet) -> Asked
 
 // What a name means.
 fn meant_name(a: Awaits, v: Word, o: Sheet) -> Asked
-    ensures { result ≡ meantName a v o }
+    ensures { result ≡ meant_name a v o }
 {
     match a {
         Awaits::First => Asked {
@@ -277,7 +279,7 @@ fn word_end(t: &[u8], at: usize) -> usize
 
 // What the words of a line mean, one after another.
 fn read_words(t: &[u8], first: Asked) -> Asked
-    ensures { result ≡ asked (wordsFrom t.now 0) first }
+    ensures { result ≡ asked (words_from t.now 0) first }
 {
     let mut a = first;
     let mut at = 0;
@@ -304,7 +306,7 @@ fn fit_columns(o: Sheet) -> Sheet
 
 // Before the first word.
 fn nothing_asked() -> Asked
-    ensures { result ≡ nothingAsked }
+    ensures { result ≡ nothing_asked }
 {
     let sheet = Sheet {
         n: 0,

@@ -1,5 +1,7 @@
 // What the words of the command for a sheet mean. No functions.
 
+#![tactic(auto)]
+
 use sheet_spec::Sheet;
 
 // What a word is: a number of at most three digits, one of four names, or another.

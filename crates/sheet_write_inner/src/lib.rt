@@ -1,8 +1,10 @@
 // The targets of a sheet that is ready, written on standard output one after another. No public calls: no contract can say what is written.
 
+#![tactic(auto)]
+
 ghost use Rattle.std.specs.Prelude.{◌≤◌, length};
 ghost use Rattle.stream_spec.specs.Lines.{lines};
-ghost use Rattle.sheet_spec.specs.Says.{targetRoom};
+ghost use Rattle.sheet_spec.specs.Says.{target_room};
 ghost use Rattle.sheet_print_inner.specs.Says.{ReadySet, ReadyOwn};
 ghost use Rattle.sheet_write_inner.specs.Says.{AllWritten};
 
@@ -19,7 +21,7 @@ pub struct Written {
 // Writes each target of a sheet that is ready, in order. Where a write fails, nothing more is written.
 pub fn print_targets(sheet: Sheet, places: &[u8], count: usize, buf: &mut [u8]) -> Written
     requires ready_set { ReadySet sheet places.now count }
-    requires target_room_in_bounds { targetRoom ≤ length buf.old }
+    requires target_room_in_bounds { target_room ≤ length buf.old }
     ensures { AllWritten result.wrote result.targets count }
 {
     let mut i = 0;
@@ -42,7 +44,7 @@ pub fn print_targets(sheet: Sheet, places: &[u8], count: usize, buf: &mut [u8]) 
 // The same of rings of one's own, which are the lines of a text.
 pub fn print_lines(sheet: Sheet, text: &[u8], count: usize, buf: &mut [u8]) -> Written
     requires ready_own { ReadyOwn sheet (lines text.now) count }
-    requires target_room_in_bounds { targetRoom ≤ length buf.old }
+    requires target_room_in_bounds { target_room ≤ length buf.old }
     ensures { AllWritten result.wrote result.targets count }
 {
     let mut at = 0;

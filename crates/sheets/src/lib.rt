@@ -1,8 +1,10 @@
 // Sheets of targets, target after target, as SVG text.
 
+#![tactic(auto)]
+
 ghost use Rattle.refusal.specs.Order.{CheckSays};
 ghost use Rattle.sheet_spec.specs.Layout.{FitsPage};
-ghost use Rattle.sheet_spec.specs.Says.{sheetOrder, TargetSays};
+ghost use Rattle.sheet_spec.specs.Says.{sheet_order, TargetSays};
 ghost use Rattle.sheets.specs.Says.{FitSays};
 
 pub use picture_spec::{Drawn, Tone};
@@ -33,7 +35,7 @@ fn fitting(size: usize, columns: usize) -> bool
 
 // The checks of a target, for a buffer of `room` bytes: for a caller that will have all of a sheet or nothing.
 pub fn check_target(sheet: Sheet, ring: &[u8], i: usize, room: usize) -> Checked
-    ensures { CheckSays (sheetOrder sheet ring.now i room) result }
+    ensures { CheckSays (sheet_order sheet ring.now i room) result }
 {
     match check_readings_inner::check_reading(ring, sheet.k) {
         Checked::Refused(r) => Checked::Refused(r),

@@ -1,5 +1,7 @@
 // Which ring of a set a reading shows, and from which side.
 
+#![tactic(auto)]
+
 ghost use Rattle.sight_spec.specs.Says.{SightSays};
 
 use refusal::Checked;

@@ -1,7 +1,9 @@
 // The checks of a reading and of rings that lie end to end: 1, 10, 2, 3. No public calls: crate `sight` makes them.
 
+#![tactic(auto)]
+
 ghost use Rattle.refusal.specs.Order.{CheckSays};
-ghost use Rattle.sight_spec.specs.Rings.{sightOrder};
+ghost use Rattle.sight_spec.specs.Rings.{sight_order};
 ghost use Rattle.sight_checks_inner.specs.Says.{SectorsSay};
 
 use refusal::{Checked, Refusal};
@@ -25,7 +27,7 @@ fn check_sectors(rings: &[u8], reading: &[u8], k: usize) -> Checked
 
 // 1 of the reading; 10 where the rings are no whole number of rings as long as it; 2; then 3.
 pub fn check_rings(rings: &[u8], reading: &[u8], k: usize) -> Checked
-    ensures { CheckSays (sightOrder reading.now rings.now k) result }
+    ensures { CheckSays (sight_order reading.now rings.now k) result }
 {
     let n = reading.len();
     if n < 1 {

@@ -9,7 +9,7 @@ use Rattle.rings.specs.Alike.{apart}
 use Rattle.guard_spec.specs.Sides.{sides}
 use Rattle.guard_laws.proofs.Mirror.{other-side}
 use Rattle.guard_laws.proofs.Sides.{Long, length-sides, front_at, back_at}
-use Rattle.sight_spec.specs.Rings.{ringAt, ringsIn}
+use Rattle.sight_spec.specs.Rings.{ring_at, rings_in}
 use Rattle.sight_spec.specs.Says.{Alone, Two, None, SeenFront, SeenBack}
 use Rattle.sight_spec.proofs.Rings.{length-first, ring-length, rings-long}
 use Rattle.sight_near_inner.specs.{declared.Near.Near, Says.NearSays}
@@ -93,12 +93,12 @@ module _ (e n : ℕ) (ts : List (List ℕ)) (r : List ℕ) (z : 0 < n) (size : l
 -- ---- the code's reading, and its reversal
 
 -- the one that is alone is one of the rings
-pub alone-inside : (e n : ℕ) (rs u : List ℕ) (t : ℕ) → Alone e (ringsIn n rs) u t → t < length rs / n
+pub alone-inside : (e n : ℕ) (rs u : List ℕ) (t : ℕ) → Alone e (rings_in n rs) u t → t < length rs / n
 alone-inside e n rs u t a = omega (arith, a.inside, length-first n rs (length rs / n))
 
 module _ (e : ℕ) (rs r b : List ℕ) (z : 0 < length r) (q : b ≡ reverse r) where
   abbrev ts : List (List ℕ)
-  ts = ringsIn (length r) rs
+  ts = rings_in (length r) rs
 
   back-size : length b ≡ length r
   back-size = ap length q ∙ length-reverse r
@@ -110,22 +110,22 @@ module _ (e : ℕ) (rs r b : List ℕ) (z : 0 < length r) (q : b ≡ reverse r) 
   back_fits h = rw back-size h
 
   -- what is said of the reversal
-  behind-says : (a : Near) → NearSays e (ringsIn (length b) rs) b a → NearSays e ts (reverse r) a
-  behind-says a s = subst (λ n. NearSays e (ringsIn n rs) (reverse r) a) (length-reverse r) (subst (λ x. NearSays e (ringsIn (length x) rs) x a) q s)
+  behind-says : (a : Near) → NearSays e (rings_in (length b) rs) b a → NearSays e ts (reverse r) a
+  behind-says a s = subst (λ n. NearSays e (rings_in n rs) (reverse r) a) (length-reverse r) (subst (λ x. NearSays e (rings_in (length x) rs) x a) q s)
 
   pub many-front : NearSays e ts r Many → Two e (sides ts) r
   many-front t = two-front e (length r) ts r z refl (rings-long (length r) rs) t
 
-  pub many-behind : NearSays e (ringsIn (length b) rs) b Many → Two e (sides ts) r
+  pub many-behind : NearSays e (rings_in (length b) rs) b Many → Two e (sides ts) r
   many-behind t = two_back e (length r) ts r z refl (rings-long (length r) rs) (behind-says Many t)
 
-  pub one_each : (t s : ℕ) → NearSays e ts r (One t) → NearSays e (ringsIn (length b) rs) b (One s) → Two e (sides ts) r
+  pub one_each : (t s : ℕ) → NearSays e ts r (One t) → NearSays e (rings_in (length b) rs) b (One s) → Two e (sides ts) r
   one_each t s x y = two-each e (length r) ts r z refl (rings-long (length r) rs) t s x (behind-says (One s) y)
 
-  pub nobody : NearSays e ts r Nobody → NearSays e (ringsIn (length b) rs) b Nobody → None e (sides ts) r
+  pub nobody : NearSays e ts r Nobody → NearSays e (rings_in (length b) rs) b Nobody → None e (sides ts) r
   nobody x y = none_both e (length r) ts r z refl (rings-long (length r) rs) x (behind-says Nobody y)
 
-  pub seen_front : (t i x : ℕ) → NearSays e ts r (One t) → NearSays e (ringsIn (length b) rs) b Nobody → Turns r (ringAt (length r) rs t) i x → SeenFront rs r e t i x
+  pub seen_front : (t i x : ℕ) → NearSays e ts r (One t) → NearSays e (rings_in (length b) rs) b Nobody → Turns r (ring_at (length r) rs t) i x → SeenFront rs r e t i x
   seen_front t i x a f u =
       record {
         target = a.inside;
@@ -134,12 +134,12 @@ module _ (e : ℕ) (rs r b : List ℕ) (z : 0 < length r) (q : b ≡ reverse r) 
         misread = u.misread;
       }
 
-  pub seen_back : (t i x : ℕ) → NearSays e ts r Nobody → NearSays e (ringsIn (length b) rs) b (One t) → Turns b (ringAt (length b) rs t) i x → SeenBack rs r e t i x
+  pub seen_back : (t i x : ℕ) → NearSays e ts r Nobody → NearSays e (rings_in (length b) rs) b (One t) → Turns b (ring_at (length b) rs t) i x → SeenBack rs r e t i x
   seen_back t i x f y u =
       let a = behind-says (One t) y in
       let l = alone-inside e (length r) rs (reverse r) t a in
-      let o = other-side r (ringAt (length r) rs t) z (sym (ring-length (length r) rs t l)) in
-      let v : Turns (reverse r) (ringAt (length r) rs t) i x = subst (λ n. Turns (reverse r) (ringAt n rs t) i x) (length-reverse r) (subst (λ w. Turns w (ringAt (length w) rs t) i x) q u) in
+      let o = other-side r (ring_at (length r) rs t) z (sym (ring-length (length r) rs t l)) in
+      let v : Turns (reverse r) (ring_at (length r) rs t) i x = subst (λ n. Turns (reverse r) (ring_at n rs t) i x) (length-reverse r) (subst (λ w. Turns w (ring_at (length w) rs t) i x) q u) in
       record {
         target = a.inside;
         alone = back_alone e (length r) ts r z refl (rings-long (length r) rs) t f a;

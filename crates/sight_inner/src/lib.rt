@@ -1,5 +1,7 @@
 // Looking for a reading among rings that lie end to end. No public calls: `sight` checks what these ask for.
 
+#![tactic(auto)]
+
 ghost use Rattle.std.specs.Prelude.{◌≡◌, reverse, ◌<◌, ◌≤◌, length};
 ghost use Rattle.sight_spec.specs.Says.{Seen};
 

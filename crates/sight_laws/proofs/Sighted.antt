@@ -9,18 +9,18 @@ use Rattle.words.proofs.Plain.{ℕ, ◌+◌, ◌*◌, ◌<◌, ◌≤◌, arith,
 use Rattle.words.specs.{Turn.turn, Readings.Reading}
 use Rattle.rings.specs.Alike.{differing, apart, mirrored}
 use Rattle.refusal.specs.{Order.Passed, declared.Checked.TheVariants.Good}
-use Rattle.home_spec.specs.Turns.{nearestTurn, Steady}
+use Rattle.home_spec.specs.Turns.{nearest_turn, Steady}
 use Rattle.home_turns_laws.proofs.Nearest.{nearest-at, nearest-is}
-use Rattle.set_spec.specs.{Worth.Spread, Places.placeAt, Places.setIn}
+use Rattle.set_spec.specs.{Worth.Spread, Places.place_at, Places.set_in}
 use Rattle.set_laws.proofs.Places.{length-set-in, set-in-at}
 use Rattle.guard_spec.specs.Sides.{sides}
 use Rattle.guard_laws.proofs.{Mirror.turn_near, Mirror.other-side, Sides.Long}
 use Rattle.set_pick_spec.specs.Says.{GuardChosen}
 use Rattle.set_pick_spec.proofs.Worth.{guard-worth}
-use Rattle.set_layout_spec.specs.Layout.{endToEnd, LayoutSays}
+use Rattle.set_layout_spec.specs.Layout.{end_to_end, LayoutSays}
 use Rattle.sight_spec.specs.{declared.Sighting.Sighting, Says.SightSays}
 use Rattle.sight_spec.specs.declared.Sighting.TheVariants.{Front, Back, Several, Unknown}
-use Rattle.sight_spec.specs.Rings.{ringAt, ringsIn, sightOrder}
+use Rattle.sight_spec.specs.Rings.{ring_at, rings_in, sight_order}
 use Rattle.sight_laws.proofs.EndToEnd.{laid-at, rings-laid, laid-passed}
 use Rattle.sight_laws.proofs.Tells.{OrUnknown, told, missed, never-several, front-or-none, back-or-none, front-means, back-means, front-seen-not, back-seen-not}
 
@@ -29,7 +29,7 @@ module _
     (n k d want : ℕ) (p : List ℕ) (t : ℕ) (f : Bool) (c : GuardChosen n k d want p t f) (b rs : List ℕ) (o : LayoutSays n p t b Good rs) (e : ℕ) (r : List ℕ)
     (read : Reading n k r) (a : Sighting) (s : SightSays rs r k e a) where
   abbrev ts : List (List ℕ)
-  ts = setIn n p t
+  ts = set_in n p t
 
   some : 0 < n
   some = omega (arith, c.asked.numbers.sized)
@@ -40,49 +40,49 @@ module _
   long : Long n ts
   long j h = (each j h).long
 
-  passed : Passed (sightOrder r rs k)
+  passed : Passed (sight_order r rs k)
   passed = rw o.1 (laid-passed n ts some long k r c.asked.numbers.sized c.asked.numbers.shaded read each)
 
   -- cut by the reading's length they are the set
-  cut : ringsIn (length r) rs ≡ ts
+  cut : rings_in (length r) rs ≡ ts
   cut = rw (o.1, read.long) (rings-laid n ts some long)
 
-  guards : Spread d (sides (ringsIn (length r) rs))
+  guards : Spread d (sides (rings_in (length r) rs))
   guards = subst (λ us. Spread d (sides us)) (sym cut) (guard-worth n k d want p t f c).guarded.spread
 
   inside : (j : ℕ) → j < t → j < length ts
   inside j h = omega (arith, length-set-in n p t)
 
-  within : (j : ℕ) → j < t → j < length (ringsIn (length r) rs)
+  within : (j : ℕ) → j < t → j < length (rings_in (length r) rs)
   within j h = rw cut (inside j h)
 
-  ring : (j : ℕ) → j < t → ringAt (length r) rs j ≡ placeAt n p j
+  ring : (j : ℕ) → j < t → ring_at (length r) rs j ≡ place_at n p j
   ring j h = rw (o.1, read.long) (laid-at n ts long j (inside j h)) ∙ set-in-at n p t j h
 
-  size : (j : ℕ) → j < t → length (placeAt n p j) ≡ n
+  size : (j : ℕ) → j < t → length (place_at n p j) ≡ n
   size j h = ap length (sym (set-in-at n p t j h)) ∙ long j (inside j h)
 
-  steadies : (j : ℕ) → j < t → Steady d (placeAt n p j)
+  steadies : (j : ℕ) → j < t → Steady d (place_at n p j)
   steadies j h = subst (Steady d) (set-in-at n p t j h) ((guard-worth n k d want p t f c).guarded.steady j (inside j h))
 
   -- one ring v of the set, and u, the reading or its reversal, which differs from v at no more than x places after i turns: where it comes as near as e, it does so by i turns
-  module _ (x : ℕ) (small : x + e < d) (u : List ℕ) (long-u : length u ≡ n) (j i : ℕ) (h : j < t) (l : i < n) (near : differing (turn i u) (placeAt n p j) ≤ x) where
-    close : apart u (placeAt n p j) ≤ x
-    close = turn_near u (placeAt n p j) i x (omega arith) near
+  module _ (x : ℕ) (small : x + e < d) (u : List ℕ) (long-u : length u ≡ n) (j i : ℕ) (h : j < t) (l : i < n) (near : differing (turn i u) (place_at n p j) ≤ x) where
+    close : apart u (place_at n p j) ≤ x
+    close = turn_near u (place_at n p j) i x (omega arith) near
 
-    turned_right : apart u (placeAt n p j) ≤ e → (nearestTurn u (placeAt n p j) ≡ i) × (apart u (placeAt n p j) ≡ differing (turn i u) (placeAt n p j))
+    turned_right : apart u (place_at n p j) ≤ e → (nearest_turn u (place_at n p j) ≡ i) × (apart u (place_at n p j) ≡ differing (turn i u) (place_at n p j))
     turned_right m =
-        let q = nearest-is d x e u (placeAt n p j) (long-u ∙ sym (size j h)) (steadies j h) small m i (omega arith) near in
-        (q, sym (nearest-at u (placeAt n p j) (omega arith)) ∙ ap (λ (y : ℕ). differing (turn y u) (placeAt n p j)) q)
+        let q = nearest-is d x e u (place_at n p j) (long-u ∙ sym (size j h)) (steadies j h) small m i (omega arith) near in
+        (q, sym (nearest-at u (place_at n p j) (omega arith)) ∙ ap (λ (y : ℕ). differing (turn y u) (place_at n p j)) q)
 
   -- ---- from the front
 
   -- with x misread, where x and e together are below d: that ring, from the front and turned as it was, or Unknown
-  pub front-missed : (x : ℕ) → x + e < d → (j i : ℕ) → j < t → i < n → differing (turn i r) (placeAt n p j) ≤ x → OrUnknown a (Front j i (differing (turn i r) (placeAt n p j)))
+  pub front-missed : (x : ℕ) → x + e < d → (j i : ℕ) → j < t → i < n → differing (turn i r) (place_at n p j) ≤ x → OrUnknown a (Front j i (differing (turn i r) (place_at n p j)))
   front-missed x small j i h l near =
       go (front-or-none rs r k e d x passed guards small a s j (within j h) (rw (ring j h) (close x small r read.long j i h l near)))
     where
-      go : OrUnknown a (Front j (nearestTurn r (ringAt (length r) rs j)) (apart r (ringAt (length r) rs j))) → OrUnknown a (Front j i (differing (turn i r) (placeAt n p j)))
+      go : OrUnknown a (Front j (nearest_turn r (ring_at (length r) rs j)) (apart r (ring_at (length r) rs j))) → OrUnknown a (Front j i (differing (turn i r) (place_at n p j)))
       go (missed q) = missed q
       go (told q) =
           let m = (front-means rs r k e j _ _ (subst (SightSays rs r k e) q s)).1 in
@@ -91,18 +91,18 @@ module _
 
   -- ---- from behind
 
-  pub back-missed : (x : ℕ) → x + e < d → (j i : ℕ) → j < t → i < n → differing (turn i (reverse r)) (placeAt n p j) ≤ x → OrUnknown a (Back j i (differing (turn i (reverse r)) (placeAt n p j)))
+  pub back-missed : (x : ℕ) → x + e < d → (j i : ℕ) → j < t → i < n → differing (turn i (reverse r)) (place_at n p j) ≤ x → OrUnknown a (Back j i (differing (turn i (reverse r)) (place_at n p j)))
   back-missed x small j i h l near =
       go (back-or-none rs r k e d x passed guards small a s j (within j h) (rw (ring j h) (omega (arith, other, close x small (reverse r) back_long j i h l near))))
     where
       back_long : length (reverse r) ≡ n
       back_long = length-reverse r ∙ read.long
 
-      other : apart r (mirrored (placeAt n p j)) ≡ apart (reverse r) (placeAt n p j)
-      other = other-side r (placeAt n p j) (omega (arith, read.long)) (read.long ∙ sym (size j h))
+      other : apart r (mirrored (place_at n p j)) ≡ apart (reverse r) (place_at n p j)
+      other = other-side r (place_at n p j) (omega (arith, read.long)) (read.long ∙ sym (size j h))
 
-      go : OrUnknown a (Back j (nearestTurn (reverse r) (ringAt (length r) rs j)) (apart r (mirrored (ringAt (length r) rs j)))) → OrUnknown a
-          (Back j i (differing (turn i (reverse r)) (placeAt n p j)))
+      go : OrUnknown a (Back j (nearest_turn (reverse r) (ring_at (length r) rs j)) (apart r (mirrored (ring_at (length r) rs j)))) → OrUnknown a
+          (Back j i (differing (turn i (reverse r)) (place_at n p j)))
       go (missed q) = missed q
       go (told q) =
           let m = (back-means rs r k e j _ _ (subst (SightSays rs r k e) q s)).1 in
@@ -117,20 +117,20 @@ module _
     seen b no_one (told q) = q
     seen b no_one (missed q) = absurd (no_one q)
 
-    pub sighted-front : (j i : ℕ) → j < t → i < n → differing (turn i r) (placeAt n p j) ≤ e → a ≡ Front j i (differing (turn i r) (placeAt n p j))
+    pub sighted-front : (j i : ℕ) → j < t → i < n → differing (turn i r) (place_at n p j) ≤ e → a ≡ Front j i (differing (turn i r) (place_at n p j))
     sighted-front j i h l near =
-        seen (Front j i (differing (turn i r) (placeAt n p j))) (λ q. not-unknown (subst (SightSays rs r k e) q s)) (front-missed e (omega arith) j i h l near)
+        seen (Front j i (differing (turn i r) (place_at n p j))) (λ q. not-unknown (subst (SightSays rs r k e) q s)) (front-missed e (omega arith) j i h l near)
       where
         not-unknown : SightSays rs r k e Unknown → ⊥
         not-unknown u = front-seen-not rs r k e j u (within j h) (rw (ring j h) (close e (omega arith) r read.long j i h l near))
 
-    pub sighted-back : (j i : ℕ) → j < t → i < n → differing (turn i (reverse r)) (placeAt n p j) ≤ e → a ≡ Back j i (differing (turn i (reverse r)) (placeAt n p j))
+    pub sighted-back : (j i : ℕ) → j < t → i < n → differing (turn i (reverse r)) (place_at n p j) ≤ e → a ≡ Back j i (differing (turn i (reverse r)) (place_at n p j))
     sighted-back j i h l near =
-        seen (Back j i (differing (turn i (reverse r)) (placeAt n p j))) (λ q. not-unknown (subst (SightSays rs r k e) q s)) (back-missed e (omega arith) j i h l near)
+        seen (Back j i (differing (turn i (reverse r)) (place_at n p j))) (λ q. not-unknown (subst (SightSays rs r k e) q s)) (back-missed e (omega arith) j i h l near)
       where
         not-unknown : SightSays rs r k e Unknown → ⊥
         not-unknown u =
-            let z = other-side r (placeAt n p j) (omega (arith, read.long)) (read.long ∙ sym (size j h)) in
+            let z = other-side r (place_at n p j) (omega (arith, read.long)) (read.long ∙ sym (size j h)) in
             back-seen-not rs r k e j u (within j h) (rw (ring j h) (omega (arith, z, close e (omega arith) (reverse r) (length-reverse r ∙ read.long) j i h l near)))
 
     -- never several

@@ -8,7 +8,7 @@ use Rattle.words.specs.Turn.{turn}
 use Rattle.words.proofs.Split.{lt, eq, gt, tri}
 use Rattle.rings.specs.Alike.{differing, apart, mirrored}
 use Rattle.refusal.specs.Order.{Passed}
-use Rattle.home_spec.specs.Turns.{nearestTurn}
+use Rattle.home_spec.specs.Turns.{nearest_turn}
 use Rattle.home_turns_laws.proofs.Nearest.{nearest-at}
 use Rattle.set_spec.specs.Worth.{Spread}
 use Rattle.guard_spec.specs.Sides.{sides}
@@ -16,14 +16,14 @@ use Rattle.guard_laws.proofs.Mirror.{other-side}
 use Rattle.guard_laws.proofs.Sides.{length-sides, front_at, back_at, sides-long, alone}
 use Rattle.sight_spec.specs.declared.Sighting.{Sighting}
 use Rattle.sight_spec.specs.declared.Sighting.TheVariants.{Front, Back, Several, Unknown}
-use Rattle.sight_spec.specs.Rings.{ringAt, ringsIn, sightOrder}
+use Rattle.sight_spec.specs.Rings.{ring_at, rings_in, sight_order}
 use Rattle.sight_spec.specs.Says.{Alone, None, SightSays}
 use Rattle.sight_spec.proofs.Rings.{length-first, first-at, ring-length, rings-long}
 use Rattle.sight_spec.proofs.Unique.{alone-two, one-sight}
 
-module _ (rs r : List ℕ) (k e d : ℕ) (p : Passed (sightOrder r rs k)) (g : Spread d (sides (ringsIn (length r) rs))) (small : 2 * e < d) (a : Sighting) (s : SightSays rs r k e a) where
+module _ (rs r : List ℕ) (k e d : ℕ) (p : Passed (sight_order r rs k)) (g : Spread d (sides (rings_in (length r) rs))) (small : 2 * e < d) (a : Sighting) (s : SightSays rs r k e a) where
   abbrev ts : List (List ℕ)
-  ts = ringsIn (length r) rs
+  ts = rings_in (length r) rs
 
   some : 0 < length r
   some = p.0.0.0.0
@@ -31,7 +31,7 @@ module _ (rs r : List ℕ) (k e d : ℕ) (p : Passed (sightOrder r rs k)) (g : S
   number : length ts ≡ length rs / length r
   number = length-first (length r) rs (length rs / length r)
 
-  ring-is : (t : ℕ) → t < length ts → get_or ts t [] ≡ ringAt (length r) rs t
+  ring-is : (t : ℕ) → t < length ts → get_or ts t [] ≡ ring_at (length r) rs t
   ring-is t h = first-at (length r) rs (length rs / length r) t (omega (arith, number))
 
   -- whatever side is near, it is alone
@@ -58,14 +58,14 @@ pub data OrUnknown (a b : Sighting) : Type 0 where
   missed : a ≡ Unknown → OrUnknown a b
 
 -- x sectors are misread, and rings are looked for with up to e: where both together are below d, no other ring and no other side is ever told
-module _ (rs r : List ℕ) (k e d x : ℕ) (p : Passed (sightOrder r rs k)) (g : Spread d (sides (ringsIn (length r) rs))) (small : x + e < d) (a : Sighting) (s : SightSays rs r k e a) where
+module _ (rs r : List ℕ) (k e d x : ℕ) (p : Passed (sight_order r rs k)) (g : Spread d (sides (rings_in (length r) rs))) (small : x + e < d) (a : Sighting) (s : SightSays rs r k e a) where
   abbrev rings : List (List ℕ)
-  rings = ringsIn (length r) rs
+  rings = rings_in (length r) rs
 
   lit : 0 < length r
   lit = p.0.0.0.0
 
-  placed : (t : ℕ) → t < length rings → get_or rings t [] ≡ ringAt (length r) rs t
+  placed : (t : ℕ) → t < length rings → get_or rings t [] ≡ ring_at (length r) rs t
   placed t h = first-at (length r) rs (length rs / length r) t (omega (arith, length-first (length r) rs (length rs / length r)))
 
   -- the side number j is near, or none is
@@ -81,48 +81,48 @@ module _ (rs r : List ℕ) (k e d x : ℕ) (p : Passed (sightOrder r rs k)) (g :
       others i m f = alone (length r) d x e (sides rings) r (sides-long (length r) d rings lit (rings-long (length r) rs)) refl g small j i h m f near
 
   -- a ring seen from the front: that ring or none
-  pub front-or-none : (t : ℕ) → t < length rings → apart r (ringAt (length r) rs t) ≤ x → OrUnknown a (Front t (nearestTurn r (ringAt (length r) rs t)) (apart r (ringAt (length r) rs t)))
+  pub front-or-none : (t : ℕ) → t < length rings → apart r (ring_at (length r) rs t) ≤ x → OrUnknown a (Front t (nearest_turn r (ring_at (length r) rs t)) (apart r (ring_at (length r) rs t)))
   front-or-none t h near =
       settled t (omega (arith, length-sides rings)) (rw (front_at rings t h, placed t h) near)
-      (λ o. told (one-sight rs r k e a (Front t (nearestTurn r (ringAt (length r) rs t)) (apart r (ringAt (length r) rs t))) s (p, record { target = h; alone = o; turned = refl; misread = refl })))
+      (λ o. told (one-sight rs r k e a (Front t (nearest_turn r (ring_at (length r) rs t)) (apart r (ring_at (length r) rs t))) s (p, record { target = h; alone = o; turned = refl; misread = refl })))
       (λ o. missed (one-sight rs r k e a Unknown s (p, o)))
 
   -- a ring seen from behind: that ring, from behind, or none
-  pub back-or-none : (t : ℕ) → t < length rings → apart r (mirrored (ringAt (length r) rs t)) ≤ x → OrUnknown a
-      (Back t (nearestTurn (reverse r) (ringAt (length r) rs t)) (apart r (mirrored (ringAt (length r) rs t))))
+  pub back-or-none : (t : ℕ) → t < length rings → apart r (mirrored (ring_at (length r) rs t)) ≤ x → OrUnknown a
+      (Back t (nearest_turn (reverse r) (ring_at (length r) rs t)) (apart r (mirrored (ring_at (length r) rs t))))
   back-or-none t h near =
       settled (length rings + t) (omega (arith, length-sides rings)) (rw (back_at rings t h, placed t h) near)
-      (λ o. told (one-sight rs r k e a (Back t (nearestTurn (reverse r) (ringAt (length r) rs t)) (apart r (mirrored (ringAt (length r) rs t)))) s
+      (λ o. told (one-sight rs r k e a (Back t (nearest_turn (reverse r) (ring_at (length r) rs t)) (apart r (mirrored (ring_at (length r) rs t)))) s
       (p, record { target = h; alone = o; turned = refl; misread = refl }))) (λ o. missed (one-sight rs r k e a Unknown s (p, o)))
 
 -- what an answer means, guarded or not
 module _ (rs r : List ℕ) (k e t i x : ℕ) where
-  pub front-means : SightSays rs r k e (Front t i x) → (differing (turn i r) (ringAt (length r) rs t) ≡ x) × (x ≤ e)
+  pub front-means : SightSays rs r k e (Front t i x) → (differing (turn i r) (ring_at (length r) rs t) ≡ x) × (x ≤ e)
   front-means s =
       let m = length-first (length r) rs (length rs / length r) in
       let f : t < length rs / length r = omega (arith, s.1.target) in
-      let near = rw (front_at (ringsIn (length r) rs) t s.1.target, first-at (length r) rs (length rs / length r) t f) at s.1.alone.near in
-      (rw (s.1.turned, s.1.misread) (nearest-at r (ringAt (length r) rs t) s.0.0.0.0.0), omega (arith, s.1.misread))
+      let near = rw (front_at (rings_in (length r) rs) t s.1.target, first-at (length r) rs (length rs / length r) t f) at s.1.alone.near in
+      (rw (s.1.turned, s.1.misread) (nearest-at r (ring_at (length r) rs t) s.0.0.0.0.0), omega (arith, s.1.misread))
 
-  pub back-means : SightSays rs r k e (Back t i x) → (differing (turn i (reverse r)) (ringAt (length r) rs t) ≡ x) × (x ≤ e)
+  pub back-means : SightSays rs r k e (Back t i x) → (differing (turn i (reverse r)) (ring_at (length r) rs t) ≡ x) × (x ≤ e)
   back-means s =
       let some : 0 < length r = s.0.0.0.0.0 in
       let m = length-first (length r) rs (length rs / length r) in
       let f : t < length rs / length r = omega (arith, s.1.target) in
-      let near = rw (back_at (ringsIn (length r) rs) t s.1.target, first-at (length r) rs (length rs / length r) t f) at s.1.alone.near in
-      let o = other-side r (ringAt (length r) rs t) some (sym (ring-length (length r) rs t f)) in
-      (rw (s.1.turned, s.1.misread, o) (nearest-at (reverse r) (ringAt (length r) rs t) (rw (length-reverse r) some)), omega (arith, s.1.misread))
+      let near = rw (back_at (rings_in (length r) rs) t s.1.target, first-at (length r) rs (length rs / length r) t f) at s.1.alone.near in
+      let o = other-side r (ring_at (length r) rs t) some (sym (ring-length (length r) rs t f)) in
+      (rw (s.1.turned, s.1.misread, o) (nearest-at (reverse r) (ring_at (length r) rs t) (rw (length-reverse r) some)), omega (arith, s.1.misread))
 
 -- a side that is near is not Unknown
-module _ (rs r : List ℕ) (k e t : ℕ) (s : SightSays rs r k e Unknown) (h : t < length (ringsIn (length r) rs)) where
+module _ (rs r : List ℕ) (k e t : ℕ) (s : SightSays rs r k e Unknown) (h : t < length (rings_in (length r) rs)) where
   abbrev us : List (List ℕ)
-  us = ringsIn (length r) rs
+  us = rings_in (length r) rs
 
-  lies : get_or us t [] ≡ ringAt (length r) rs t
+  lies : get_or us t [] ≡ ring_at (length r) rs t
   lies = first-at (length r) rs (length rs / length r) t (omega (arith, length-first (length r) rs (length rs / length r)))
 
-  pub front-seen-not : apart r (ringAt (length r) rs t) ≤ e → ⊥
+  pub front-seen-not : apart r (ring_at (length r) rs t) ≤ e → ⊥
   front-seen-not near = let x = rw (front_at us t h, lies) at (s.1 t (omega (arith, length-sides us))) in omega arith
 
-  pub back-seen-not : apart r (mirrored (ringAt (length r) rs t)) ≤ e → ⊥
+  pub back-seen-not : apart r (mirrored (ring_at (length r) rs t)) ≤ e → ⊥
   back-seen-not near = let x = rw (back_at us t h, lies) at (s.1 (length us + t) (omega (arith, length-sides us))) in omega arith

@@ -8,7 +8,7 @@ use Rattle.words.proofs.Plain.{drop, ltb-true, ltb-false}
 use Rattle.words.proofs.Split.{lt, eq, gt, tri}
 use Rattle.rings.specs.Alike.{apart}
 use Rattle.ring_home_laws.proofs.Alike.{apart-le}
-use Rattle.sight_spec.specs.Rings.{ringAt, ringsIn}
+use Rattle.sight_spec.specs.Rings.{ring_at, rings_in}
 use Rattle.sight_spec.specs.Says.{Alone, Two, None}
 use Rattle.sight_spec.proofs.Rings.{length-first, first-at}
 use Rattle.sight_turn_inner.proofs.Parts.{part-ring}
@@ -18,16 +18,16 @@ use Rattle.sight_near_inner.specs.Says.{FirstNear}
 
 -- the rings from `from` up to j are far
 abbrev pub FarTo : ℕ → List ℕ → List ℕ → ℕ → ℕ → Type 0
-FarTo e rs r from j = (i : ℕ) → from ≤ i → i < j → e < apart r (ringAt (length r) rs i)
+FarTo e rs r from j = (i : ℕ) → from ≤ i → i < j → e < apart r (ring_at (length r) rs i)
 
 pub far-start : (e : ℕ) (rs r : List ℕ) (from : ℕ) → FarTo e rs r from from
 far-start e rs r from i h l = absurd (omega arith)
 
-pub far-on : (e : ℕ) (rs r : List ℕ) (from j : ℕ) → FarTo e rs r from j → e < apart r (ringAt (length r) rs j) → FarTo e rs r from (j + 1)
+pub far-on : (e : ℕ) (rs r : List ℕ) (from j : ℕ) → FarTo e rs r from j → e < apart r (ring_at (length r) rs j) → FarTo e rs r from (j + 1)
 far-on e rs r from j f h i l m =
-    elim (tri i j) [ lt o ↦ f i l o | eq o ↦ omega (arith, ap (λ (y : ℕ). apart r (ringAt (length r) rs y)) o) | gt o ↦ absurd (omega arith) ]
+    elim (tri i j) [ lt o ↦ f i l o | eq o ↦ omega (arith, ap (λ (y : ℕ). apart r (ring_at (length r) rs y)) o) | gt o ↦ absurd (omega arith) ]
 
-pub far-found : (e : ℕ) (rs r : List ℕ) (from j : ℕ) → FarTo e rs r from j → from ≤ j → j < length rs / length r → apart r (ringAt (length r) rs j) ≤ e → FirstNear e rs r from j
+pub far-found : (e : ℕ) (rs r : List ℕ) (from j : ℕ) → FarTo e rs r from j → from ≤ j → j < length rs / length r → apart r (ring_at (length r) rs j) ≤ e → FirstNear e rs r from j
 far-found e rs r from j f o h l = record { on = o; within = omega arith; passed = f; here = λ m. l }
 
 pub far-end : (e : ℕ) (rs r : List ℕ) (from j : ℕ) → FarTo e rs r from j → from ≤ j → j ≤ length rs / length r → length rs / length r ≤ j → FirstNear e rs r from j
@@ -36,14 +36,14 @@ far-end e rs r from j f o h l = record { on = o; within = h; passed = f; here = 
 -- what is told of the part that the code lends, where a turn is given up at one more sector than may be misread, or than there are
 module _ (e : ℕ) (rs r : List ℕ) (j limit : ℕ) (b : Bool) (q : limit ≡ suc (min (length r) e))
     (s : b ≡ ltb (apart r (take (length r * j + length r - length r * j) (drop (length r * j) rs))) limit) where
-  told : b ≡ ltb (apart r (ringAt (length r) rs j)) limit
+  told : b ≡ ltb (apart r (ring_at (length r) rs j)) limit
   told = s ∙ ap (λ (w : List ℕ). ltb (apart r w) limit) (part-ring rs (length r) j (length r * j) (length r * j + length r) refl refl)
 
-  pub part-near : b ≡ true → apart r (ringAt (length r) rs j) ≤ e
-  part-near h = omega (arith, q, ltb-true (apart r (ringAt (length r) rs j)) limit (sym told ∙ h))
+  pub part-near : b ≡ true → apart r (ring_at (length r) rs j) ≤ e
+  part-near h = omega (arith, q, ltb-true (apart r (ring_at (length r) rs j)) limit (sym told ∙ h))
 
-  pub part-far : b ≡ false → e < apart r (ringAt (length r) rs j)
-  part-far h = omega (arith, q, ltb-false (apart r (ringAt (length r) rs j)) limit (sym told ∙ h), apart-le r (ringAt (length r) rs j))
+  pub part-far : b ≡ false → e < apart r (ring_at (length r) rs j)
+  part-far h = omega (arith, q, ltb-false (apart r (ring_at (length r) rs j)) limit (sym told ∙ h), apart-le r (ring_at (length r) rs j))
 
 -- ---- which are near
 
@@ -51,20 +51,20 @@ module _ (e : ℕ) (rs r : List ℕ) where
   abbrev m : ℕ
   m = length rs / length r
 
-  number : length (ringsIn (length r) rs) ≡ m
+  number : length (rings_in (length r) rs) ≡ m
   number = length-first (length r) rs m
 
-  far : (j : ℕ) → j < m → e < apart r (ringAt (length r) rs j) → e < apart r (get_or (ringsIn (length r) rs) j [])
+  far : (j : ℕ) → j < m → e < apart r (ring_at (length r) rs j) → e < apart r (get_or (rings_in (length r) rs) j [])
   far j h l = rw (first-at (length r) rs m j h) l
 
-  close : (j : ℕ) → j < m → apart r (ringAt (length r) rs j) ≤ e → apart r (get_or (ringsIn (length r) rs) j []) ≤ e
+  close : (j : ℕ) → j < m → apart r (ring_at (length r) rs j) ≤ e → apart r (get_or (rings_in (length r) rs) j []) ≤ e
   close j h l = rw (first-at (length r) rs m j h) l
 
-  pub near_none : (x : ℕ) → FirstNear e rs r 0 x → m ≤ x → None e (ringsIn (length r) rs) r
+  pub near_none : (x : ℕ) → FirstNear e rs r 0 x → m ≤ x → None e (rings_in (length r) rs) r
   near_none x f h i l = far i (omega (arith, number)) (f.passed i (omega arith) (omega (arith, number)))
 
   module _ (x y : ℕ) (f : FirstNear e rs r 0 x) (g : FirstNear e rs r (x + 1) y) (h : x < m) where
-    pub near-two : y < m → Two e (ringsIn (length r) rs) r
+    pub near-two : y < m → Two e (rings_in (length r) rs) r
     near-two l =
         record {
           one = x;
@@ -75,7 +75,7 @@ module _ (e : ℕ) (rs r : List ℕ) where
           also-near = close y l (g.here l);
         }
 
-    pub near-one : m ≤ y → Alone e (ringsIn (length r) rs) r x
+    pub near-one : m ≤ y → Alone e (rings_in (length r) rs) r x
     near-one l =
         record {
           inside = omega (arith, number);

@@ -3,7 +3,7 @@
 --     NearSays e ts r a         which of the readings ts are at most e apart from r: none, one, or more
 use Rattle.std.specs.Prelude.{ℕ, ◌/◌, ◌<◌, ◌≤◌, List, length}
 use Rattle.rings.specs.Alike.{apart}
-use Rattle.sight_spec.specs.Rings.{ringAt}
+use Rattle.sight_spec.specs.Rings.{ring_at}
 use Rattle.sight_spec.specs.Says.{Alone, Two, None}
 use Rattle.sight_near_inner.specs.declared.Near.{Near}
 use Rattle.sight_near_inner.specs.declared.Near.TheVariants.{Nobody, One, Many}
@@ -12,8 +12,8 @@ use Rattle.sight_near_inner.specs.declared.Near.TheVariants.{Nobody, One, Many}
 pub record FirstNear (e : ℕ) (rs r : List ℕ) (from x : ℕ) : Type 0 where
   pub on : from ≤ x
   pub within : x ≤ length rs / length r
-  pub passed : (i : ℕ) → from ≤ i → i < x → e < apart r (ringAt (length r) rs i)
-  pub here : x < length rs / length r → apart r (ringAt (length r) rs x) ≤ e
+  pub passed : (i : ℕ) → from ≤ i → i < x → e < apart r (ring_at (length r) rs i)
+  pub here : x < length rs / length r → apart r (ring_at (length r) rs x) ≤ e
 
 -- which of ts are at most e apart from r
 abbrev pub NearSays : ℕ → List (List ℕ) → List ℕ → Near → Type 0

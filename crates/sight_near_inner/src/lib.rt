@@ -1,7 +1,9 @@
 // Which of the rings that lie end to end are near a reading. No public calls.
 
+#![tactic(auto)]
+
 ghost use Rattle.std.specs.Prelude.{◌≡◌, ◌<◌, ◌≤◌, ◌/◌, min, suc, length};
-ghost use Rattle.sight_spec.specs.Rings.{ringsIn};
+ghost use Rattle.sight_spec.specs.Rings.{rings_in};
 ghost use Rattle.sight_near_inner.specs.Says.{FirstNear, NearSays};
 
 // Which of the rings are near a reading: none, the one of this number, or more.
@@ -46,7 +48,7 @@ fn first_near(rings: &[u8], reading: &[u8], from: usize, most: usize) -> usize
 // Which of the rings are near.
 pub fn which_near(rings: &[u8], reading: &[u8], most: usize) -> Near
     requires { (0 < length reading.now) × (length reading.now ≤ 64) }
-    ensures { NearSays most (ringsIn (length reading.now) rings.now) reading.now result }
+    ensures { NearSays most (rings_in (length reading.now) rings.now) reading.now result }
 {
     let m = rings.len() / reading.len();
     let j = first_near(rings, reading, 0, most);

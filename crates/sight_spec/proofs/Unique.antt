@@ -6,7 +6,7 @@ use Rattle.words.proofs.Split.{lt, eq, gt, tri}
 use Rattle.refusal.specs.{declared.Refusal.Refusal, Order.Given, Order.Passed}
 use Rattle.refusal.proofs.Unique.{one-refusal, never_both}
 use Rattle.guard_spec.specs.Sides.{sides}
-use Rattle.sight_spec.specs.{declared.Sighting.Sighting, Rings.ringsIn, Rings.sightOrder}
+use Rattle.sight_spec.specs.{declared.Sighting.Sighting, Rings.rings_in, Rings.sight_order}
 use Rattle.sight_spec.specs.declared.Sighting.TheVariants.{Front, Back, Several, Unknown, Refused}
 use Rattle.sight_spec.specs.Says.{Alone, Two, None, SeenFront, SeenBack, SightSays}
 
@@ -41,7 +41,7 @@ module _ (e : ℕ) (us : List (List ℕ)) (r : List ℕ) where
 
 module _ (rs r : List ℕ) (k e : ℕ) where
   abbrev ts : List (List ℕ)
-  ts = ringsIn (length r) rs
+  ts = rings_in (length r) rs
 
   same-front : (t s i j x y : ℕ) → SeenFront rs r e t i x → SeenFront rs r e s j y → Front t i x ≡ Front s j y
   same-front t s i j x y p q = let f = one-alone e (sides ts) r t s p.alone q.alone in cc (f, p.turned, q.turned, p.misread, q.misread)
@@ -56,8 +56,8 @@ module _ (rs r : List ℕ) (k e : ℕ) where
   not-both : (t s i j x y : ℕ) → SeenFront rs r e t i x → SeenBack rs r e s j y → ⊥
   not-both t s i j x y p q = omega (arith, p.target, one-alone e (sides ts) r t (length ts + s) p.alone q.alone)
 
-  refused-not : (q : Refusal) → Given (sightOrder r rs k) q → Passed (sightOrder r rs k) → ⊥
-  refused-not q = never_both (sightOrder r rs k) q
+  refused-not : (q : Refusal) → Given (sight_order r rs k) q → Passed (sight_order r rs k) → ⊥
+  refused-not q = never_both (sight_order r rs k) q
 
   -- the call has one answer
   pub one-sight : (a b : Sighting) → SightSays rs r k e a → SightSays rs r k e b → a ≡ b
@@ -85,4 +85,4 @@ module _ (rs r : List ℕ) (k e : ℕ) where
   one-sight (Refused b) (Back s j y) p q = absurd (refused-not b p q.0)
   one-sight (Refused b) Several p q = absurd (refused-not b p q.0)
   one-sight (Refused b) Unknown p q = absurd (refused-not b p q.0)
-  one-sight (Refused b) (Refused c) p q = ap Refused (one-refusal (sightOrder r rs k) b c p q)
+  one-sight (Refused b) (Refused c) p q = ap Refused (one-refusal (sight_order r rs k) b c p q)

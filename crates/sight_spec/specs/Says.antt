@@ -8,11 +8,11 @@
 use Rattle.std.specs.Prelude.{ℕ, ◌+◌, ◌<◌, ◌≤◌, ◌≡◌, List, [], reverse, length, get_or}
 use Rattle.rings.specs.Alike.{apart, mirrored}
 use Rattle.refusal.specs.Order.{Given, Passed}
-use Rattle.home_spec.specs.Turns.{nearestTurn}
+use Rattle.home_spec.specs.Turns.{nearest_turn}
 use Rattle.guard_spec.specs.Sides.{sides}
 use Rattle.sight_spec.specs.declared.Sighting.{Sighting}
 use Rattle.sight_spec.specs.declared.Sighting.TheVariants.{Front, Back, Several, Unknown, Refused}
-use Rattle.sight_spec.specs.Rings.{ringAt, ringsIn, sightOrder}
+use Rattle.sight_spec.specs.Rings.{ring_at, rings_in, sight_order}
 
 -- of us the one number j, and no other, is at most e apart from r
 pub record Alone (e : ℕ) (us : List (List ℕ)) (r : List ℕ) (j : ℕ) : Type 0 where
@@ -35,30 +35,30 @@ None e us r = (i : ℕ) → i < length us → e < apart r (get_or us i [])
 
 -- the ring number t is seen from the front
 pub record SeenFront (rs r : List ℕ) (e t i x : ℕ) : Type 0 where
-  pub target : t < length (ringsIn (length r) rs)
-  pub alone : Alone e (sides (ringsIn (length r) rs)) r t
-  pub turned : i ≡ nearestTurn r (ringAt (length r) rs t)
-  pub misread : x ≡ apart r (ringAt (length r) rs t)
+  pub target : t < length (rings_in (length r) rs)
+  pub alone : Alone e (sides (rings_in (length r) rs)) r t
+  pub turned : i ≡ nearest_turn r (ring_at (length r) rs t)
+  pub misread : x ≡ apart r (ring_at (length r) rs t)
 
 -- the ring number t is seen from behind: its other side stands behind all rings
 pub record SeenBack (rs r : List ℕ) (e t i x : ℕ) : Type 0 where
-  pub target : t < length (ringsIn (length r) rs)
-  pub alone : Alone e (sides (ringsIn (length r) rs)) r (length (ringsIn (length r) rs) + t)
-  pub turned : i ≡ nearestTurn (reverse r) (ringAt (length r) rs t)
-  pub misread : x ≡ apart r (mirrored (ringAt (length r) rs t))
+  pub target : t < length (rings_in (length r) rs)
+  pub alone : Alone e (sides (rings_in (length r) rs)) r (length (rings_in (length r) rs) + t)
+  pub turned : i ≡ nearest_turn (reverse r) (ring_at (length r) rs t)
+  pub misread : x ≡ apart r (mirrored (ring_at (length r) rs t))
 
 -- what is seen
 abbrev pub Seen : List ℕ → List ℕ → ℕ → Sighting → Type 0
 Seen rs r e (Front t i x) = SeenFront rs r e t i x
 Seen rs r e (Back t i x) = SeenBack rs r e t i x
-Seen rs r e Several = Two e (sides (ringsIn (length r) rs)) r
-Seen rs r e Unknown = None e (sides (ringsIn (length r) rs)) r
+Seen rs r e Several = Two e (sides (rings_in (length r) rs)) r
+Seen rs r e Unknown = None e (sides (rings_in (length r) rs)) r
 Seen rs r e (Refused q) = ⊥
 
 -- where no check fails, what is seen
 abbrev pub SightSays : List ℕ → List ℕ → ℕ → ℕ → Sighting → Type 0
-SightSays rs r k e (Front t i x) = Passed (sightOrder r rs k) × Seen rs r e (Front t i x)
-SightSays rs r k e (Back t i x) = Passed (sightOrder r rs k) × Seen rs r e (Back t i x)
-SightSays rs r k e Several = Passed (sightOrder r rs k) × Seen rs r e Several
-SightSays rs r k e Unknown = Passed (sightOrder r rs k) × Seen rs r e Unknown
-SightSays rs r k e (Refused q) = Given (sightOrder r rs k) q
+SightSays rs r k e (Front t i x) = Passed (sight_order r rs k) × Seen rs r e (Front t i x)
+SightSays rs r k e (Back t i x) = Passed (sight_order r rs k) × Seen rs r e (Back t i x)
+SightSays rs r k e Several = Passed (sight_order r rs k) × Seen rs r e Several
+SightSays rs r k e Unknown = Passed (sight_order r rs k) × Seen rs r e Unknown
+SightSays rs r k e (Refused q) = Given (sight_order r rs k) q

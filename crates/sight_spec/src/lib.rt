@@ -1,5 +1,7 @@
 // What looking for a reading among the rings of a set answers. No functions: the call is `sight`'s.
 
+#![tactic(auto)]
+
 use refusal::Refusal;
 
 // The one ring that is seen, from the front or from behind: its number in the set, how many turns bring the reading, or the reading reversed where it is seen from behind, to it,

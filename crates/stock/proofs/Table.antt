@@ -3,7 +3,7 @@ use Rattle.words.proofs.Plain.{ℕ, ◌<◌, arith, ◌≡◌, refl, ◌∙◌, 
 use Rattle.words.specs.Search.{all_below}
 use Rattle.words.proofs.Search.{all-at}
 use Rattle.rings.specs.Open.{open-all}
-use Rattle.stock_spec.specs.Stock.{bits, byteOfSectors, homeByte}
+use Rattle.stock_spec.specs.Stock.{bits, byte_of_sectors, home_byte}
 use Rattle.stock_spec.proofs.Bits.{home-d0}
 
 -- the table of src/lib.rt
@@ -28,18 +28,18 @@ homes =
 
 -- entry b is the home reading of the byte b
 right : ℕ → Bool
-right b = eqb (get_or homes b 0) (homeByte b)
+right b = eqb (get_or homes b 0) (home_byte b)
 
 -- the test passes at every byte
 all_right : all_below 256 right ≡ true
-unfolding homes right homeByte bits byteOfSectors open-all
+unfolding homes right home_byte bits byte_of_sectors open-all
 all_right = refl
 
 -- so each entry follows the rule
-pub entry : (b : ℕ) → b < 256 → get_or homes b 0 ≡ homeByte b
+pub entry : (b : ℕ) → b < 256 → get_or homes b 0 ≡ home_byte b
 unfolding right
-entry b h = eqb-true (get_or homes b 0) (homeByte b) (all-at 256 right all_right b h)
+entry b h = eqb-true (get_or homes b 0) (home_byte b) (all-at 256 right all_right b h)
 
 -- entry D0 is 0D (hexadecimal)
-pub entry-d0 : get_or homes 0xD0 0 ≡ 0x0D
-entry-d0 = entry 0xD0 (omega arith) ∙ home-d0
+pub entry-d0 : get_or homes 0x_d0 0 ≡ 0x0_d
+entry-d0 = entry 0x_d0 (omega arith) ∙ home-d0

@@ -1,6 +1,9 @@
 // The stock targets (01, 'Stock table'): 8 sectors of 2 shades, kept as a byte with the first sector in the highest bit.
+
+#![tactic(auto)]
+
 ghost use Rattle.std.specs.Prelude.{◌≡◌};
-ghost use Rattle.stock_spec.specs.Stock.{homeByte};
+ghost use Rattle.stock_spec.specs.Stock.{home_byte};
 
 // the home reading of each byte
 const HOMES: [u8; 256] = [
@@ -19,7 +22,7 @@ const HOMES: [u8; 256] = [
 
 // The home reading of a stock target.
 pub fn stock_home(b: u8) -> u8
-    ensures { result ≡ homeByte b }
+    ensures { result ≡ home_byte b }
 {
     HOMES[b as usize]
 }

@@ -5,12 +5,12 @@
 --     home-kept            so the table's byte is the home reading, with nothing lost
 --     home-d0              the home reading of D0 is 0D (hexadecimal)
 use Rattle.words.proofs.Plain.{ℕ, zero, suc, ◌+◌, ◌*◌, ◌/◌, ◌%◌, ◌^◌, ◌<◌, ◌≤◌, arith, dec_lt, ◌≡◌, refl, ap, ◌∙◌, List, [], ◌∷◌, ◌++◌, eqb, length, get_or, take}
-use Rattle.words.proofs.Plain.{drop, length-append, length-take, length-drop, List·getD-eq-default, get_or-take, get_or-drop, eqb-true}
+use Rattle.words.proofs.Plain.{drop, length-append, length-take, length-drop, List·get_d-eq-default, get_or-take, get_or-drop, eqb-true}
 use native.Mathlib.Nat.{mod-lt, mul-add-div_right, mul-add-mod_self_right, pow-succ', mul_assoc, one-le-pow, div-eq_of_lt, mod-eq_of_lt, mul-le-mul_right, add-zero}
 use Rattle.words.specs.{Readings.Reading, Search.all_below, Turn.turn}
 use Rattle.words.proofs.Search.{all-at}
 use Rattle.rings.specs.{Home.home, Home.shift, Open.open-all}
-use Rattle.stock_spec.specs.Stock.{bits, bits_of, byteOfSectors, homeByte}
+use Rattle.stock_spec.specs.Stock.{bits, bits_of, byte_of_sectors, home_byte}
 
 -- each sector, and what is read past the end, is 0 or 1
 abbrev pub Bitwise : List ℕ → Type 0
@@ -36,9 +36,9 @@ pub bits-reading : (b : ℕ) → Reading 8 2 (bits_of b)
 bits-reading b = record { long = length-bits 8 b; shades = λ i h. bits-bitwise 8 b i }
 
 -- a byte is kept by its reading: one test at each of the 256
-pub byte-of-bits : (b : ℕ) → b < 256 → byteOfSectors (bits_of b) ≡ b
-unfolding bits byteOfSectors all_below
-byte-of-bits b h = eqb-true (byteOfSectors (bits_of b)) b (all-at 256 (λ i. eqb (byteOfSectors (bits_of i)) i) refl b h)
+pub byte-of-bits : (b : ℕ) → b < 256 → byte_of_sectors (bits_of b) ≡ b
+unfolding bits byte_of_sectors all_below
+byte-of-bits b h = eqb-true (byte_of_sectors (bits_of b)) b (all-at 256 (λ i. eqb (byte_of_sectors (bits_of i)) i) refl b h)
 
 -- ---- the byte of a reading
 
@@ -53,22 +53,22 @@ bits-high (suc n) x b =
     rw (e, d, bits-high n (x * 2) b)
 
 -- w fits into as many bits as it has sectors
-byte-lt : (w : List ℕ) → Bitwise w → byteOfSectors w < 2 ^ length w
-unfolding byteOfSectors
+byte-lt : (w : List ℕ) → Bitwise w → byte_of_sectors w < 2 ^ length w
+unfolding byte_of_sectors
 byte-lt [] h = omega arith
 byte-lt (a ∷ w) h =
     let l : a ≤ 1 = omega (arith, h 0) in
     rw (pow-succ' 2 (length w)) (omega (arith, mul-le-mul_right (2 ^ length w) l, byte-lt w (λ i. h (suc i))))
 
 -- a reading of 2 shades is kept by its byte
-pub bits-of-byte : (w : List ℕ) → Bitwise w → bits (length w) (byteOfSectors w) ≡ w
-unfolding bits byteOfSectors
+pub bits-of-byte : (w : List ℕ) → Bitwise w → bits (length w) (byte_of_sectors w) ≡ w
+unfolding bits byte_of_sectors
 bits-of-byte [] h = refl
 bits-of-byte (a ∷ w) h =
     let l = byte-lt w (λ i. h (suc i)) in
-    let d : (a * 2 ^ length w + byteOfSectors w) / 2 ^ length w ≡ a =
-    mul-add-div_right (one-le-pow (length w) 2 (omega arith)) a (byteOfSectors w) ∙ ap (λ (q : ℕ). a + q) (div-eq_of_lt l) ∙ add-zero a in
-    rw (d, mod-eq_of_lt (h 0), bits-high (length w) a (byteOfSectors w), bits-of-byte w (λ i. h (suc i)))
+    let d : (a * 2 ^ length w + byte_of_sectors w) / 2 ^ length w ≡ a =
+    mul-add-div_right (one-le-pow (length w) 2 (omega arith)) a (byte_of_sectors w) ∙ ap (λ (q : ℕ). a + q) (div-eq_of_lt l) ∙ add-zero a in
+    rw (d, mod-eq_of_lt (h 0), bits-high (length w) a (byte_of_sectors w), bits-of-byte w (λ i. h (suc i)))
 
 -- ---- the home reading
 
@@ -85,7 +85,7 @@ turn-bitwise i w p =
     append-bitwise (drop i w) (take i w) (λ j. rw (get_or-drop i w j 0) (p (i + j))) (λ j. front j)
   where
     front : (j : ℕ) → get_or (take i w) j 0 < 2
-    front j = elim (dec_lt j i) [ yes h ↦ rw (get_or-take i w j 0 h) (p j) | no h ↦ rw (List·getD-eq-default (take i w) 0 {n = j} (simp length-take (omega arith))) (omega arith) ]
+    front j = elim (dec_lt j i) [ yes h ↦ rw (get_or-take i w j 0 h) (p j) | no h ↦ rw (List·get_d-eq-default (take i w) 0 {n = j} (simp length-take (omega arith))) (omega arith) ]
 
 -- a turn is as long
 length-turn : (i : ℕ) (w : List ℕ) → length (turn i w) ≡ length w
@@ -93,14 +93,14 @@ unfolding turn
 length-turn i w = simp (length-append, length-drop, length-take) (omega arith)
 
 -- the byte of the home reading keeps the home reading
-pub home-kept : (b : ℕ) → bits_of (homeByte b) ≡ home (bits_of b)
-unfolding homeByte home
+pub home-kept : (b : ℕ) → bits_of (home_byte b) ≡ home (bits_of b)
+unfolding home_byte home
 home-kept b =
     let w = turn (shift (bits_of b)) (bits_of b) in
     let l : length w ≡ 8 = length-turn (shift (bits_of b)) (bits_of b) ∙ length-bits 8 b in
     rw l at (bits-of-byte w (turn-bitwise (shift (bits_of b)) (bits_of b) (bits-bitwise 8 b)))
 
 -- the home reading of D0 is 0D (hexadecimal)
-pub home-d0 : homeByte 0xD0 ≡ 0x0D
-unfolding homeByte bits byteOfSectors open-all
+pub home-d0 : home_byte 0x_d0 ≡ 0x0_d
+unfolding home_byte bits byte_of_sectors open-all
 home-d0 = refl

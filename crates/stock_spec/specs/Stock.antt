@@ -1,9 +1,9 @@
 -- Stock targets (01, 'Stock table'): 8 sectors of 2 shades, kept as a byte with the first sector in the highest bit.
 --     bits n b      the n lowest bits of b, the highest first
 --     bits_of b      the reading that the byte b keeps
---     byteOfSectors w      the byte that keeps the reading w
---     homeByte b    the byte that keeps the home reading of b's reading; `home` is that of rings, for readings of any length and shades
--- That bits_of and byteOfSectors undo each other, and that nothing of the home reading is lost in its byte: proofs/Bits.
+--     byte_of_sectors w      the byte that keeps the reading w
+--     home_byte b    the byte that keeps the home reading of b's reading; `home` is that of rings, for readings of any length and shades
+-- That bits_of and byte_of_sectors undo each other, and that nothing of the home reading is lost in its byte: proofs/Bits.
 use Rattle.std.specs.Prelude.{ℕ, zero, suc, ◌+◌, ◌*◌, ◌/◌, ◌%◌, ◌^◌, List, [], ◌∷◌, length}
 use Rattle.rings.specs.Home.{home}
 
@@ -14,9 +14,9 @@ bits (suc n) b = (b / 2 ^ n % 2) ∷ bits n b
 abbrev pub bits_of : ℕ → List ℕ
 bits_of b = bits 8 b
 
-unfoldable pub byteOfSectors : List ℕ → ℕ
-byteOfSectors [] = 0
-byteOfSectors (a ∷ w) = a * 2 ^ length w + byteOfSectors w
+unfoldable pub byte_of_sectors : List ℕ → ℕ
+byte_of_sectors [] = 0
+byte_of_sectors (a ∷ w) = a * 2 ^ length w + byte_of_sectors w
 
-unfoldable pub homeByte : ℕ → ℕ
-homeByte b = byteOfSectors (home (bits_of b))
+unfoldable pub home_byte : ℕ → ℕ
+home_byte b = byte_of_sectors (home (bits_of b))

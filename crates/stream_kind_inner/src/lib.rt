@@ -1,7 +1,9 @@
 // The programs that answer each line of their input by a text: which there are, how many bytes of a line tell, and how many are read at a time. No public calls.
 
+#![tactic(auto)]
+
 ghost use Rattle.std.specs.Prelude.{◌*◌, ◌≤◌, ◌≡◌};
-ghost use Rattle.stream_kind_inner.specs.Says.{most_of, roomOf};
+ghost use Rattle.stream_kind_inner.specs.Says.{most_of, room_of};
 
 // Which program.
 #[derive(Drop)]
@@ -22,7 +24,7 @@ pub fn kept_bytes(kind: Kind) -> usize
 
 // How many bytes are read at a time: a buffer of 1,048,576 bytes has room for the text of a line for each of them.
 pub fn block_length(kind: Kind) -> usize
-    ensures { (1 ≤ result) × (result ≤ 2048) × (result * roomOf kind ≤ 1048576) }
+    ensures { (1 ≤ result) × (result ≤ 2048) × (result * room_of kind ≤ 1048576) }
 {
     match kind {
         Kind::Count => 2048,

@@ -8,14 +8,14 @@
 use Rattle.std.specs.Prelude.{ℕ, suc, ◌*◌, ◌<◌, ◌≤◌, ◌≡◌, List, [], length, take}
 use Rattle.stream_spec.specs.Blocks.{BlockSays, EndSays}
 use Rattle.stream_kind_inner.specs.declared.Kind.{Kind}
-use Rattle.stream_kind_inner.specs.Says.{Said, most_of, roomOf}
+use Rattle.stream_kind_inner.specs.Says.{Said, most_of, room_of}
 use Rattle.program_reading_inner.specs.Says.{GotSays}
 use Rattle.program_reading_inner.specs.declared.Got.{Got}
 use Rattle.program_reading_inner.specs.declared.Got.TheVariants.{Bytes, Over, Failed}
 
 pub record RoomForRead (kind : Kind) (got : Got) (s b : List ℕ) : Type 0 where
   pub some : 0 < length s
-  pub room : length s * roomOf kind ≤ length b
+  pub room : length s * room_of kind ≤ length b
   pub inside : GotSays got s
 
 abbrev pub BehindRead : Kind → Got → List ℕ → List ℕ → List ℕ → List ℕ → ℕ → List ℕ → Type 0

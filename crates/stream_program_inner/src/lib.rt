@@ -1,8 +1,10 @@
 // A program that answers each line of standard input by a text on standard output, as soon as it is there: it reads what there is, has the lines that end in it
 // answered, writes their texts, and again. No public calls: no contract can say what is read or written.
 
+#![tactic(auto)]
+
 ghost use Rattle.std.specs.Prelude.{◌*◌, ◌≤◌, ◌<◌, ◌≡◌, false, length, take};
-ghost use Rattle.stream_kind_inner.specs.Says.{most_of, roomOf};
+ghost use Rattle.stream_kind_inner.specs.Says.{most_of, room_of};
 ghost use Rattle.stream_steps_inner.specs.Says.{GoesOn};
 ghost use Rattle.stream_program_inner.specs.Says.{RoomForRead, BehindRead, ReadAnswered, PumpSays};
 
@@ -57,7 +59,7 @@ fn place_turn(
 fn turn(kind: Kind, block: &mut [u8], line: &mut [u8], len: usize, buf: &mut [u8]) -> Turned
     requires line_len { length line.old ≡ most_of kind }
     requires len_in_bounds { len ≤ length line.old }
-    requires block_nonzero { (0 < length block.old) × (length block.old * roomOf kind ≤ length buf.old) }
+    requires block_nonzero { (0 < length block.old) × (length block.old * room_of kind ≤ length buf.old) }
     ensures len_in_bounds_2 { result.len ≤ length line.new }
     ensures read_answered { ReadAnswered kind result.got (take len line.old) block.new buf.old (take result.len line.new) buf.new }
 {
@@ -75,7 +77,7 @@ fn turn(kind: Kind, block: &mut [u8], line: &mut [u8], len: usize, buf: &mut [u8
 // Turn after turn, each with what the one before it left of the line under way.
 fn pump(kind: Kind, block: &mut [u8], line: &mut [u8], buf: &mut [u8]) -> Stopped
     requires line_len { length line.old ≡ most_of kind }
-    requires block_nonzero { (0 < length block.old) × (length block.old * roomOf kind ≤ length buf.old) }
+    requires block_nonzero { (0 < length block.old) × (length block.old * room_of kind ≤ length buf.old) }
     ensures goes_on { GoesOn result.wrote result.got result.reads false }
     ensures pump_says { PumpSays kind result.got result.reads block.new buf.new }
 {

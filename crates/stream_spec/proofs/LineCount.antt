@@ -7,7 +7,7 @@ use Rattle.words.specs.Readings.{bit}
 use Rattle.words.proofs.Split.{passes, fails, test}
 use Rattle.text_spec.specs.Ascii.{newline}
 use Rattle.stream_spec.specs.Lines.{ended, under, last_of, lines_from, lines}
-use Rattle.stream_spec.specs.LineCount.{newlines, endsOpen}
+use Rattle.stream_spec.specs.LineCount.{newlines, ends_open}
 use Rattle.stream_spec.proofs.Bytes.{ended-newline, ended-other, under-newline, under-other, ended-none, under_none}
 
 -- as many lines end as there are newlines
@@ -31,8 +31,8 @@ unfolding last_of
 last_none = refl
 
 -- a line is under way exactly where bytes follow the last newline
-pub open-last : (u : List ℕ) (b : ℕ) (s : List ℕ) → length (last_of (under u (b ∷ s))) ≡ bit (endsOpen (b ∷ s))
-unfolding endsOpen
+pub open-last : (u : List ℕ) (b : ℕ) (s : List ℕ) → length (last_of (under u (b ∷ s))) ≡ bit (ends_open (b ∷ s))
+unfolding ends_open
 open-last u b [] =
     elim (test (eqb b newline)) [
       | passes e ↦ rw (under-newline u b [] e, under_none [], e) last_none
@@ -45,12 +45,12 @@ open-last u b (c ∷ s) =
     ]
 
 -- an input of no bytes has no line
-none-counted : length (last_of []) ≡ newlines [] + bit (endsOpen [])
-unfolding last_of newlines endsOpen
+none-counted : length (last_of []) ≡ newlines [] + bit (ends_open [])
+unfolding last_of newlines ends_open
 none-counted = refl
 
 -- how many lines there are
-pub lines-count : (s : List ℕ) → length (lines s) ≡ newlines s + bit (endsOpen s)
+pub lines-count : (s : List ℕ) → length (lines s) ≡ newlines s + bit (ends_open s)
 unfolding lines lines_from
 lines-count [] = rw (ended-none [], under_none []) none-counted
 lines-count (b ∷ s) = rw length-append (omega (arith, ended-count [] (b ∷ s), open-last [] b s))

@@ -1,5 +1,7 @@
 // The steps of a program that answers lines which place no text: a byte more of the line under way, a read that failed, whether another follows. No public calls.
 
+#![tactic(auto)]
+
 ghost use Rattle.std.specs.Prelude.{◌≤◌, ◌≡◌, length};
 ghost use Rattle.stream_steps_inner.specs.Says.{HeldSays, GoesOn};
 

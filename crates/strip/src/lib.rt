@@ -1,7 +1,9 @@
 // The strip along the frame (02, request l): writing it, and telling the place of n neighbouring sectors.
 
+#![tactic(auto)]
+
 ghost use Rattle.std.specs.Prelude.{◌^◌, ◌≡◌, length};
-ghost use Rattle.refusal.specs.Calls.{oneReading};
+ghost use Rattle.refusal.specs.Calls.{one_reading};
 ghost use Rattle.refusal.specs.Order.{Passed};
 ghost use Rattle.limits_spec.specs.Limits.{Listable};
 ghost use Rattle.strip_spec.specs.Strip.{strip};
@@ -39,7 +41,7 @@ pub fn write_strip(n: usize, k: usize, out: &mut [u8]) -> Written
 
 // The place of the reading on its strip, which is written into the lent bytes first.
 fn place_on(reading: &[u8], k: usize, sectors: &mut [u8]) -> usize
-    requires passed { Passed (oneReading reading.now k) }
+    requires passed { Passed (one_reading reading.now k) }
     requires listable { Listable 4096 k (length reading.now) }
     requires sectors_len { length sectors.old ≡ k ^ length reading.now }
     ensures { OnePlace (strip (length reading.now) k) reading.now result }
@@ -50,7 +52,7 @@ fn place_on(reading: &[u8], k: usize, sectors: &mut [u8]) -> usize
 
 // The reading passed 1, 2, 3: 12, and then the place.
 fn place_good(reading: &[u8], k: usize) -> Position
-    requires { Passed (oneReading reading.now k) }
+    requires { Passed (one_reading reading.now k) }
     ensures { PlaceSays reading.now k result }
 {
     let n = reading.len();

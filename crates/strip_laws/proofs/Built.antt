@@ -4,11 +4,11 @@
 --     Built n t z x s        s is the strip from the necklace x on, and each turn of each necklace from x on, but for the last, is found in it
 --     join, finish, build    a necklace in front; the last but one; the whole walk
 use Rattle.words.proofs.Plain.{ℕ, suc, ◌+◌, ◌-◌, ◌≤◌, ◌<◌, arith, dec_lt, ◌≡◌, refl, sym, ap, ◌∙◌, true, none, some, List, [], ◌∷◌, ◌++◌, map, length}
-use Rattle.words.proofs.Plain.{length-append, List·getD-append, get_or-take, get_or-append-add}
+use Rattle.words.proofs.Plain.{length-append, List·get_d-append, get_or-take, get_or-append-add}
 use Rattle.words.specs.{Search.tab, Order.before, Order.up_to, Readings.Reading}
-use Rattle.words.proofs.{Split.both, Split.clash, Search.length-tab, Search.getD-tab, Readings.nothing-first}
+use Rattle.words.proofs.{Split.both, Split.clash, Search.length-tab, Search.get_d-tab, Readings.nothing-first}
 use Rattle.words.proofs.Sequence.{sec, Less, recast, place}
-use Rattle.words.proofs.Lex.{ahead, equal, behind, lex, before-less, less-before, before-not-upTo, upTo-not-before}
+use Rattle.words.proofs.Lex.{ahead, equal, behind, lex, before-less, less-before, before-not-up_to, up_to-not-before}
 use Rattle.rings.specs.Necklace.{necklace, period}
 use Rattle.rings.specs.Steps.{above_of, next_of, FullWalk, done, step}
 use Rattle.ring_laws.proofs.{Run.Lyn, Run.lyn-through, Repeat.Turned, Repeat.Neck, Lyndon.lyndon-of, Classes.lyndon-necklace}
@@ -26,8 +26,8 @@ module _ (n t : ℕ) (z : 0 < n) where
   -- a Lyndon sequence of n is a necklace
   of-seq : (g : ℕ → ℕ) → Lyn g n → ((h : ℕ) → h < n → g h ≤ t) → Ring n (suc t) (tab n g)
   of-seq g l b = (
-    record { long = length-tab n g; shades = λ i h. rw (getD-tab n g i 0 h) (omega (arith, b i h)) },
-    lyndon-necklace (tab n g) (lyndon-of (tab n g) (omega (arith, length-tab n g)) (rw (length-tab n g) (lyn-through g (sec (tab n g)) n (λ m q. sym (getD-tab n g m 0 q)) l))),
+    record { long = length-tab n g; shades = λ i h. rw (get_d-tab n g i 0 h) (omega (arith, b i h)) },
+    lyndon-necklace (tab n g) (lyndon-of (tab n g) (omega (arith, length-tab n g)) (rw (length-tab n g) (lyn-through g (sec (tab n g)) n (λ m q. sym (get_d-tab n g m 0 q)) l))),
   )
 
   -- the ring of only t
@@ -36,7 +36,7 @@ module _ (n t : ℕ) (z : 0 < n) where
 
   top-at : (h : ℕ) → h < n → sec top h ≡ t
   unfolding top
-  top-at h b = getD-tab n (λ i. t) h 0 b
+  top-at h b = get_d-tab n (λ i. t) h 0 b
 
   top-long : length top ≡ n
   unfolding top
@@ -107,9 +107,9 @@ module _ (n t : ℕ) (z : 0 < n) where
             let v = of-seq g y b in
             let long = length-tab n g in
             clash (before (tab n g) u)
-            (less-before (tab n g) u (long ∙ sym after.0.long) (rw after.0.long (recast g (sec u) (sec (tab n g)) (sec u) n (λ m s. sym (getD-tab n g m 0 s)) (λ m s. refl) q)))
-            (upTo-not-before (tab n g) u (no_lower (tab n g) v (less-before x (tab n g) (r.0.long ∙ sym long)
-            (rw long (recast (sec x) g (sec x) (sec (tab n g)) n (λ m s. refl) (λ m s. sym (getD-tab n g m 0 s)) p)))))
+            (less-before (tab n g) u (long ∙ sym after.0.long) (rw after.0.long (recast g (sec u) (sec (tab n g)) (sec u) n (λ m s. sym (get_d-tab n g m 0 s)) (λ m s. refl) q)))
+            (up_to-not-before (tab n g) u (no_lower (tab n g) v (less-before x (tab n g) (r.0.long ∙ sym long)
+            (rw long (recast (sec x) g (sec x) (sec (tab n g)) n (λ m s. refl) (λ m s. sym (get_d-tab n g m 0 s)) p)))))
 
         only : (q : ℕ) → d.at < q → q < n → sec x q ≡ t
         only = tops n t (sec x) (sec u) (rw r.0.long at (pre-of x (necklace-prenecklace x r.1))) (λ h b. omega (arith, r.0.shades h b)) d no_one
@@ -131,7 +131,7 @@ module _ (n t : ℕ) (z : 0 < n) where
     long = length-append (root x) r ∙ ap (λ (i : ℕ). i + length r) (length-root x y)
 
     laid : (h : ℕ) → h < period x → sec (root x ++ r) h ≡ sec x h
-    laid h q = List·getD-append (root x) r 0 h (omega (arith, length-root x y)) ∙ get_or-take (period x) x h 0 q
+    laid h q = List·get_d-append (root x) r 0 h (omega (arith, length-root x y)) ∙ get_or-take (period x) x h 0 q
 
     rest : (i h : ℕ) → period x + h ≡ i → sec (root x ++ r) i ≡ sec r h
     rest i h q = place (sec (root x ++ r)) i (length (root x) + h) (omega (arith, length-root x y)) ∙ get_or-append-add (root x) r h 0
@@ -153,7 +153,7 @@ module _ (n t : ℕ) (z : 0 < n) where
           elim (lex x v) [
             | equal m ↦ new g (laid x s y) (rest x s y) c.tail (length (root x ++ s)) k j i (rw (← m) at b) (rw (← m) at tu)
             | ahead m ↦ keep g (laid x s y) (rest x s y) c.tail (length (root x ++ s)) k (c.find v q o (no_lower x u r e v q m) w j i b tu)
-            | behind m ↦ clash (up_to x v) h (before-not-upTo x v m)
+            | behind m ↦ clash (up_to x v) h (before-not-up_to x v m)
           ]
 
   -- the last necklace but one, and the last
@@ -205,7 +205,7 @@ module _ (n t : ℕ) (z : 0 < n) where
           elim (lex x v) [
             | equal d ↦ new-last big only begin j i (rw (← d) at tu)
             | ahead d ↦ absurd (beyond (no_lower x u r e v q d))
-            | behind d ↦ clash (up_to x v) h (before-not-upTo x v d)
+            | behind d ↦ clash (up_to x v) h (before-not-up_to x v d)
           ]
         where
           beyond : up_to u v ≡ true → ⊥
@@ -213,7 +213,7 @@ module _ (n t : ℕ) (z : 0 < n) where
               elim (lex u v) [
                 | equal d ↦ omega (arith, f, o 0 z, ap (λ (y : List ℕ). sec y 0) d)
                 | ahead d ↦ none_above u v ur.0 o q.0 d
-                | behind d ↦ clash (up_to u v) k (before-not-upTo u v d)
+                | behind d ↦ clash (up_to u v) k (before-not-up_to u v d)
               ]
 
   -- a walk that stands at a ring of only t has come to its end

@@ -5,7 +5,7 @@
 use Rattle.words.proofs.Plain.{ℕ, suc, ◌+◌, ◌-◌, ◌%◌, ◌≤◌, ◌<◌, arith, dec_lt, ◌≡◌, refl, sym, ap, subst, ◌∙◌, true, List, length, get_or, ext_get_or}
 use native.Mathlib.Nat.{mod-eq_of_lt, add-mod_left}
 use Rattle.words.specs.{Search.tab, Order.up_to, Turn.turn, Readings.Reading}
-use Rattle.words.proofs.{Search.length-tab, Search.getD-tab, Sequence.sec, Lex.not-less-upTo}
+use Rattle.words.proofs.{Search.length-tab, Search.get_d-tab, Sequence.sec, Lex.not-less-up_to}
 use Rattle.rings.specs.{Necklace.necklace, Necklace.period, Home.home}
 use Rattle.ring_laws.proofs.{Repeat.Turned, Words.turned}
 use Rattle.ring_laws.proofs.FullWalk.{zeros, zeros-at, zeros-reading, zeros-necklace, length-zeros, walk-exists}
@@ -27,7 +27,7 @@ module _ (n t : ℕ) (z : 0 < n) (y : 0 < t) where
 
   -- nothing is below the all-zero ring
   first : (v : List ℕ) → Reading n (suc t) v → up_to (zeros n) v ≡ true
-  first v r = not-less-upTo (zeros n) v (length-zeros n ∙ sym r.long) (λ l. omega (arith, l.less, zeros-at n l.at))
+  first v r = not-less-up_to (zeros n) v (length-zeros n ∙ sym r.long) (λ l. omega (arith, l.less, zeros-at n l.at))
 
   pub found : (w : List ℕ) → Reading n (suc t) w → Found n t (sec (zeros n)) (sec (strip n (suc t))) (length (strip n (suc t))) (sec w)
   found w r =
@@ -76,7 +76,7 @@ module _ (n t : ℕ) (z : 0 < n) (y : 0 < t) where
       eq-by : (p : ℕ) → ((h : ℕ) → h < n → sec w h ≡ sec s ((p + h) % length s)) → tab n (λ h. get_or s ((p + h) % length s) 0) ≡ w
       eq-by p f =
           let long = length-tab n (λ h. get_or s ((p + h) % length s) 0) in
-          ext_get_or 0 (tab n (λ h. get_or s ((p + h) % length s) 0)) w (long ∙ sym r.long) (λ i h. getD-tab n (λ h. get_or s ((p + h) % length s) 0) i 0 (rw long at h) ∙ sym (f i (rw long at h)))
+          ext_get_or 0 (tab n (λ h. get_or s ((p + h) % length s) 0)) w (long ∙ sym r.long) (λ i h. get_d-tab n (λ h. get_or s ((p + h) % length s) 0) i 0 (rw long at h) ∙ sym (f i (rw long at h)))
 
       go : Found n t (sec (zeros n)) (sec s) (length s) (sec w) → (p : ℕ) × (p < length s) × (tab n (λ h. get_or s ((p + h) % length s) 0) ≡ w)
       go (Found.stands p b f) = (p, omega arith, eq-by p (λ h k. f h (p + h) refl k ∙ ap (sec s) (sym (mod-eq_of_lt (inside h k)))))

@@ -9,32 +9,32 @@ use native.Mathlib.Nat.{mul-one, mod-lt}
 use Rattle.words.specs.Order.{same}
 use Rattle.words.specs.Readings.{Reading, readings, bit, total, count}
 use Rattle.words.proofs.Split.{lt, eq, gt, tri}
-use Rattle.words.proofs.{Search.length-tab, Search.getD-tab, Lex.true_same}
+use Rattle.words.proofs.{Search.length-tab, Search.get_d-tab, Lex.true_same}
 use Rattle.words.proofs.Readings.{All, nothing, also, all-weaken, readings-all, each-reading}
-use Rattle.words.proofs.Count.{sumBelow, sum-cong, count-one}
+use Rattle.words.proofs.Count.{sum_below, sum-cong, count-one}
 use Rattle.ring_total_laws.proofs.Totals.{below-const, total-below, readings-size}
 use Rattle.strip_spec.specs.Strip.{strip}
-use Rattle.word_list_spec.specs.Passing.{countBelow}
+use Rattle.word_list_spec.specs.Passing.{count_below}
 use Rattle.strip_spec.specs.Places.{window, occurrences, OnceEach, OnePlace}
 use Rattle.strip_laws.proofs.{Pieces.length-strip, Pieces.strip-shades, Found.placed}
 
 -- ---- sums and totals that are as small as they can be
 
 -- a sum is not below one of its values
-sum-hit : (m : ℕ) (g : ℕ → ℕ) (p : ℕ) → p < m → g p ≤ sumBelow m g
-unfolding sumBelow
+sum-hit : (m : ℕ) (g : ℕ → ℕ) (p : ℕ) → p < m → g p ≤ sum_below m g
+unfolding sum_below
 sum-hit zero g p h = absurd (omega arith)
 sum-hit (suc m) g p h = elim (tri p m) [ lt l ↦ omega (arith, sum-hit m g p l) | eq l ↦ omega (arith, ap g l) | gt l ↦ absurd (omega arith) ]
 
 -- nor below two of them
-sum-two : (m : ℕ) (g : ℕ → ℕ) (p q : ℕ) → p < q → q < m → g p + g q ≤ sumBelow m g
-unfolding sumBelow
+sum-two : (m : ℕ) (g : ℕ → ℕ) (p q : ℕ) → p < q → q < m → g p + g q ≤ sum_below m g
+unfolding sum_below
 sum-two zero g p q h l = absurd (omega arith)
 sum-two (suc m) g p q h l = elim (tri q m) [ lt e ↦ omega (arith, sum-two m g p q h e) | eq e ↦ omega (arith, sum-hit m g p (omega arith), ap g e) | gt e ↦ absurd (omega arith) ]
 
 -- how many numbers pass, as a sum
-count-sum : (m : ℕ) (f : ℕ → Bool) → countBelow m f ≡ sumBelow m (λ i. bit (f i))
-unfolding countBelow sumBelow
+count-sum : (m : ℕ) (f : ℕ → Bool) → count_below m f ≡ sum_below m (λ i. bit (f i))
+unfolding count_below sum_below
 count-sum zero f = refl
 count-sum (suc m) f = omega (arith, count-sum m f)
 
@@ -56,14 +56,14 @@ total-tight f (w ∷ ws) (also p ps) e = also {w = w} (omega (arith, total-least
 pub window-reading : (n k : ℕ) (s : List ℕ) → 0 < length s → ((i : ℕ) → i < length s → get_or s i 0 < k) → (p : ℕ) → Reading n k (window n s p)
 unfolding window
 window-reading n k s z f p =
-    record { long = length-tab n (λ h. get_or s ((p + h) % length s) 0); shades = λ i h. rw (getD-tab n (λ h. get_or s ((p + h) % length s) 0) i 0 h) (f ((p + i) % length s) (mod-lt (p + i) z)) }
+    record { long = length-tab n (λ h. get_or s ((p + h) % length s) 0); shades = λ i h. rw (get_d-tab n (λ h. get_or s ((p + h) % length s) 0) i 0 h) (f ((p + i) % length s) (mod-lt (p + i) z)) }
 
 -- ---- exactly once
 
 module _ (n t : ℕ) (z : 0 < n) (y : 0 < t) where
   -- at how many places w stands
   hits : List ℕ → ℕ
-  hits w = sumBelow (length (strip n (suc t))) (λ p. bit (same (window n (strip n (suc t)) p) w))
+  hits w = sum_below (length (strip n (suc t))) (λ p. bit (same (window n (strip n (suc t)) p) w))
 
   at_least : (w : List ℕ) → Reading n (suc t) w → 1 ≤ hits w
   unfolding hits
@@ -110,7 +110,7 @@ one_place n (suc t) z y w r = go (placed n t z (omega arith) w r)
     g : ℕ → ℕ
     g p = bit (same (window n (strip n (suc t)) p) w)
 
-    one : sumBelow (length (strip n (suc t))) g ≡ 1
+    one : sum_below (length (strip n (suc t))) g ≡ 1
     one = each-once n t z (omega arith) w r
 
     hit : (p : ℕ) → window n (strip n (suc t)) p ≡ w → g p ≡ 1

@@ -20,8 +20,8 @@ use Rattle.ring_laws.proofs.Words.{pre-of, turned, necklace-prenecklace}
 use Rattle.ring_laws.proofs.FullWalk.{zeros, zeros-reading, zeros-necklace, next-facts, walk-exists, walk-increasing}
 use Rattle.ring_home_laws.proofs.Period.{period-pos, period-le, period-divides, period-turn}
 use Rattle.ring_total_laws.proofs.OneRing.{Ring, walk-rings, walk-all, period-sum}
-use Rattle.ring_total_laws.proofs.Beginnings.{necklaceBy, beginning-lyndon, repeated-necklace}
-use Rattle.strip_spec.specs.Strip.{joined, stripWords, strip}
+use Rattle.ring_total_laws.proofs.Beginnings.{necklace_by, beginning-lyndon, repeated-necklace}
+use Rattle.strip_spec.specs.Strip.{joined, strip_words, strip}
 use Rattle.strip_spec.proofs.Listed.{In, in_map, in_count, one_list}
 use Rattle.strip_spec.proofs.Words.{StripWord, words-only, words-each, words-increasing}
 use Rattle.strip_spec.proofs.Joined.{length-joined, joined-shades}
@@ -80,8 +80,8 @@ roots-increasing n k z (w ∷ ws) (also r rs) (more a i) = more (all_map root ws
 
 module _ (n k : ℕ) (z : 0 < n) (y : 0 < k) where
   -- the root of a necklace is a word of the strip
-  pub root-word : (w : List ℕ) → Ring n k w → In (root w) (stripWords n k)
-  unfolding necklaceBy
+  pub root-word : (w : List ℕ) → Ring n k w → In (root w) (strip_words n k)
+  unfolding necklace_by
   root-word w r =
       words-each n k z (root w) (rw long b.0, b.1, rw long (dvd_of_mod-eq-zero (period w) (rw r.0.long at (period-divides w (omega (arith, r.0.long))))))
     where
@@ -94,7 +94,7 @@ module _ (n k : ℕ) (z : 0 < n) (y : 0 < k) where
   module _ (rings : List (List ℕ)) (m : ℕ) (walk : FullWalk necklace k (zeros n) rings m) where
     -- each word of the strip is the root of a necklace of the walk
     word-root : (u : List ℕ) → StripWord n k u → In u (map root (zeros n ∷ rings))
-    unfolding necklaceBy
+    unfolding necklace_by
     word-root u (r, ly, q) =
         rw (sym same-root) (in_map root v (zeros n ∷ rings) (in_count v (zeros n ∷ rings)
         (omega (arith, walk-all n k z y rings m walk v b.0 (both_left (necklace v) (eqb (period v) (length u)) b.1)))))
@@ -102,15 +102,15 @@ module _ (n k : ℕ) (z : 0 < n) (y : 0 < k) where
         v : List ℕ
         v = repeated n u
 
-        b : Reading n k v × (necklaceBy (length u) v ≡ true) × (take (length u) v ≡ u)
+        b : Reading n k v × (necklace_by (length u) v ≡ true) × (take (length u) v ≡ u)
         b = repeated-necklace n (length u) k u (lyndon-pos u ly) (le_of_dvd z q) q r ly
 
         same-root : root v ≡ u
         same-root = ap (λ (x : ℕ). take x v) (eqb-true (period v) (length u) (both_right (necklace v) (eqb (period v) (length u)) b.1)) ∙ b.2
 
-    pub words-are-roots : stripWords n k ≡ map root (zeros n ∷ rings)
+    pub words-are-roots : strip_words n k ≡ map root (zeros n ∷ rings)
     words-are-roots =
-        one_list (stripWords n k) (map root (zeros n ∷ rings))
+        one_list (strip_words n k) (map root (zeros n ∷ rings))
         (words-increasing n k z) (roots-increasing n k z (zeros n ∷ rings) (walk-rings n k z y rings m walk) (walk-increasing necklace k walk))
         (all-weaken word-root (words-only n k z))
         (all_map root (zeros n ∷ rings) (all-weaken root-word (walk-rings n k z y rings m walk)))
@@ -135,4 +135,4 @@ module _ (n k : ℕ) (z : 0 < n) (y : 0 < k) where
   -- each a shade
   pub strip-shades : (i : ℕ) → i < length (strip n k) → get_or (strip n k) i 0 < k
   unfolding strip
-  strip-shades = joined-shades k (stripWords n k) (all-weaken (λ u r. r.0) (words-only n k z))
+  strip-shades = joined-shades k (strip_words n k) (all-weaken (λ u r. r.0) (words-only n k z))

@@ -7,7 +7,7 @@
 use Rattle.words.proofs.Plain.{ℕ, ◌+◌, ◌%◌, ◌≤◌, ◌<◌, arith, ◌≡◌, refl, sym, ap, ◌∙◌, true, false, List, length, get_or, ext_get_or}
 use Rattle.words.specs.{Search.tab, Order.same}
 use Rattle.words.proofs.Split.{lt, eq, gt, tri, clash}
-use Rattle.words.proofs.Search.{length-tab, getD-tab}
+use Rattle.words.proofs.Search.{length-tab, get_d-tab}
 use Rattle.words.proofs.Lex.{same_true, true_same, same_false}
 use Rattle.strip_spec.specs.Places.{window, OnePlace}
 
@@ -24,13 +24,13 @@ module _ (s : List ℕ) (p : ℕ) (w : List ℕ) where
   agrees-all i b a =
       let long = length-tab (length w) (λ h. get_or s ((p + h) % length s) 0) in
       sym (true_same (tab (length w) (λ h. get_or s ((p + h) % length s) 0)) w
-      (ext_get_or 0 (tab (length w) (λ h. get_or s ((p + h) % length s) 0)) w long (λ j h. getD-tab (length w) (λ h. get_or s ((p + h) % length s) 0) j 0 (omega (arith, long)) ∙ a j (omega (arith, long)))))
+      (ext_get_or 0 (tab (length w) (λ h. get_or s ((p + h) % length s) 0)) w long (λ j h. get_d-tab (length w) (λ h. get_or s ((p + h) % length s) 0) j 0 (omega (arith, long)) ∙ a j (omega (arith, long)))))
 
   pub agrees-not : (i : ℕ) → i < length w → (get_or s ((p + i) % length s) 0 ≡ get_or w i 0 → ⊥) → false ≡ same (window (length w) s p) w
   unfolding window
   agrees-not i b f =
       sym (same_false (tab (length w) (λ h. get_or s ((p + h) % length s) 0)) w
-      (λ e. f (sym (getD-tab (length w) (λ h. get_or s ((p + h) % length s) 0) i 0 b) ∙ ap (λ (u : List ℕ). get_or u i 0) e)))
+      (λ e. f (sym (get_d-tab (length w) (λ h. get_or s ((p + h) % length s) 0) i 0 b) ∙ ap (λ (u : List ℕ). get_or u i 0) e)))
 
 module _ (s w : List ℕ) where
   -- w stands at no place before p

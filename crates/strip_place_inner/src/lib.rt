@@ -1,4 +1,7 @@
 // Where a reading stands on a strip whose end is joined to its start. No public calls: `strip::place_of` checks what these ask for.
+
+#![tactic(auto)]
+
 ghost use Rattle.std.specs.Prelude.{ℕ, ◌≤◌, ◌<◌, ◌≡◌, length};
 ghost use Rattle.words.specs.Order.{same};
 ghost use Rattle.strip_spec.specs.Places.{window, OnePlace};

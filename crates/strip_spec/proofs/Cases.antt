@@ -3,7 +3,7 @@
 use Rattle.words.proofs.Plain.{ℕ, ◌^◌, ◌≡◌, refl, List, [], ◌∷◌}
 use Rattle.words.specs.Table.{Hold}
 use Rattle.rings.proofs.Cases.{digits, ring}
-use Rattle.strip_spec.specs.Strip.{dictionary, stripWords, strip}
+use Rattle.strip_spec.specs.Strip.{dictionary, strip_words, strip}
 use Rattle.strip_spec.specs.{Places.window, Places.occurrences, Open.open-strips}
 
 -- the shapes of a row
@@ -22,7 +22,7 @@ pub data Case : Type 0 where
 -- what a row claims
 unfoldable pub Holds : Case → Type 0
 Holds (laid n k s) = strip n k ≡ ring (k ^ n) s
-Holds (made_of n k us) = stripWords n k ≡ us
+Holds (made_of n k us) = strip_words n k ≡ us
 Holds (listed n k us) = dictionary n k ≡ us
 Holds (seen m s p n w) = window n (ring m s) p ≡ ring n w
 Holds (met m s n w c) = occurrences (ring m s) (ring n w) ≡ c

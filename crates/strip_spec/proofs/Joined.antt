@@ -3,7 +3,7 @@
 --     joined_at                       a word stands where the ones before it end
 --     joined-shades                   each sector is a shade
 use Rattle.words.proofs.Plain.{ℕ, ◌+◌, ◌-◌, ◌≤◌, ◌<◌, arith, ◌≡◌, refl, sym, ap, ◌∙◌, List, [], ◌∷◌, ◌++◌, append_assoc, length, get_or, length-append}
-use Rattle.words.proofs.Plain.{List·getD-append, get_or-append-add}
+use Rattle.words.proofs.Plain.{List·get_d-append, get_or-append-add}
 use Rattle.words.specs.Readings.{Reading, total}
 use Rattle.words.proofs.Split.{lt, eq, gt, tri}
 use Rattle.words.proofs.Readings.{All, nothing, also}
@@ -22,7 +22,7 @@ length-joined (w ∷ ws) = omega (arith, length-append w (joined ws), length-joi
 -- a word stands where the ones before it end
 pub joined_at : (vs : List (List ℕ)) (w : List ℕ) (ws : List (List ℕ)) (i : ℕ) → i < length w → get_or (joined (vs ++ (w ∷ ws))) (length (joined vs) + i) 0 ≡ get_or w i 0
 unfolding joined
-joined_at vs w ws i h = rw (joined-append vs (w ∷ ws)) (get_or-append-add (joined vs) (w ++ joined ws) i 0 ∙ List·getD-append w (joined ws) 0 i h)
+joined_at vs w ws i h = rw (joined-append vs (w ∷ ws)) (get_or-append-add (joined vs) (w ++ joined ws) i 0 ∙ List·get_d-append w (joined ws) 0 i h)
 
 -- each sector is a shade
 pub joined-shades : (k : ℕ) (ws : List (List ℕ)) → All (λ u. Reading (length u) k u) ws → (i : ℕ) → i < length (joined ws) → get_or (joined ws) i 0 < k
@@ -30,7 +30,7 @@ unfolding joined
 joined-shades k [] nothing i h = absurd (omega arith)
 joined-shades k (w ∷ ws) (also r a) i h =
     elim (tri i (length w)) [
-      | lt e ↦ rw (List·getD-append w (joined ws) 0 i e) (r.shades i e)
+      | lt e ↦ rw (List·get_d-append w (joined ws) 0 i e) (r.shades i e)
       | eq e ↦ past (omega arith) (joined-shades k ws a)
       | gt e ↦ past (omega arith) (joined-shades k ws a)
     ]

@@ -11,25 +11,25 @@ use Rattle.strip_spec.specs.{Strip.strip, declared.Written.Written, declared.Pos
 use Rattle.strip_spec.proofs.Places.{places-one}
 use Rattle.strip_spec.specs.declared.Written.TheVariants as W
 use Rattle.strip_spec.specs.declared.Position.TheVariants as P
-use Rattle.strip_spec.specs.Says.{stripOrder, StripSays, placeOrder, PlaceSays}
+use Rattle.strip_spec.specs.Says.{strip_order, StripSays, place_order, PlaceSays}
 
 -- ---- writing
 
 -- a strip that can be written is not refused
-pub never-refused : (n k m : ℕ) (r : Refusal) → Listable 4096 k n → m ≡ k ^ n → Given (stripOrder n k m) r → ⊥
-never-refused n k m r l e g = never_both (stripOrder n k m) r g (listable-passed 4096 k n l, e)
+pub never-refused : (n k m : ℕ) (r : Refusal) → Listable 4096 k n → m ≡ k ^ n → Given (strip_order n k m) r → ⊥
+never-refused n k m r l e g = never_both (strip_order n k m) r g (listable-passed 4096 k n l, e)
 
 pub one-writing : (n k : ℕ) (o : List ℕ) (a b : Written) (u v : List ℕ) → StripSays n k o a u → StripSays n k o b v → (a ≡ b) × (u ≡ v)
 one-writing n k o W.Strip W.Strip u v p q = (refl, p.2 ∙ sym q.2)
 one-writing n k o W.Strip (W.Refused r) u v p q = absurd (never-refused n k (length o) r p.0 p.1 q.0)
 one-writing n k o (W.Refused r) W.Strip u v p q = absurd (never-refused n k (length o) r q.0 q.1 p.0)
-one-writing n k o (W.Refused r) (W.Refused t) u v p q = (ap W.Refused (one-refusal (stripOrder n k (length o)) r t p.0 q.0), p.1 ∙ sym q.1)
+one-writing n k o (W.Refused r) (W.Refused t) u v p q = (ap W.Refused (one-refusal (strip_order n k (length o)) r t p.0 q.0), p.1 ∙ sym q.1)
 
 -- ---- telling a place
 
 module _ (w : List ℕ) (k : ℕ) where
   pub one-telling : (a b : Position) → PlaceSays w k a → PlaceSays w k b → a ≡ b
   one-telling (P.Place p) (P.Place q) s t = ap P.Place (places-one (strip (length w) k) w p q s.2 t.2)
-  one-telling (P.Place p) (P.Refused r) s t = absurd (never_both (placeOrder w k) r t (s.0, s.1))
-  one-telling (P.Refused r) (P.Place q) s t = absurd (never_both (placeOrder w k) r s (t.0, t.1))
-  one-telling (P.Refused r) (P.Refused t) s u = ap P.Refused (one-refusal (placeOrder w k) r t s u)
+  one-telling (P.Place p) (P.Refused r) s t = absurd (never_both (place_order w k) r t (s.0, s.1))
+  one-telling (P.Refused r) (P.Place q) s t = absurd (never_both (place_order w k) r s (t.0, t.1))
+  one-telling (P.Refused r) (P.Refused t) s u = ap P.Refused (one-refusal (place_order w k) r t s u)

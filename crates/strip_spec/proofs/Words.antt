@@ -10,7 +10,7 @@ use Rattle.words.proofs.Readings.{All, nothing, also, all_of_each, all-weaken, I
 use Rattle.word_list_spec.specs.Passing.{kept}
 use Rattle.word_list_spec.proofs.Kept.{kept-all, kept-increasing}
 use Rattle.rings.specs.Necklace.{lyndon}
-use Rattle.strip_spec.specs.Strip.{dictionary, onStrip, stripWords}
+use Rattle.strip_spec.specs.Strip.{dictionary, on_strip, strip_words}
 use Rattle.strip_spec.proofs.Listed.{In, here, there, in_left, in_right, in_map}
 
 -- ---- the dictionary
@@ -67,20 +67,20 @@ StripWord n k u = Reading (length u) k u × (lyndon u ≡ true) × (length u ∣
 
 module _ (n k : ℕ) (z : 0 < n) where
   -- only such words
-  pub words-only : All (StripWord n k) (stripWords n k)
-  unfolding stripWords onStrip
+  pub words-only : All (StripWord n k) (strip_words n k)
+  unfolding strip_words on_strip
   words-only =
       all-weaken
       (λ u r. (r.0.0, both_left (lyndon u) (eqb (n % length u) 0) r.1, dvd_of_mod-eq-zero (length u) (eqb-true (n % length u) 0 (both_right (lyndon u) (eqb (n % length u) 0) r.1))))
-      (kept-all (onStrip n) (dictionary n k) (dictionary-all n k))
+      (kept-all (on_strip n) (dictionary n k) (dictionary-all n k))
 
   -- each of them
-  pub words-each : (u : List ℕ) → StripWord n k u → In u (stripWords n k)
-  unfolding stripWords onStrip
+  pub words-each : (u : List ℕ) → StripWord n k u → In u (strip_words n k)
+  unfolding strip_words on_strip
   words-each u (r, l, d) =
-      kept_in (onStrip n) u (dictionary n k) (dictionary-in n k u r (le_of_dvd z d)) (both (lyndon u) (eqb (n % length u) 0) l (eq-eqb (n % length u) 0 (mod-eq-zero_of_dvd (length u) d)))
+      kept_in (on_strip n) u (dictionary n k) (dictionary-in n k u r (le_of_dvd z d)) (both (lyndon u) (eqb (n % length u) 0) l (eq-eqb (n % length u) 0 (mod-eq-zero_of_dvd (length u) d)))
 
   -- in increasing order
-  pub words-increasing : Increasing (stripWords n k)
-  unfolding stripWords
-  words-increasing = kept-increasing (onStrip n) (dictionary n k) (dictionary-increasing n k)
+  pub words-increasing : Increasing (strip_words n k)
+  unfolding strip_words
+  words-increasing = kept-increasing (on_strip n) (dictionary n k) (dictionary-increasing n k)

@@ -8,7 +8,7 @@ use Rattle.std.specs.Prelude.{ℕ, ◌+◌, ◌%◌, ◌<◌, ◌≡◌, List, l
 use Rattle.words.specs.Search.{tab}
 use Rattle.words.specs.Order.{same}
 use Rattle.words.specs.Readings.{Reading}
-use Rattle.word_list_spec.specs.Passing.{countBelow}
+use Rattle.word_list_spec.specs.Passing.{count_below}
 
 -- n neighbouring sectors from place p on, round the end
 unfoldable pub window : ℕ → List ℕ → ℕ → List ℕ
@@ -16,7 +16,7 @@ window n s p = tab n (λ h. get_or s ((p + h) % length s) 0)
 
 -- at how many places of s w stands
 unfoldable pub occurrences : List ℕ → List ℕ → ℕ
-occurrences s w = countBelow (length s) (λ p. same (window (length w) s p) w)
+occurrences s w = count_below (length s) (λ p. same (window (length w) s p) w)
 
 -- each reading of n and k stands at exactly one place of s
 abbrev pub OnceEach : ℕ → ℕ → List ℕ → Type 0

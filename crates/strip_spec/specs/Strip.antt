@@ -1,10 +1,10 @@
 -- The strip along the frame (02, request l): every Lyndon word over k shades whose length divides n, in increasing order, one after another.
 --     dictionary n k     every word of at most n sectors and of k shades, in increasing order: a beginning comes first
---     onStrip n u        u is a Lyndon word whose length divides n
---     stripWords n k     every such word over k shades, in increasing order
+--     on_strip n u        u is a Lyndon word whose length divides n
+--     strip_words n k     every such word over k shades, in increasing order
 --     joined ws          the words of the list, one after another
 --     strip n k          the strip
--- That `stripWords` holds each such word, nothing else, and in increasing order: proofs/Words. That the strip has k to the power n sectors: `strip_laws`, proofs/Pieces.
+-- That `strip_words` holds each such word, nothing else, and in increasing order: proofs/Words. That the strip has k to the power n sectors: `strip_laws`, proofs/Pieces.
 use Rattle.std.specs.Prelude.{ℕ, zero, suc, ◌%◌, Bool, ◌&&◌, List, [], ◌∷◌, ◌++◌, length, eqb}
 use Rattle.words.specs.Readings.{fan}
 use Rattle.word_list_spec.specs.Passing.{kept}
@@ -16,12 +16,12 @@ dictionary zero k = [] ∷ []
 dictionary (suc n) k = [] ∷ fan k (dictionary n k)
 
 -- a Lyndon word whose length divides n
-unfoldable pub onStrip : ℕ → List ℕ → Bool
-onStrip n u = lyndon u && eqb (n % length u) 0
+unfoldable pub on_strip : ℕ → List ℕ → Bool
+on_strip n u = lyndon u && eqb (n % length u) 0
 
 -- every Lyndon word over k shades whose length divides n, in increasing order
-unfoldable pub stripWords : ℕ → ℕ → List (List ℕ)
-stripWords n k = kept (onStrip n) (dictionary n k)
+unfoldable pub strip_words : ℕ → ℕ → List (List ℕ)
+strip_words n k = kept (on_strip n) (dictionary n k)
 
 -- the words of the list, one after another
 unfoldable pub joined : List (List ℕ) → List ℕ
@@ -30,4 +30,4 @@ joined (w ∷ ws) = w ++ joined ws
 
 -- the strip
 unfoldable pub strip : ℕ → ℕ → List ℕ
-strip n k = joined (stripWords n k)
+strip n k = joined (strip_words n k)

@@ -1,5 +1,7 @@
 // Writing the strip along the frame, necklace after necklace. No public calls: the calls of crate `strip` check what these ask for.
 
+#![tactic(auto)]
+
 ghost use Rattle.std.specs.Prelude.{◌+◌, ◌^◌, ◌≤◌, ◌≡◌, length, replicate};
 ghost use Rattle.walk_kind_laws.specs.Kinds.{ReadyToStep};
 ghost use Rattle.limits_spec.specs.Limits.{Listable};

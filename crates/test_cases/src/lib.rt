@@ -1,5 +1,8 @@
 // Reading the cases of the programs that run the vectors: lines of words, one space between two words, so that an empty reading is an empty word.
 // No public calls: nothing here is part of the catalogue.
+
+#![tactic(auto)]
+
 ghost use Rattle.io.specs.Counts.{IsPrefixLen};
 
 // No program has as many cases as this.

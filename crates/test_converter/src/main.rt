@@ -4,6 +4,8 @@
 // The cases are the lines of stdin: `turn`, the output before the call and an old catalogue, both in hexadecimal digits; `part` for a block that is followed by others or
 // `last`, the output before the call and the block; `say` and a heading.
 
+#![tactic(auto)]
+
 use converter::Conversion;
 use converter_blocks::Stretch;
 

@@ -6,6 +6,8 @@
 // What is printed of a case is its line and the answer; of a ring also what the output holds after the call. The expected text, stdout, is worked out from the
 // request's formula with floats of another make.
 
+#![tactic(auto)]
+
 pub mod floats;
 
 use density_spec::{Card, RingRead, Sector, SectorRead};

@@ -1,6 +1,8 @@
 // What a program says on standard error, by how its run ended, printed on standard output: each text, a refusal with the least and with the greatest numbers, and
 // what is left of a buffer that is a byte too short.
 
+#![tactic(auto)]
+
 use program_ending_inner::Ending;
 
 // The text of an ending, its newline included, and how long it is.

@@ -3,8 +3,10 @@
 // many pages; with '@' it is a line and the limit of its plan. The expected text, stdout, is written from document 01 and from an enumeration of all
 // readings by its definitions.
 
+#![tactic(auto)]
+
 ghost use Rattle.std.specs.Prelude.{◌≤◌, length};
-ghost use Rattle.listing_spec.specs.Paging.{rowRoom};
+ghost use Rattle.listing_spec.specs.Paging.{row_room};
 
 use libc::{STDIN_FILENO, STDOUT_FILENO};
 use limits::Planned;
@@ -27,7 +29,7 @@ fn find(s: &[u8], character: u8) -> usize
 
 // A name, and what the program writes for the line behind the mark.
 fn list(case: &[u8], mark: u8, buf: &mut [u8])
-    requires { rowRoom ≤ length buf.old }
+    requires { row_room ≤ length buf.old }
 {
     let at = find(case, mark);
     if at < case.len() {

@@ -2,6 +2,8 @@
 // buffer that is a byte too short; or `sheet` with n, k, d, the wanted number, 0, 1 or 2 for a guarded, a plain or one's own set, the size, the columns, 1 for levels, the
 // target's place, 1 for the last, and a reading. The expected text, stdout, is written from the documents by a program of another kind.
 
+#![tactic(auto)]
+
 use pictures::{Drawn, Tone};
 use sheets::{Sheet, Source};
 

@@ -3,6 +3,8 @@
 // readings, k and d: are they less than d apart? What is printed of a case is its line and the answer. The expected text, stdout, is written from the document and
 // made from the definitions. What the desk can be asked stands in .ci/runs/desk-home.in.
 
+#![tactic(auto)]
+
 use classify::Classified;
 use home::{Homed, Told};
 

@@ -10,6 +10,8 @@
 //   printed, and the bytes that were written;
 //   `say` and a heading.
 
+#![tactic(auto)]
+
 use catalogue::Entry;
 use writer::{Kind, Written};
 

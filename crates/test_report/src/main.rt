@@ -6,6 +6,8 @@
 //   `end`, and the same without a block.
 // The expected text, stdout, is worked out from the rules, and its numbers from a count of the readings that each turn leaves as they are.
 
+#![tactic(auto)]
+
 ghost use Rattle.io.specs.Counts.{IsPrefixLen};
 
 use report_spec::{Fed, Pending};

@@ -1,6 +1,8 @@
 // What a chart job's command prints for a line, by `set_output::print_set`. The cases are the lines of stdin; then a good line with a
 // newline, and with a buffer that has one byte too few. The expected text, stdout, is worked out from the definitions.
 
+#![tactic(auto)]
+
 fn print(line: &[u8], buf: &mut [u8]) {
     let m = set_output::print_set(line, buf);
     if m <= buf.len() {

@@ -3,6 +3,8 @@
 // it, the rings end to end. The cases are the lines of stdin: n, k, the distance and the wanted number. The expected text, stdout, is worked out from the definitions: every
 // reading in order, each, and for guarded sets its mirror image and its turns, compared with all taken.
 
+#![tactic(auto)]
+
 use refusal::Checked;
 use sets::Picked;
 

@@ -6,6 +6,8 @@
 //     count READING K COUNTS           how many they are
 // The expected text, stdout, is written from those documents. A ring is a digit a sector; a refusal and Done leave the output as it was.
 
+#![tactic(auto)]
+
 use shades::{FirstAnswer, NextAnswer};
 
 // ---- one call, and what it leaves

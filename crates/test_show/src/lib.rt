@@ -1,5 +1,7 @@
 // Printing for the programs that run the vectors: readings, classes and refusals on standard output. No public calls: nothing here is part of the catalogue.
 
+#![tactic(auto)]
+
 use libc::STDOUT_FILENO;
 use refusal::Refusal;
 use rings::Class;

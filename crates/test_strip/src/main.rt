@@ -2,6 +2,8 @@
 // n and k; or `place`, a reading and k. Before the call each byte of the output is 255, which prints as '?'. The expected text, stdout, has each strip as the
 // Lyndon words of the lengths that divide n, sorted and joined, and each place as it is found in that text doubled.
 
+#![tactic(auto)]
+
 use strip::{Position, Written};
 
 // An output of any length, 64 bytes at a time.

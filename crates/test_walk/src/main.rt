@@ -8,6 +8,8 @@
 // A kind is known by its first letter, and a bracelet tells no moves; a class by its number: 0 Loose, 1 Opening, 2 Repeating, 3 Single; counts are a digit each, 0 where none
 // stands. The same steps from a reading, without a record, are the lines of .ci/runs/desk-walk.in.
 
+#![tactic(auto)]
+
 use refusal::Checked;
 use rings::Class;
 use walk::{Arrival, Arrived, Outcome, Stepped, Walk};

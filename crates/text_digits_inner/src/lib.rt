@@ -1,8 +1,11 @@
 // Words, numbers and sectors placed into a lent buffer where they fit (01, 'The listing program'). No public calls: crate `text_lines_inner` makes lines of them.
+
+#![tactic(auto)]
+
 ghost use Rattle.std.specs.Prelude.{◌+◌, ◌≤◌, ◌≡◌, map, length};
 ghost use Rattle.io.specs.Digits.{hex_digit_ascii};
 ghost use Rattle.text_spec.specs.Decimal.{decimal};
-ghost use Rattle.text_spec.specs.Text.{hexOf};
+ghost use Rattle.text_spec.specs.Text.{hex_of};
 ghost use Rattle.text_spec.specs.Put.{Placed};
 
 // Copies a text.
@@ -49,7 +52,7 @@ fn digit_base(d: u8) -> u8
 
 // A lower-case hexadecimal digit.
 fn hex(a: u8) -> u8
-    ensures { result ≡ hexOf a }
+    ensures { result ≡ hex_of a }
 {
     let d = a % 16;
     digit_base(d) + d
@@ -58,7 +61,7 @@ fn hex(a: u8) -> u8
 // The sectors as hexadecimal digits.
 pub fn place_sectors(buf: &mut [u8], at: usize, ring: &[u8]) -> usize
     requires { at + length ring.now ≤ length buf.old }
-    ensures { Placed buf.old at (map hexOf ring.now) result buf.new }
+    ensures { Placed buf.old at (map hex_of ring.now) result buf.new }
 {
     let mut i = 0;
     while i < ring.len() {

@@ -1,7 +1,10 @@
 // A text with slots, filled with numbers and rings, placed into a lent buffer where it fits. No public calls.
+
+#![tactic(auto)]
+
 ghost use Rattle.std.specs.Prelude.{◌+◌, ◌≤◌, length};
 ghost use Rattle.text_spec.specs.Put.{Placed};
-ghost use Rattle.text_fill_spec.specs.Filled.{filledText};
+ghost use Rattle.text_fill_spec.specs.Filled.{filled_text};
 ghost use Rattle.text_fill_inner.specs.Says.{NumberAt, EndsAt};
 
 // The number at i; 0 where there is none.
@@ -34,8 +37,8 @@ pub fn place_filled(
     n: usize,
     rings: &[u8],
 ) -> usize
-    requires { at + length (filledText text.now numbers.now n rings.now) ≤ length buf.old }
-    ensures { Placed buf.old at (filledText text.now numbers.now n rings.now) result buf.new }
+    requires { at + length (filled_text text.now numbers.now n rings.now) ≤ length buf.old }
+    ensures { Placed buf.old at (filled_text text.now numbers.now n rings.now) result buf.new }
 {
     let mut p = at;
     let mut i = 0;

@@ -3,32 +3,32 @@
 --     decimal-two                    a text of two digits
 --     decimal-rec                    what holds below 10, and of x where it holds of x / 10, holds of every number
 --     Digits t                       every character of t is a digit
---     valueFrom x t                  the number that the digits t go on to spell after x
+--     value_from x t                  the number that the digits t go on to spell after x
 --     value-decimal, decimal-one     the text of x spells x; two numbers with one text are one
 --     spelled, numeral               digits with no leading zero are the text of what they spell
 --     decimal-digits, decimal-lead, length-decimal      the text has only digits, no leading zero, and at most m of them below 10 ^ m
 use Rattle.words.proofs.Plain.{ℕ, zero, suc, ◌+◌, ◌-◌, ◌*◌, ◌/◌, ◌%◌, ◌^◌, ◌<◌, ◌≤◌, arith, dec_lt, ◌≡◌, refl, sym, ap, ◌∙◌, List, [], ◌∷◌, ◌++◌, append_assoc}
-use Rattle.words.proofs.Plain.{append-nil, length, get_or, length-append, List·getD-append, get_or-append-add, lt-ltb, le-ltb}
+use Rattle.words.proofs.Plain.{append-nil, length, get_or, length-append, List·get_d-append, get_or-append-add, lt-ltb, le-ltb}
 use native.Mathlib.Nat.{div-lt_self, div-add-mod, mod-lt, pow-succ', one-le-pow}
 use Rattle.io.specs.Digits.{hex_digit_ascii, last_digits, IsDigitCount}
-use Rattle.text_spec.specs.Decimal.{digit, decimalIn, decimal}
+use Rattle.text_spec.specs.Decimal.{digit, decimal_in, decimal}
 
 -- ---- the two clauses
 
-in-short : (m x : ℕ) → x < 10 → decimalIn (suc m) x ≡ digit x ∷ []
-unfolding decimalIn
-in-short m x h = rw (lt-ltb x 10 h, decimalIn)
+in-short : (m x : ℕ) → x < 10 → decimal_in (suc m) x ≡ digit x ∷ []
+unfolding decimal_in
+in-short m x h = rw (lt-ltb x 10 h, decimal_in)
 
-in-more : (m x : ℕ) → 10 ≤ x → decimalIn (suc m) x ≡ decimalIn m (x / 10) ++ (digit (x % 10) ∷ [])
-unfolding decimalIn
-in-more m x h = rw (le-ltb x 10 h, decimalIn)
+in-more : (m x : ℕ) → 10 ≤ x → decimal_in (suc m) x ≡ decimal_in m (x / 10) ++ (digit (x % 10) ∷ [])
+unfolding decimal_in
+in-more m x h = rw (le-ltb x 10 h, decimal_in)
 
 -- the tenth part of a number from 10 on is smaller
 tenth : (x : ℕ) → 10 ≤ x → x / 10 < x
 tenth x h = div-lt_self (omega arith) (omega arith)
 
 -- any number of digits that is enough gives the same text
-enough : (m l x : ℕ) → x < m → x < l → decimalIn m x ≡ decimalIn l x
+enough : (m l x : ℕ) → x < m → x < l → decimal_in m x ≡ decimal_in l x
 enough zero l x p q = absurd (omega arith)
 enough (suc m) zero x p q = absurd (omega arith)
 enough (suc m) (suc l) x p q =
@@ -69,25 +69,25 @@ decimal-rec P short more x = go (suc x) x (omega arith)
 abbrev pub Digits : List ℕ → Type 0
 Digits t = (i : ℕ) → i < length t → (48 ≤ get_or t i 0) × (get_or t i 0 ≤ 57)
 
-unfoldable pub valueFrom : ℕ → List ℕ → ℕ
-valueFrom x [] = x
-valueFrom x (a ∷ t) = valueFrom (x * 10 + (a - 48)) t
+unfoldable pub value_from : ℕ → List ℕ → ℕ
+value_from x [] = x
+value_from x (a ∷ t) = value_from (x * 10 + (a - 48)) t
 
-value-append : (x : ℕ) (s t : List ℕ) → valueFrom x (s ++ t) ≡ valueFrom (valueFrom x s) t
-unfolding valueFrom
+value-append : (x : ℕ) (s t : List ℕ) → value_from x (s ++ t) ≡ value_from (value_from x s) t
+unfolding value_from
 value-append x [] t = refl
 value-append x (a ∷ s) t = value-append (x * 10 + (a - 48)) s t
 
 -- the text of x spells x
-pub value-decimal : (x : ℕ) → valueFrom 0 (decimal x) ≡ x
-unfolding valueFrom
+pub value-decimal : (x : ℕ) → value_from 0 (decimal x) ≡ x
+unfolding value_from
 value-decimal =
-    decimal-rec (λ x. valueFrom 0 (decimal x) ≡ x) (λ x h. rw (decimal-short x h) (omega arith))
+    decimal-rec (λ x. value_from 0 (decimal x) ≡ x) (λ x h. rw (decimal-short x h) (omega arith))
     (λ x h p. rw (decimal-more x h, value-append 0 (decimal (x / 10)) (digit (x % 10) ∷ []), p) (omega (arith, div-add-mod x 10)))
 
 -- two numbers with one text are one
 pub decimal-one : (x y : ℕ) → decimal x ≡ decimal y → x ≡ y
-decimal-one x y e = sym (value-decimal x) ∙ ap (valueFrom 0) e ∙ value-decimal y
+decimal-one x y e = sym (value-decimal x) ∙ ap (value_from 0) e ∙ value-decimal y
 
 -- one digit more
 pub decimal-on : (x d : ℕ) → 0 < x → d < 10 → decimal (x * 10 + d) ≡ decimal x ++ (digit d ∷ [])
@@ -97,8 +97,8 @@ decimal-on x d z h =
     decimal-more (x * 10 + d) (omega arith) ∙ rw (q, r)
 
 -- digits after the text of a number other than 0 are the text of what they spell
-pub spelled : (x : ℕ) (t : List ℕ) → 0 < x → Digits t → decimal (valueFrom x t) ≡ decimal x ++ t
-unfolding valueFrom
+pub spelled : (x : ℕ) (t : List ℕ) → 0 < x → Digits t → decimal (value_from x t) ≡ decimal x ++ t
+unfolding value_from
 spelled x [] z d = sym (append-nil (decimal x))
 spelled x (a ∷ t) z d =
     let l = d 0 (omega arith) in
@@ -107,8 +107,8 @@ spelled x (a ∷ t) z d =
     spelled (x * 10 + (a - 48)) t (omega arith) (λ i h. d (suc i) (omega arith)) ∙ ap (λ (s : List ℕ). s ++ t) on ∙ append_assoc (decimal x) (a ∷ []) t
 
 -- digits that do not begin with 0 are the text of what they spell
-pub numeral : (t : List ℕ) → 0 < length t → Digits t → (get_or t 0 0 ≡ 48 → ⊥) → decimal (valueFrom 0 t) ≡ t
-unfolding valueFrom
+pub numeral : (t : List ℕ) → 0 < length t → Digits t → (get_or t 0 0 ≡ 48 → ⊥) → decimal (value_from 0 t) ≡ t
+unfolding value_from
 numeral [] l d z = absurd (omega arith)
 numeral (a ∷ t) l d z =
     let b = d 0 l in
@@ -126,7 +126,7 @@ one-digit d h (suc i) l = absurd (omega arith)
 digits_append : (s t : List ℕ) → Digits s → Digits t → Digits (s ++ t)
 digits_append s t p q i l =
     elim (dec_lt i (length s)) [
-      | yes h ↦ rw (List·getD-append s t 0 i h) (p i h)
+      | yes h ↦ rw (List·get_d-append s t 0 i h) (p i h)
       | no h ↦
           let e : length s + (i - length s) ≡ i = omega arith in
           let g : get_or (s ++ t) i 0 ≡ get_or t (i - length s) 0 = rw e at (get_or-append-add s t (i - length s) 0) in
@@ -149,7 +149,7 @@ decimal-some =
 pub decimal-lead : (x : ℕ) → 0 < x → get_or (decimal x) 0 0 ≡ 48 → ⊥
 decimal-lead =
     decimal-rec (λ x. 0 < x → get_or (decimal x) 0 0 ≡ 48 → ⊥) (λ x h z e. let f = rw (decimal-short x h) at e in omega arith)
-    (λ x h p z e. p (omega arith) (sym (List·getD-append (decimal (x / 10)) (digit (x % 10) ∷ []) 0 0 (decimal-some (x / 10))) ∙ rw (decimal-more x h) at e))
+    (λ x h p z e. p (omega arith) (sym (List·get_d-append (decimal (x / 10)) (digit (x % 10) ∷ []) 0 0 (decimal-some (x / 10))) ∙ rw (decimal-more x h) at e))
 
 -- a number below 10 ^ (m + 1) has at most m + 1 digits
 pub length-decimal : (m x : ℕ) → x < 10 ^ suc m → length (decimal x) ≤ suc m

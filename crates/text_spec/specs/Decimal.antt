@@ -9,9 +9,9 @@ abbrev pub digit : ℕ → ℕ
 digit d = nought + d
 
 -- the text of x, which has at most m digits
-unfoldable pub decimalIn : ℕ → ℕ → List ℕ
-decimalIn zero x = []
-decimalIn (suc m) x = elim (ltb x 10) [ true ↦ digit x ∷ [] | false ↦ decimalIn m (x / 10) ++ (digit (x % 10) ∷ []) ]
+unfoldable pub decimal_in : ℕ → ℕ → List ℕ
+decimal_in zero x = []
+decimal_in (suc m) x = elim (ltb x 10) [ true ↦ digit x ∷ [] | false ↦ decimal_in m (x / 10) ++ (digit (x % 10) ∷ []) ]
 
 unfoldable pub decimal : ℕ → List ℕ
-decimal x = decimalIn (suc x) x
+decimal x = decimal_in (suc x) x

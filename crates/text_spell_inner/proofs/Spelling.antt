@@ -7,7 +7,7 @@ use Rattle.words.proofs.Plain.{ℕ, ◌+◌, ◌-◌, ◌<◌, ◌≤◌, arith,
 use Rattle.words.proofs.{Plain.get_or-set_same, Plain.get_or-set_other, Lex.same_false, Lex.true_same}
 use Rattle.words.specs.Order.{same}
 use Rattle.words.proofs.Split.{lt, eq, gt, tri}
-use Rattle.text_spec.specs.Text.{hexOf}
+use Rattle.text_spec.specs.Text.{hex_of}
 use Rattle.text_words_spec.specs.Words.{Spelt}
 use Rattle.text_words_spec.proofs.Spelling.{hex-low, hex-high, hex-kinds, spelt-at}
 use Rattle.text_spell_inner.specs.Says.{DigitSays}
@@ -56,7 +56,7 @@ digit-above c h = inr (refl, λ a l e. ⊎_elim (λ x. omega (arith, x.0, x.1, e
 -- ---- readings
 
 abbrev pub Upto : List ℕ → List ℕ → ℕ → Type 0
-Upto t w i = (j : ℕ) → j < i → (get_or w j 0 < 16) × (hexOf (get_or w j 0) ≡ get_or t j 0)
+Upto t w i = (j : ℕ) → j < i → (get_or w j 0 < 16) × (hex_of (get_or w j 0) ≡ get_or t j 0)
 
 pub upto-on : (t w : List ℕ) (i v : ℕ) → i < length w → Upto t w i → v ≤ 15 → DigitSays (get_or t i 0) v → Upto t (set w i v) (i + 1)
 upto-on t w i v h f n d j l =

@@ -1,4 +1,7 @@
 // The words of a line, and readings spelt by digits, read. No public calls.
+
+#![tactic(auto)]
+
 ghost use Rattle.std.specs.Prelude.{◌≡◌, length};
 ghost use Rattle.words.specs.Order.{same};
 ghost use Rattle.text_words_spec.specs.Words.{PieceAt};

@@ -51,19 +51,19 @@ pieces-plain sep s f = pieces-one sep s (length s) (record { within = omega arit
 -- ---- from the pieces to the text
 
 -- the first of some texts, and those behind it
-abbrev pub firstText : List (List ℕ) → List ℕ
-firstText [] = []
-firstText (u ∷ us) = u
+abbrev pub first_text : List (List ℕ) → List ℕ
+first_text [] = []
+first_text (u ∷ us) = u
 
-abbrev pub behindFirst : List (List ℕ) → List (List ℕ)
-behindFirst [] = []
-behindFirst (u ∷ us) = us
+abbrev pub behind_first : List (List ℕ) → List (List ℕ)
+behind_first [] = []
+behind_first (u ∷ us) = us
 
 pub first-same : (u v : List ℕ) (us vs : List (List ℕ)) → u ∷ us ≡ v ∷ vs → u ≡ v
-first-same u v us vs e = ap firstText e
+first-same u v us vs e = ap first_text e
 
 pub behind-same : (u v : List ℕ) (us vs : List (List ℕ)) → u ∷ us ≡ v ∷ vs → us ≡ vs
-behind-same u v us vs e = ap behindFirst e
+behind-same u v us vs e = ap behind_first e
 
 pub none-some : (u : List ℕ) (us : List (List ℕ)) → [] ≡ u ∷ us → ⊥
 none-some u us e = let z : 0 ≡ suc (length us) = ap (λ (x : List (List ℕ)). length x) e in omega arith

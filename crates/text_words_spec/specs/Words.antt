@@ -6,7 +6,7 @@
 -- The words of a line are its pieces between spaces, so that two spaces side by side, or one at the end, have an empty word between or behind them.
 -- That a text spells one reading: proofs/Spelling. Pieces one after another: proofs/Pieces.
 use Rattle.std.specs.Prelude.{ℕ, ◌<◌, ◌≤◌, ◌≡◌, true, false, List, [], ◌∷◌, map, eqb, length, get_or}
-use Rattle.text_spec.specs.Text.{hexOf}
+use Rattle.text_spec.specs.Text.{hex_of}
 
 -- a character in front of the first piece
 unfoldable pub onto : ℕ → List (List ℕ) → List (List ℕ)
@@ -26,5 +26,5 @@ abbrev pub Nibbles : List ℕ → Type 0
 Nibbles w = (i : ℕ) → i < length w → get_or w i 0 < 16
 
 pub record Spelt (t w : List ℕ) : Type 0 where
-  pub digits : t ≡ map hexOf w
+  pub digits : t ≡ map hex_of w
   pub below : Nibbles w

@@ -1,6 +1,8 @@
 // Walks (01, 'Walks'): one record, a start and three steps, and the step to the next bracelet (02, request c). The record and what is promised of it stand in
 // `walk_spec`, what the last step promises in `walk_bracelet_spec`.
 
+#![tactic(auto)]
+
 ghost use Rattle.rings.specs.Necklace.{necklace, lyndon};
 ghost use Rattle.rings.specs.Prenecklace.{prenecklace};
 ghost use Rattle.walk_kind_laws.specs.Kinds.{kind_of};

@@ -9,25 +9,25 @@ use Rattle.rings.specs.Alike.{bracelet}
 use Rattle.rings.specs.Steps.{next_of}
 use Rattle.refusal.specs.Order.{Given, Passed}
 use Rattle.walk_spec.specs.declared.Walk.{Walk}
-use Rattle.walk_spec.specs.Record.{ringOf, walk_of, walkAsked}
+use Rattle.walk_spec.specs.Record.{ring_of, walk_of, walk_asked}
 use Rattle.walk_bracelet_spec.specs.declared.Arrival.{Arrival}
 use Rattle.walk_bracelet_spec.specs.declared.Arrival.TheVariants.{Moved, Done, Refused}
 
 -- the step came to the ring `to`: the least bracelet above the ring of w, whose record is handed back
 pub record Onward (w v : Walk) : Type 0 where
-  pub good : Passed (walkAsked w)
+  pub good : Passed (walk_asked w)
   pub to : List ℕ
-  pub next : next_of bracelet w.k (ringOf w) ≡ some to
+  pub next : next_of bracelet w.k (ring_of w) ≡ some to
   pub handed : v ≡ walk_of w.k to
 
 -- there is none above: the record as it was given
 pub record Last (w v : Walk) : Type 0 where
-  pub good : Passed (walkAsked w)
-  pub next : next_of bracelet w.k (ringOf w) ≡ none
+  pub good : Passed (walk_asked w)
+  pub next : next_of bracelet w.k (ring_of w) ≡ none
   pub kept : v ≡ w
 
 -- a step from the record w; refusals 1, 2, 3, 5
 abbrev pub ArrivalSays : Walk → Walk → Arrival → Type 0
 ArrivalSays w v Moved = Onward w v
 ArrivalSays w v Done = Last w v
-ArrivalSays w v (Refused r) = Given (walkAsked w) r × (v ≡ w)
+ArrivalSays w v (Refused r) = Given (walk_asked w) r × (v ≡ w)

@@ -1,5 +1,7 @@
 // What the step to the next bracelet answers (02, request c). The call is `walk`'s.
 
+#![tactic(auto)]
+
 use refusal::Refusal;
 use walk_spec::Walk;
 

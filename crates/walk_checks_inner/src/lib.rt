@@ -1,9 +1,11 @@
 // The checks of a walk's record: 1, 2, 3, 5. No public calls.
 
+#![tactic(auto)]
+
 ghost use Rattle.std.specs.Prelude.{true};
 ghost use Rattle.refusal.specs.Order.{CheckSays};
-ghost use Rattle.refusal.specs.Calls.{walkRecord};
-ghost use Rattle.walk_spec.specs.Record.{walkAsked};
+ghost use Rattle.refusal.specs.Calls.{walk_record};
+ghost use Rattle.walk_spec.specs.Record.{walk_asked};
 
 use refusal::{Checked, Refusal};
 use rings::MOST_SECTORS;
@@ -13,7 +15,7 @@ use walk_spec::Walk;
 
 // A walk's record: 1, 2, 3, where the sectors past n are 0.
 pub fn check_ring(n: usize, k: usize, ring: [u8; 64]) -> Checked
-    ensures { CheckSays (walkRecord n k ring true) result }
+    ensures { CheckSays (walk_record n k ring true) result }
 {
     match check_numbers_inner::check_numbers(n, n, k) {
         Checked::Refused(r) => Checked::Refused(r),
@@ -34,7 +36,7 @@ pub fn check_ring(n: usize, k: usize, ring: [u8; 64]) -> Checked
 // ---- all of it
 
 pub fn check_walk(w: Walk) -> Checked
-    ensures { CheckSays (walkAsked w) result }
+    ensures { CheckSays (walk_asked w) result }
 {
     let n = w.n;
     let ring = w.ring;

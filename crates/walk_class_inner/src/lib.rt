@@ -1,8 +1,10 @@
 // The class in a walk's record: whether a ring is a prenecklace of this class, and the sector to look at where it is not. No public calls.
 
+#![tactic(auto)]
+
 ghost use Rattle.std.specs.Prelude.{◌≡◌, ◌≤◌, take};
-ghost use Rattle.rings.specs.Class.{lookAt};
-ghost use Rattle.walk_spec.specs.Record.{onWalk};
+ghost use Rattle.rings.specs.Class.{look_at};
+ghost use Rattle.walk_spec.specs.Record.{on_walk};
 
 use rings::Class;
 
@@ -16,7 +18,7 @@ pub struct Looked {
 // Whether the first n sectors are a prenecklace of this class. The sector to look at is theirs, whatever class is claimed for them.
 pub fn on_walk(ring: [u8; 64], n: usize, class: Class) -> Looked
     requires { n ≤ 64 }
-    ensures { (result.on ≡ onWalk (take n ring) class) × (result.at ≡ lookAt (take n ring)) }
+    ensures { (result.on ≡ on_walk (take n ring) class) × (result.at ≡ look_at (take n ring)) }
 {
     let found = classify_inner::class_of(&ring[..n]);
     let at = classify_inner::loose_place(found);

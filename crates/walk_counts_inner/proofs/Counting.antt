@@ -10,9 +10,9 @@ use Rattle.words.proofs.Plain.{ℕ, suc, ◌+◌, ◌<◌, ◌≤◌, add-one, a
 use Rattle.words.proofs.Plain.{set, replicate, length-set, length-replicate, get_or-replicate, ext_get_or, get_or-set_same, get_or-set_other, eq-eqb, ne_eqb, eqb-true}
 use Rattle.words.specs.{Search.tab, Search.all_below, Order.same}
 use Rattle.words.proofs.Split.{lt, eq, gt, tri, not_right, agree}
-use Rattle.words.proofs.Search.{length-tab, getD-tab, all-at, all_of}
+use Rattle.words.proofs.Search.{length-tab, get_d-tab, all-at, all_of}
 use Rattle.words.proofs.{Sequence.sec, Lex.same_true, Lex.true_same}
-use Rattle.rings.specs.Counts.{occurs, countsOf}
+use Rattle.rings.specs.Counts.{occurs, counts_of}
 use Rattle.shades_tally_inner.proofs.Tallying.{occurs-none, occurs-here, occurs-other, tally-hit, tally-miss}
 
 -- ---- counting
@@ -48,11 +48,11 @@ pub count-more : (m : ℕ) (s cs : List ℕ) (i b : ℕ) → i < length s → Co
 count-more m s cs i b within c e h = rw e (count-sector m s cs i within c (omega arith))
 
 -- every sector is looked at
-pub count-end : (m : ℕ) (s cs : List ℕ) (i : ℕ) → Counting m s cs i → cs ≡ countsOf m (take i s)
-unfolding countsOf
+pub count-end : (m : ℕ) (s cs : List ℕ) (i : ℕ) → Counting m s cs i → cs ≡ counts_of m (take i s)
+unfolding counts_of
 count-end m s cs i c =
-    ext_get_or 0 cs (countsOf m (take i s)) (c.size ∙ sym (length-tab m (λ b. occurs b (take i s))))
-    (λ b h. c.each b (omega (arith, c.size)) ∙ sym (getD-tab m (λ x. occurs x (take i s)) b 0 (omega (arith, c.size))))
+    ext_get_or 0 cs (counts_of m (take i s)) (c.size ∙ sym (length-tab m (λ b. occurs b (take i s))))
+    (λ b h. c.each b (omega (arith, c.size)) ∙ sym (get_d-tab m (λ x. occurs x (take i s)) b 0 (omega (arith, c.size))))
 
 -- no shade stands in a word more often than the word is long
 pub occurs-le : (b : ℕ) (w : List ℕ) → occurs b w ≤ length w
@@ -85,17 +85,17 @@ copy_more all cs b h c = record {
   ];
 }
 
-pub copy-end : (w all cs : List ℕ) (b : ℕ) → all ≡ countsOf 256 w → Copying all cs b → 16 ≤ b → cs ≡ countsOf 16 w
-unfolding countsOf
+pub copy-end : (w all cs : List ℕ) (b : ℕ) → all ≡ counts_of 256 w → Copying all cs b → 16 ≤ b → cs ≡ counts_of 16 w
+unfolding counts_of
 copy-end w all cs b e c h =
-    ext_get_or 0 cs (countsOf 16 w) (c.size ∙ sym (length-tab 16 (λ x. occurs x w)))
-    (λ x l. let m : x < 16 = omega (arith, c.size) in c.each x (omega arith) ∙ rw e (getD-tab 256 (λ y. occurs y w) x 0 (omega arith)) ∙ sym (getD-tab 16 (λ y. occurs y w) x 0 m))
+    ext_get_or 0 cs (counts_of 16 w) (c.size ∙ sym (length-tab 16 (λ x. occurs x w)))
+    (λ x l. let m : x < 16 = omega (arith, c.size) in c.each x (omega arith) ∙ rw e (get_d-tab 256 (λ y. occurs y w) x 0 (omega arith)) ∙ sym (get_d-tab 16 (λ y. occurs y w) x 0 m))
 
 -- ---- comparing
 
 -- two numbers are the same at place j
-abbrev pub alikeAt : List ℕ → List ℕ → ℕ → Bool
-alikeAt a b j = eqb (get_or a j 0) (get_or b j 0)
+abbrev pub alike_at : List ℕ → List ℕ → ℕ → Bool
+alike_at a b j = eqb (get_or a j 0) (get_or b j 0)
 
 -- the next two are the same, or they differ
 pub still-same : (t : Bool) (x y : ℕ) → x ≡ y → t ≡ (t && eqb x y)
@@ -106,13 +106,13 @@ pub still-not : (t : Bool) (x y : ℕ) → (x ≡ y → ⊥) → false ≡ (t &&
 still-not t x y e = sym (not_right t (eqb x y) (ne_eqb x y e))
 
 -- one count more
-pub alike-more : (a b : List ℕ) (i : ℕ) (t r : Bool) → t ≡ all_below i (alikeAt a b) → r ≡ (t && alikeAt a b i) → r ≡ all_below (i + 1) (alikeAt a b)
+pub alike-more : (a b : List ℕ) (i : ℕ) (t r : Bool) → t ≡ all_below i (alike_at a b) → r ≡ (t && alike_at a b i) → r ≡ all_below (i + 1) (alike_at a b)
 unfolding all_below
-alike-more a b i t r e h = rw (add-one i) (h ∙ ap (λ (x : Bool). x && alikeAt a b i) e)
+alike-more a b i t r e h = rw (add-one i) (h ∙ ap (λ (x : Bool). x && alike_at a b i) e)
 
 -- two lists of counts are the same exactly where each count is
-pub same-all : (a b : List ℕ) → length a ≡ length b → all_below (length a) (alikeAt a b) ≡ same a b
+pub same-all : (a b : List ℕ) → length a ≡ length b → all_below (length a) (alike_at a b) ≡ same a b
 same-all a b e =
-    agree (all_below (length a) (alikeAt a b)) (same a b)
-    (λ h. true_same a b (ext_get_or 0 a b e (λ j l. eqb-true (get_or a j 0) (get_or b j 0) (all-at (length a) (alikeAt a b) h j l))))
-    (λ h. all_of (length a) (alikeAt a b) (λ j l. eq-eqb (get_or a j 0) (get_or b j 0) (ap (λ (x : List ℕ). get_or x j 0) (same_true a b h))))
+    agree (all_below (length a) (alike_at a b)) (same a b)
+    (λ h. true_same a b (ext_get_or 0 a b e (λ j l. eqb-true (get_or a j 0) (get_or b j 0) (all-at (length a) (alike_at a b) h j l))))
+    (λ h. all_of (length a) (alike_at a b) (λ j l. eq-eqb (get_or a j 0) (get_or b j 0) (ap (λ (x : List ℕ). get_or x j 0) (same_true a b h))))

@@ -1,8 +1,10 @@
 // The shade counts of a ring, 16 of them, as a walk's record carries them. No public calls.
 
+#![tactic(auto)]
+
 ghost use Rattle.std.specs.Prelude.{◌≡◌, ◌&&◌, ◌<◌, ◌≤◌, take, eqb};
 ghost use Rattle.words.specs.Order.{same};
-ghost use Rattle.rings.specs.Counts.{countsOf};
+ghost use Rattle.rings.specs.Counts.{counts_of};
 
 // A byte as an index: it is below 256.
 fn index(x: u8) -> usize
@@ -14,7 +16,7 @@ fn index(x: u8) -> usize
 // How often each byte stands in the first n sectors. There is a count for each of the 256, so that no sector need be asked whether it is a shade.
 fn byte_counts(ring: [u8; 64], n: usize) -> [u8; 256]
     requires { n ≤ 64 }
-    ensures { result ≡ countsOf 256 (take n ring) }
+    ensures { result ≡ counts_of 256 (take n ring) }
 {
     let mut counts = [0u8; 256];
     let mut at = 0;
@@ -29,7 +31,7 @@ fn byte_counts(ring: [u8; 64], n: usize) -> [u8; 256]
 // How often each of the 16 shades stands in the first n sectors. A byte that is no shade is passed over.
 pub fn counts_of(ring: [u8; 64], n: usize) -> [u8; 16]
     requires { n ≤ 64 }
-    ensures { result ≡ countsOf 16 (take n ring) }
+    ensures { result ≡ counts_of 16 (take n ring) }
 {
     let all = byte_counts(ring, n);
     let mut counts = [0u8; 16];

@@ -1,5 +1,7 @@
 // The three kinds of step, and what a prenecklace is by its lyn. This crate has no functions: its definitions, which serve the code alone, are in specs/, their laws in proofs/.
 
+#![tactic(auto)]
+
 // The three kinds of step.
 #[derive(Drop)]
 pub enum Kind {

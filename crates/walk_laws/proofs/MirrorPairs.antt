@@ -16,7 +16,7 @@ use Rattle.bracelet_laws.specs.Pairs.{OneOfEachPair, EvenForItself}
 use Rattle.bracelet_laws.proofs.Words.{bracelet-necklace}
 use Rattle.bracelet_laws.proofs.Pairs.{walk-bracelets, walk-order, walk-pairs, walk-even}
 use Rattle.refusal.specs.declared.Checked.TheVariants as C
-use Rattle.walk_spec.specs.{declared.Walk.Walk, Record.ringOf, Says.StartSays, Says.Steps}
+use Rattle.walk_spec.specs.{declared.Walk.Walk, Record.ring_of, Says.StartSays, Says.Steps}
 use Rattle.walk_spec.specs.Says as says
 use Rattle.walk_laws.specs.Arrivals.{Arrivals, PairsHandedOut, ends, goes}
 use Rattle.walk_laws.proofs.Started.{start-zeros, long, many, start-walk, steps-end}
@@ -42,21 +42,21 @@ module _ (n k : ℕ) (out : PairsHandedOut n k) where
   walked = let s = arrivals-steps out.steps in (s.0, start-walk n k out.first out.started bracelet s.1)
 
   -- all rings handed out are bracelets of n and k
-  pub pairs-bracelets : All (λ u. Reading n k u × (bracelet u ≡ true)) (ringOf out.first ∷ out.rings)
+  pub pairs-bracelets : All (λ u. Reading n k u × (bracelet u ≡ true)) (ring_of out.first ∷ out.rings)
   pairs-bracelets = rw (start-zeros n k out.first out.started) (walk-bracelets n k (long n k out.first out.started)
       (many n k out.first out.started) out.rings walked.0 walked.1)
 
   -- in increasing order
-  pub pairs-order : Increasing (ringOf out.first ∷ out.rings)
+  pub pairs-order : Increasing (ring_of out.first ∷ out.rings)
   pairs-order = rw (start-zeros n k out.first out.started) (walk-order n k (long n k out.first out.started) (many n k out.first out.started) out.rings walked.0 walked.1)
 
   -- of each ring and its mirror image exactly one is handed out, exactly once
-  pub pairs-once : OneOfEachPair n k (ringOf out.first) out.rings
+  pub pairs-once : OneOfEachPair n k (ring_of out.first) out.rings
   pairs-once = subst (λ (u : List ℕ). OneOfEachPair n k u out.rings) (sym (start-zeros n k out.first out.started))
       (walk-pairs n k (long n k out.first out.started) (many n k out.first out.started) out.rings walked.0 walked.1)
 
   -- an even-handed ring stands for itself
-  pub pairs-even : EvenForItself n k (ringOf out.first) out.rings
+  pub pairs-even : EvenForItself n k (ring_of out.first) out.rings
   pairs-even = subst (λ (u : List ℕ). EvenForItself n k u out.rings) (sym (start-zeros n k out.first out.started))
       (walk-even n k (long n k out.first out.started) (many n k out.first out.started) out.rings walked.0 walked.1)
 

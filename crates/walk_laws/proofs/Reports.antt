@@ -6,7 +6,7 @@
 use Rattle.words.proofs.Plain.{ℕ, ◌≤◌, arith, ◌≡◌, refl, Bool, List}
 use Rattle.refusal.specs.{declared.Refusal.Refusal, Order.Passed}
 use Rattle.refusal.proofs.Unique.{never_both}
-use Rattle.walk_spec.specs.{declared.Walk.Walk, declared.Outcome.Outcome, Record.walkAsked, Says.StepSays}
+use Rattle.walk_spec.specs.{declared.Walk.Walk, declared.Outcome.Outcome, Record.walk_asked, Says.StepSays}
 use Rattle.walk_spec.specs.declared.Outcome.TheVariants.{Moved, Done, Refused}
 use Rattle.walk_laws.specs.Reports.{ReportsUpTo, ReportsMoves}
 
@@ -27,7 +27,7 @@ pub refused_none : (m : ℕ) (r : Refusal) → ReportsMoves m (Refused r) → �
 refused_none m r p = p
 
 -- a record that passes its checks is not refused, so a number is reported
-pub accepted-reports : (kind : List ℕ → Bool) (w v : Walk) (o : Outcome) → Passed (walkAsked w) → StepSays kind w v o → (m : ℕ) × ReportsMoves m o
+pub accepted-reports : (kind : List ℕ → Bool) (w v : Walk) (o : Outcome) → Passed (walk_asked w) → StepSays kind w v o → (m : ℕ) × ReportsMoves m o
 accepted-reports kind w v (Moved m) good says = (m, refl)
 accepted-reports kind w v (Done m) good says = (m, refl)
-accepted-reports kind w v (Refused r) good says = absurd (never_both (walkAsked w) r says.0 good)
+accepted-reports kind w v (Refused r) good says = absurd (never_both (walk_asked w) r says.0 good)

@@ -9,7 +9,7 @@ use Rattle.rings.specs.Prenecklace.{prenecklace}
 use Rattle.rings.specs.Steps.{moves, FullWalk, done, step}
 use Rattle.ring_laws.proofs.FullWalk.{next-facts, walk-exists, zeros, length-zeros}
 use Rattle.refusal.specs.declared.Checked.TheVariants as C
-use Rattle.walk_spec.specs.{declared.Walk.Walk, Record.ringOf, Record.walk_of}
+use Rattle.walk_spec.specs.{declared.Walk.Walk, Record.ring_of, Record.walk_of}
 use Rattle.walk_spec.specs.Says.{StartSays, Steps, ends, goes}
 use Rattle.walk_record_laws.proofs.{Good.ring_of, Good.walk-good, Sums.steps-walk}
 
@@ -17,8 +17,8 @@ use Rattle.walk_record_laws.proofs.{Good.ring_of, Good.walk-good, Sums.steps-wal
 
 module _ (n k : ℕ) (first : Walk) (started : StartSays (zeros n) k first C.Good) where
   -- the ring that the start hands out is the all-zero ring
-  pub start-zeros : ringOf first ≡ zeros n
-  start-zeros = ap ringOf started.1 ∙ ring_of k (zeros n)
+  pub start-zeros : ring_of first ≡ zeros n
+  start-zeros = ap ring_of started.1 ∙ ring_of_lem k (zeros n)
 
   -- it was not refused, so n and k are at least 1
   pub long : 0 < n
@@ -38,11 +38,11 @@ module _ (kind : List ℕ → Bool) (only : (u : List ℕ) → kind u ≡ true �
   pub walk_steps : {w : List ℕ} {rings : List (List ℕ)} {m : ℕ} → Reading n k w → prenecklace w ≡ true → FullWalk kind k w rings m → Steps kind (walk_of k w) rings m
   walk_steps r p (done {w = w} e) =
       ends {v = walk_of k w}
-      (record { good = walk-good n k w sized shaded r p; next = rw (ring_of k w) e; handed = refl; counted = ap (λ (u : List ℕ). moves k u none) (sym (ring_of k w)) })
+      (record { good = walk-good n k w sized shaded r p; next = rw (ring_of_lem k w) e; handed = refl; counted = ap (λ (u : List ℕ). moves k u none) (sym (ring_of_lem k w)) })
   walk_steps r p (step {w = w} {v = v} {rings = rings} {m = m} e f) =
       let g = next-facts kind k w v e in
-      subst (λ (u : List ℕ). Steps kind (walk_of k w) (u ∷ rings) (moves k w (some v) + m)) (ring_of k v) (goes {v = walk_of k v}
-      (record { good = walk-good n k w sized shaded r p; to = v; next = rw (ring_of k w) e; handed = refl; counted = ap (λ (u : List ℕ). moves k u (some v)) (sym (ring_of k w)) })
+      subst (λ (u : List ℕ). Steps kind (walk_of k w) (u ∷ rings) (moves k w (some v) + m)) (ring_of_lem k v) (goes {v = walk_of k v}
+      (record { good = walk-good n k w sized shaded r p; to = v; next = rw (ring_of_lem k w) e; handed = refl; counted = ap (λ (u : List ℕ). moves k u (some v)) (sym (ring_of_lem k w)) })
       (walk_steps (subst (λ (x : ℕ). Reading x k v) r.long g.0) (only v g.2) f))
 
 -- so from every record that a start hands out they come to Done

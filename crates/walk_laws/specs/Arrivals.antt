@@ -6,7 +6,7 @@ use Rattle.std.specs.Prelude.{ℕ, List, [], ◌∷◌}
 use Rattle.rings.specs.Steps.{zeros}
 use Rattle.refusal.specs.declared.Checked.TheVariants as C
 use Rattle.walk_spec.specs.declared.Walk.{Walk}
-use Rattle.walk_spec.specs.Record.{ringOf}
+use Rattle.walk_spec.specs.Record.{ring_of}
 use Rattle.walk_spec.specs.Says.{StartSays}
 use Rattle.walk_bracelet_spec.specs.declared.Arrival.TheVariants.{Moved, Done}
 use Rattle.walk_bracelet_spec.specs.Says.{ArrivalSays}
@@ -14,7 +14,7 @@ use Rattle.walk_bracelet_spec.specs.Says.{ArrivalSays}
 -- steps one after another until Done, as the contract tells them: the rings they came to
 pub data Arrivals : Walk → List (List ℕ) → Type 0 where
   ends : {w v : Walk} → ArrivalSays w v Done → Arrivals w []
-  goes : {w v : Walk} {rings : List (List ℕ)} → ArrivalSays w v Moved → Arrivals v rings → Arrivals w (ringOf v ∷ rings)
+  goes : {w v : Walk} {rings : List (List ℕ)} → ArrivalSays w v Moved → Arrivals v rings → Arrivals w (ring_of v ∷ rings)
 
 -- a start from the all-zero ring of n sectors and k shades, and the steps to the next bracelet from it until Done
 pub record PairsHandedOut (n k : ℕ) : Type 0 where

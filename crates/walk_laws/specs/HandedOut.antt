@@ -9,11 +9,11 @@
 use Rattle.std.specs.Prelude.{ℕ, suc, ◌≤◌, ◌≡◌, List}
 use Rattle.rings.specs.Necklace.{necklace}
 use Rattle.rings.specs.Prenecklace.{prenecklace}
-use Rattle.rings.specs.Steps.{howMany, howManyTo, zeros}
+use Rattle.rings.specs.Steps.{how_many, how_many_to, zeros}
 use Rattle.ring_total_laws.specs.OneRing.{OneRingEach, PeriodsAddUp}
 use Rattle.refusal.specs.declared.Checked.TheVariants as C
 use Rattle.walk_spec.specs.declared.Walk.{Walk}
-use Rattle.walk_spec.specs.Record.{ringOf}
+use Rattle.walk_spec.specs.Record.{ring_of}
 use Rattle.walk_spec.specs.Says.{StartSays, Steps}
 
 -- a start from the all-zero ring of n sectors and k shades, and the steps by necklaces from it until Done, as their contracts tell them
@@ -28,16 +28,16 @@ pub record HandedOut (n k : ℕ) : Type 0 where
 
 -- each reading of n and k is a turn of exactly one ring handed out
 abbrev pub OneRingHandedOut : (n k : ℕ) → HandedOut n k → Type 0
-OneRingHandedOut n k out = OneRingEach n k (ringOf out.first) out.rings
+OneRingHandedOut n k out = OneRingEach n k (ring_of out.first) out.rings
 
 -- the periods of the rings handed out add up to k to the power n
 abbrev pub PeriodsHandedOut : (n k : ℕ) → HandedOut n k → Type 0
-PeriodsHandedOut n k out = PeriodsAddUp n k (ringOf out.first) out.rings
+PeriodsHandedOut n k out = PeriodsAddUp n k (ring_of out.first) out.rings
 
 -- the moves that the steps report add up to one less than the prenecklaces of n and k
 abbrev pub MovesHandedOut : (n k : ℕ) → HandedOut n k → Type 0
-MovesHandedOut n k out = suc out.sum ≡ howMany prenecklace n k
+MovesHandedOut n k out = suc out.sum ≡ how_many prenecklace n k
 
 -- and to at most one less than the necklaces of k shades and of 1 to n sectors together
 abbrev pub MovesWithin : (n k : ℕ) → HandedOut n k → Type 0
-MovesWithin n k out = suc out.sum ≤ howManyTo necklace n k
+MovesWithin n k out = suc out.sum ≤ how_many_to necklace n k

@@ -12,16 +12,16 @@ use Rattle.words.proofs.Plain.{eq-eqb, ne_eqb, eqb-true, eqb-false}
 use native.Mathlib.Nat.{mod_self, mod-eq_of_lt, add-mod_left}
 use Rattle.words.specs.{Order.before, Order.up_to, Readings.Reading}
 use Rattle.words.proofs.Split.{Test, passes, fails, test, agree, clash, lt, eq, gt, tri}
-use Rattle.words.proofs.Lex.{ahead, equal, behind, lex, before-irrefl, before-not-upTo}
+use Rattle.words.proofs.Lex.{ahead, equal, behind, lex, before-irrefl, before-not-up_to}
 use Rattle.words.proofs.Sequence.{sec}
 use Rattle.rings.specs.declared.Class.TheVariants.{Single, Repeating, Opening}
 use Rattle.rings.specs.{Necklace.necklace, Necklace.lyndon, Prenecklace.prenecklace, Prenecklace.lyn, Class.class_of}
-use Rattle.rings.specs.Next.{lastLow, raised, repeated, nextPrenecklace}
+use Rattle.rings.specs.Next.{last_low, raised, repeated, next_prenecklace}
 use Rattle.ring_laws.proofs.{Run.Run, Words.necklace-prenecklace, Bound.lyn-rises}
 use Rattle.ring_laws.proofs.Lyndon.{run-necklace, necklace-run, run-prenecklace}
 use Rattle.ring_laws.proofs.Classes.{run-lyndon, lyndon-run, lyndon-necklace, class-single, class-repeating, class-opening}
 use Rattle.ring_laws.proofs.Next.{low-le, low-at, low-none, length-next, next-is-run, next-lyn-low}
-use Rattle.ring_laws.proofs.Walk.{Kind, Walked, walk_start, walk-found, walk-on, walk-done}
+use Rattle.ring_laws.proofs.Walk.{Kind, Walked, walk_start_lem, walk-found, walk-on, walk-done}
 use Rattle.walk_kind_laws.specs.declared.Kind as K
 use Rattle.walk_kind_laws.specs.declared.Kind.TheVariants.{Prenecklace, Necklace, Lyndon}
 use Rattle.walk_kind_laws.specs.Kinds.{kind_of, kind_at, ReadyToStep}
@@ -29,7 +29,7 @@ use Rattle.walk_kind_laws.proofs.ByLyn.{kind-only, kind-at, kind-full}
 use Rattle.walk_moves_inner.specs.Going.{Found}
 
 -- where every sector is k - 1 the ring is a necklace
-full-necklace : (k : ℕ) (v : List ℕ) → Reading (length v) k v → 0 < length v → lastLow k v ≡ 0 → necklace v ≡ true
+full-necklace : (k : ℕ) (v : List ℕ) → Reading (length v) k v → 0 < length v → last_low k v ≡ 0 → necklace v ≡ true
 full-necklace k v r z e =
     run-necklace v 1 (record { pos = omega arith; fits = z; again = λ i j q b. top i b ∙ sym (top j (omega arith)); lyn = λ i a b. absurd (omega arith) }) (omega arith)
   where
@@ -55,9 +55,9 @@ pub record Risen (kind : K.Kind) (k : ℕ) (start : List ℕ) (p m i : ℕ) (nex
 module _ {kind : K.Kind} {k : ℕ} {start : List ℕ} (ready : ReadyToStep k start) where
   pub stands-start : Stands kind k start start 0 0
   stands-start =
-      record { walked = walk_start (kind_of kind) k start ready.reading ready.pre; few = omega arith; short = ready.pos; lyn-is = inl refl }
+      record { walked = walk_start_lem (kind_of kind) k start ready.reading ready.pre; few = omega arith; short = ready.pos; lyn-is = inl refl }
 
-  module _ {ring : List ℕ} {p m i : ℕ} (at : Stands kind k start ring p m) (low : i ≡ lastLow k ring) where
+  module _ {ring : List ℕ} {p m i : ℕ} (at : Stands kind k start ring p m) (low : i ≡ last_low k ring) where
     own : Reading (length ring) k ring
     own = rw at.walked.long at.walked.reading
 
@@ -82,7 +82,7 @@ module _ {kind : K.Kind} {k : ℕ} {start : List ℕ} (ready : ReadyToStep k sta
             elim (lex start ring) [
               | ahead l ↦ clash (before ring ring) (at.walked.met ring at.walked.reading q l) (before-irrefl ring)
               | equal d ↦ sym d
-              | behind l ↦ clash (up_to start ring) at.walked.past (before-not-upTo start ring l)
+              | behind l ↦ clash (up_to start ring) at.walked.past (before-not-up_to start ring l)
             ]
 
     -- each move raises lyn
@@ -93,22 +93,22 @@ module _ {kind : K.Kind} {k : ℕ} {start : List ℕ} (ready : ReadyToStep k sta
         at.lyn-is
 
     module _ (z : 0 < i) {next : List ℕ} (moved : next ≡ repeated (length ring) (raised i ring)) where
-      lifted : 0 < lastLow k ring
+      lifted : 0 < last_low k ring
       lifted = rw (← low) z
 
-      moved-next : next ≡ nextPrenecklace k ring
-      unfolding nextPrenecklace
+      moved-next : next ≡ next_prenecklace k ring
+      unfolding next_prenecklace
       moved-next = rw low at moved
 
       moved-long : length next ≡ length ring
       moved-long = ap length moved-next ∙ length-next k ring
 
-      next-run : Run (sec (nextPrenecklace k ring)) (length (nextPrenecklace k ring)) i
+      next-run : Run (sec (next_prenecklace k ring)) (length (next_prenecklace k ring)) i
       next-run = rw low (next-is-run k ring lifted at.walked.pre)
 
       -- whether the next prenecklace is of the kind
-      next-kind : kind_of kind (nextPrenecklace k ring) ≡ kind_at kind (length next) i
-      next-kind = rw moved-next (kind-at kind (nextPrenecklace k ring) i next-run)
+      next-kind : kind_of kind (next_prenecklace k ring) ≡ kind_at kind (length next) i
+      next-kind = rw moved-next (kind-at kind (next_prenecklace k ring) i next-run)
 
       -- it is of the kind
       stands-found : kind_at kind (length next) i ≡ true → Found kind k start next (record { lyn = i; moves = m + 1 })

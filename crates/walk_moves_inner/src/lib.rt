@@ -1,6 +1,8 @@
 // The moves of a step: from a prenecklace to the next one, until one of the kind is met. These are no public calls: the steps of crate `walk` check
 // what `of_kind`, `class_at` and `advance` ask for.
 
+#![tactic(auto)]
+
 ghost use Rattle.std.specs.Prelude.{◌≡◌, ◌%◌, ◌<◌, ◌≤◌, eqb};
 ghost use Rattle.walk_kind_laws.specs.Kinds.{kind_at, class_at, ReadyToStep};
 ghost use Rattle.walk_moves_inner.specs.Going.{Found};

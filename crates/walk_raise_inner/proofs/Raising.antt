@@ -9,34 +9,34 @@ use native.Mathlib.Nat.{mod-lt, mod-eq_of_lt, mod_self, mod-add-mod}
 use Rattle.words.specs.Search.{greatest}
 use Rattle.words.proofs.Split.{lt, eq, gt, tri, clash}
 use Rattle.words.proofs.Search.{greatest-is, greatest-at, greatest-le}
-use Rattle.rings.specs.Next.{lowAt, lastLow, raised, repeated}
+use Rattle.rings.specs.Next.{low_at, last_low, raised, repeated}
 use Rattle.ring_laws.proofs.Next.{length-raised, raised-low, raised-last, length-repeated, repeated-at}
 
 -- ---- the last place to raise
 
 -- no place past i, counted from 1, can be raised
 abbrev pub Over : ℕ → List ℕ → ℕ → Type 0
-Over k w i = (m : ℕ) → i < m → m ≤ length w → lowAt k w m ≡ false
+Over k w i = (m : ℕ) → i < m → m ≤ length w → low_at k w m ≡ false
 
 pub over-start : (k : ℕ) (w : List ℕ) → Over k w (length w)
 over-start k w m h b = absurd (omega arith)
 
-pub over_none : (k : ℕ) (w : List ℕ) → Over k w 0 → 0 ≡ lastLow k w
-unfolding lastLow
+pub over_none : (k : ℕ) (w : List ℕ) → Over k w 0 → 0 ≡ last_low k w
+unfolding last_low
 over_none k w h =
-    let g = greatest (length w) (lowAt k w) in
-    elim (tri 0 g) [ lt z ↦ clash (lowAt k w g) (greatest-at (length w) (lowAt k w) z) (h g z (greatest-le (length w) (lowAt k w))) | eq z ↦ z | gt z ↦ absurd (omega arith) ]
+    let g = greatest (length w) (low_at k w) in
+    elim (tri 0 g) [ lt z ↦ clash (low_at k w g) (greatest-at (length w) (low_at k w) z) (h g z (greatest-le (length w) (low_at k w))) | eq z ↦ z | gt z ↦ absurd (omega arith) ]
 
 -- there is no sector, or no shade at all
-pub over-empty : (k : ℕ) (w : List ℕ) → length w < 1 → 0 ≡ lastLow k w
+pub over-empty : (k : ℕ) (w : List ℕ) → length w < 1 → 0 ≡ last_low k w
 over-empty k w e = over_none k w (λ m h b. absurd (omega arith))
 
-pub over-shadeless : (k : ℕ) (w : List ℕ) → k < 1 → 0 ≡ lastLow k w
-unfolding lowAt
+pub over-shadeless : (k : ℕ) (w : List ℕ) → k < 1 → 0 ≡ last_low k w
+unfolding low_at
 over-shadeless k w e = over_none k w (λ m h b. le-ltb (suc (get_or w (m - 1) 0)) k (omega arith))
 
 pub over-more : (k : ℕ) (w : List ℕ) (i : ℕ) → 0 < i → Over k w i → k ≤ get_or w (i - 1) 0 + 1 → Over k w (i - 1)
-unfolding lowAt
+unfolding low_at
 over-more k w i z h l m b d =
     elim (tri i m) [
       | lt e ↦ h m e d
@@ -44,9 +44,9 @@ over-more k w i z h l m b d =
       | gt e ↦ absurd (omega arith)
     ]
 
-pub over-found : (k : ℕ) (w : List ℕ) (i : ℕ) → 0 < i → i ≤ length w → Over k w i → get_or w (i - 1) 0 + 1 < k → i ≡ lastLow k w
-unfolding lastLow lowAt
-over-found k w i z b h l = sym (greatest-is (length w) (lowAt k w) i z b (lt-ltb (suc (get_or w (i - 1) 0)) k (omega arith)) h)
+pub over-found : (k : ℕ) (w : List ℕ) (i : ℕ) → 0 < i → i ≤ length w → Over k w i → get_or w (i - 1) 0 + 1 < k → i ≡ last_low k w
+unfolding last_low low_at
+over-found k w i z b h l = sym (greatest-is (length w) (low_at k w) i z b (lt-ltb (suc (get_or w (i - 1) 0)) k (omega arith)) h)
 
 -- ---- the copying
 

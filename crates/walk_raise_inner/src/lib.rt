@@ -1,6 +1,9 @@
 // One move (001, Definition 2): the last place to raise, and raising it. No public calls.
+
+#![tactic(auto)]
+
 ghost use Rattle.std.specs.Prelude.{◌≡◌, ◌-◌, ◌<◌, ◌≤◌, length, get_or};
-ghost use Rattle.rings.specs.Next.{lastLow, raised, repeated};
+ghost use Rattle.rings.specs.Next.{last_low, raised, repeated};
 
 fn wide(x: u8) -> usize
     ensures { result ≡ x }
@@ -10,7 +13,7 @@ fn wide(x: u8) -> usize
 
 // The last place, counted from 1, that holds less than k - 1; 0 where every sector is k - 1. The last sector is tested apart: it is the one in most rings.
 pub fn last_low(s: &[u8], k: usize) -> usize
-    ensures { result ≡ lastLow k s.now }
+    ensures { result ≡ last_low k s.now }
 {
     let n = s.len();
     if n < 1 {

@@ -5,42 +5,42 @@
 --     step-refused-as                     what is refused, the start refuses the same
 use Rattle.words.proofs.Plain.{ℕ, ◌≡◌, refl, inl, inr, Bool, List, length}
 use Rattle.rings.specs.Prenecklace.{prenecklace}
-use Rattle.refusal.specs.{declared.Refusal.Refusal, Order.Passed, Order.Given, Calls.walkStart}
+use Rattle.refusal.specs.{declared.Refusal.Refusal, Order.Passed, Order.Given, Calls.walk_start}
 use Rattle.refusal.specs.declared.Checked.TheVariants as C
 use Rattle.walk_spec.specs.declared.Outcome.TheVariants as O
-use Rattle.walk_spec.specs.Record.{walk_of, emptyWalk, walkAsked}
+use Rattle.walk_spec.specs.Record.{walk_of, empty_walk, walk_asked}
 use Rattle.walk_spec.specs.Says.{StartSays, StepSays}
 use Rattle.walk_bracelet_spec.specs.declared.Arrival.TheVariants as A
 use Rattle.walk_bracelet_spec.specs.Says.{ArrivalSays}
-use Rattle.walk_record_laws.proofs.Good.{ring_of, walk-good}
-use Rattle.walk_reading_spec.specs.Says.{readingOrder, StepFromSays, BraceletFromSays}
+use Rattle.walk_record_laws.proofs.Good.{ring_of_lem, walk-good}
+use Rattle.walk_reading_spec.specs.Says.{reading_order, StepFromSays, BraceletFromSays}
 
 module _ (w : List ℕ) (k : ℕ) (b : List ℕ) where
   -- 4 is not asked of a start
-  pub start-passed : Passed (readingOrder w k (length b)) → StartSays w k (walk_of k w) C.Good
+  pub start-passed : Passed (reading_order w k (length b)) → StartSays w k (walk_of k w) C.Good
   start-passed p = ((((p.0.0.0, tt), tt), p.1), refl)
 
-  good : Passed (readingOrder w k (length b)) → Passed (walkAsked (walk_of k w))
+  good : Passed (reading_order w k (length b)) → Passed (walk_asked (walk_of k w))
   good p = walk-good (length w) k w p.0.0.0.0.0.0 p.0.0.0.0.1 (record { long = refl; shades = p.0.0.0.1 }) p.1
 
   pub step-moved-as : (kind : List ℕ → Bool) (m : ℕ) (c : List ℕ) → StepFromSays kind w k b (O.Moved m) c → StepSays kind (walk_of k w) (walk_of k c) (O.Moved m)
-  step-moved-as kind m c s = record { good = good s.0; to = c; next = rw (ring_of k w) s.1; handed = refl; counted = rw (ring_of k w) s.2 }
+  step-moved-as kind m c s = record { good = good s.0; to = c; next = rw (ring_of_lem k w) s.1; handed = refl; counted = rw (ring_of_lem k w) s.2 }
 
   pub step-done-as : (kind : List ℕ → Bool) (m : ℕ) (c : List ℕ) → StepFromSays kind w k b (O.Done m) c → StepSays kind (walk_of k w) (walk_of k w) (O.Done m)
-  step-done-as kind m c s = record { good = good s.0; next = rw (ring_of k w) s.1; handed = refl; counted = rw (ring_of k w) s.2 }
+  step-done-as kind m c s = record { good = good s.0; next = rw (ring_of_lem k w) s.1; handed = refl; counted = rw (ring_of_lem k w) s.2 }
 
   pub bracelet-moved-as : (c : List ℕ) → BraceletFromSays w k b A.Moved c → ArrivalSays (walk_of k w) (walk_of k c) A.Moved
-  bracelet-moved-as c s = record { good = good s.0; to = c; next = rw (ring_of k w) s.1; handed = refl }
+  bracelet-moved-as c s = record { good = good s.0; to = c; next = rw (ring_of_lem k w) s.1; handed = refl }
 
   pub bracelet-done-as : (c : List ℕ) → BraceletFromSays w k b A.Done c → ArrivalSays (walk_of k w) (walk_of k w) A.Done
-  bracelet-done-as c s = record { good = good s.0; next = rw (ring_of k w) s.1; kept = refl }
+  bracelet-done-as c s = record { good = good s.0; next = rw (ring_of_lem k w) s.1; kept = refl }
 
   -- neither 4 nor 6 fails, and before and behind them the checks are those of a start
-  refused_as : length b ≡ length w → (r : Refusal) → Given (readingOrder w k (length b)) r → Given (walkStart w k (prenecklace w)) r
+  refused_as : length b ≡ length w → (r : Refusal) → Given (reading_order w k (length b)) r → Given (walk_start w k (prenecklace w)) r
   refused_as room r (inl (inl (inl g))) = inl (inl (inl g))
   refused_as room r (inl (inl (inr (l, (e, g))))) = absurd (g room)
   refused_as room r (inl (inr (l, (e, g)))) = absurd (g tt)
   refused_as room r (inr (l, g)) = inr (((l.0.0, tt), tt), g)
 
-  pub step-refused-as : length b ≡ length w → (r : Refusal) → Given (readingOrder w k (length b)) r → StartSays w k emptyWalk (C.Refused r)
+  pub step-refused-as : length b ≡ length w → (r : Refusal) → Given (reading_order w k (length b)) r → StartSays w k empty_walk (C.Refused r)
   step-refused-as room r g = (refused_as room r g, refl)

@@ -1,6 +1,8 @@
 // Steps from a lent reading, which has to be a prenecklace, to the next ring in a lent output: for a caller that keeps no record of a walk. What they promise stands in
 // `walk_reading_spec`.
 
+#![tactic(auto)]
+
 ghost use Rattle.rings.specs.Necklace.{necklace, lyndon};
 ghost use Rattle.rings.specs.Prenecklace.{prenecklace};
 ghost use Rattle.walk_kind_laws.specs.Kinds.{kind_of};

@@ -4,24 +4,24 @@
 use Rattle.words.proofs.Plain.{ℕ, arith, ◌≡◌, refl, sym, ap, ◌∙◌, inl, inr, true, false, List, length, take_all}
 use Rattle.words.proofs.Split.{clash}
 use Rattle.rings.specs.{declared.Class.Class, Prenecklace.prenecklace}
-use Rattle.rings.specs.Class.{class_of, isLoose, loosePlace, lookAt}
+use Rattle.rings.specs.Class.{class_of, is_loose, loose_place, look_at}
 use Rattle.ring_laws.proofs.Classes.{loose-class, tight-class}
 use Rattle.refusal.specs.{declared.Refusal.Refusal, declared.Refusal.TheVariants.OffWalk, Order.Passed, Order.Given}
-use Rattle.refusal.specs.Calls.{withRoom}
-use Rattle.walk_reading_spec.specs.Says.{readingOrder}
+use Rattle.refusal.specs.Calls.{with_room}
+use Rattle.walk_reading_spec.specs.Says.{reading_order}
 
 module _ (w : List ℕ) (k m : ℕ) where
   -- the last check alone is asked besides
-  pub more-step : (r : Refusal) → Given (withRoom w k m) r → Given (readingOrder w k m) r
+  pub more-step : (r : Refusal) → Given (with_room w k m) r → Given (reading_order w k m) r
   more-step r (inl g) = inl g
   more-step r (inr (l, (e, g))) = absurd (g refl)
 
-  module _ (found : Class) (passed : Passed (withRoom w k m)) (is : found ≡ class_of w) where
-    pub step-off : (p : ℕ) → isLoose found ≡ true → p ≡ loosePlace found → Given (readingOrder w k m) (OffWalk p)
-    unfolding lookAt
+  module _ (found : Class) (passed : Passed (with_room w k m)) (is : found ≡ class_of w) where
+    pub step-off : (p : ℕ) → is_loose found ≡ true → p ≡ loose_place found → Given (reading_order w k m) (OffWalk p)
+    unfolding look_at
     step-off p h q =
         inr
-        (passed.0, (ap OffWalk (q ∙ ap loosePlace is ∙ ap lookAt (sym (take_all (length w) w (omega arith)))), λ t. clash (prenecklace w) t (loose-class w (rw is at h))))
+        (passed.0, (ap OffWalk (q ∙ ap loose_place is ∙ ap look_at (sym (take_all (length w) w (omega arith)))), λ t. clash (prenecklace w) t (loose-class w (rw is at h))))
 
-    pub step-on : isLoose found ≡ false → Passed (readingOrder w k m)
+    pub step-on : is_loose found ≡ false → Passed (reading_order w k m)
     step-on h = (passed.0, tight-class w (rw is at h))

@@ -12,10 +12,10 @@ use Rattle.walk_kind_laws.specs.Kinds.{ReadyToStep}
 use Rattle.bracelet_next_inner.specs.Going.{ByteReading}
 use Rattle.walk_spec.specs.declared.Outcome.TheVariants as O
 use Rattle.walk_bracelet_spec.specs.declared.Arrival.TheVariants as A
-use Rattle.walk_reading_spec.specs.Says.{readingOrder, StepFromSays, BraceletFromSays}
+use Rattle.walk_reading_spec.specs.Says.{reading_order, StepFromSays, BraceletFromSays}
 
 -- what passed
-module _ (w : List ℕ) (k m : ℕ) (passed : Passed (readingOrder w k m)) where
+module _ (w : List ℕ) (k m : ℕ) (passed : Passed (reading_order w k m)) where
   pub passed-room : m ≡ length w
   passed-room = passed.0.0.1
 
@@ -39,7 +39,7 @@ pub next-long : (kind : List ℕ → Bool) (k : ℕ) (w v : List ℕ) → next_o
 next-long kind k w v e = (next-facts kind k w v e).0.long
 
 -- the reading was copied to u, and a step made from there; the output held o before and holds c after
-module _ (w : List ℕ) (k : ℕ) (o u : List ℕ) (passed : Passed (readingOrder w k (length o))) (is : u ≡ w) where
+module _ (w : List ℕ) (k : ℕ) (o u : List ℕ) (passed : Passed (reading_order w k (length o))) (is : u ≡ w) where
   -- what the step came to was copied to the output
   next-copied : (kind : List ℕ → Bool) (v c : List ℕ) → next_of kind k u ≡ some v → c ≡ take (length v) v ++ drop (length v) o → (next_of kind k w ≡ some c) × (v ≡ c)
   next-copied kind v c next e =

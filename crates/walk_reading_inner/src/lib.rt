@@ -1,9 +1,11 @@
 // Steps from a lent reading that passed the checks. No public calls.
 
+#![tactic(auto)]
+
 ghost use Rattle.std.specs.Prelude.{◌≡◌, length};
 ghost use Rattle.refusal.specs.Order.{Passed};
 ghost use Rattle.walk_kind_laws.specs.Kinds.{kind_of};
-ghost use Rattle.walk_reading_spec.specs.Says.{readingOrder, StepFromSays, BraceletFromSays};
+ghost use Rattle.walk_reading_spec.specs.Says.{reading_order, StepFromSays, BraceletFromSays};
 
 use walk_bracelet_spec::Arrival;
 use walk_kind_laws::Kind;
@@ -11,7 +13,7 @@ use walk_spec::Outcome;
 
 // A step from a reading that passed, made in `ring`, since the output stays as it is where there is no next ring.
 pub fn step_in(reading: &[u8], k: usize, kind: Kind, ring: &mut [u8], out: &mut [u8]) -> Outcome
-    requires passed { Passed (readingOrder reading.now k (length out.old)) }
+    requires passed { Passed (reading_order reading.now k (length out.old)) }
     requires ring_len { length ring.old ≡ length reading.now }
     ensures { StepFromSays (kind_of kind) reading.now k out.old result out.new }
 {
@@ -26,7 +28,7 @@ pub fn step_in(reading: &[u8], k: usize, kind: Kind, ring: &mut [u8], out: &mut 
 
 // The same to the next bracelet.
 pub fn bracelet_in(reading: &[u8], k: usize, ring: &mut [u8], out: &mut [u8]) -> Arrival
-    requires passed { Passed (readingOrder reading.now k (length out.old)) }
+    requires passed { Passed (reading_order reading.now k (length out.old)) }
     requires ring_len { length ring.old ≡ length reading.now }
     ensures { BraceletFromSays reading.now k out.old result out.new }
 {

@@ -1,5 +1,7 @@
 // A step from a ring that is known to be good, in the ring's own place. No public calls.
 
+#![tactic(auto)]
+
 ghost use Rattle.walk_kind_laws.specs.Kinds.{ReadyToStep};
 ghost use Rattle.walk_spec.specs.Says.{WentSays};
 

@@ -1,5 +1,7 @@
 // A walk's record (01, 'Walks'), and what a start and a step hand out. The calls are `walk`'s.
 
+#![tactic(auto)]
+
 use refusal::{Checked, Refusal};
 use rings::Class;
 

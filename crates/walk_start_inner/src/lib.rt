@@ -1,7 +1,9 @@
 // The record that a start hands out. No public calls.
 
+#![tactic(auto)]
+
 ghost use Rattle.refusal.specs.Order.{Passed};
-ghost use Rattle.refusal.specs.Calls.{oneReading};
+ghost use Rattle.refusal.specs.Calls.{one_reading};
 ghost use Rattle.walk_spec.specs.Says.{StartSays};
 
 use refusal::{Checked, Refusal};
@@ -9,7 +11,7 @@ use walk_spec::{Started, Walk};
 
 // A start from a reading that passed 1, 2, 3: 5.
 pub fn start_good(s: &[u8], k: usize) -> Started
-    requires { Passed (oneReading s.now k) }
+    requires { Passed (one_reading s.now k) }
     ensures { StartSays s.now k result.walk result.answer }
 {
     let class = classify_inner::class_of(s);

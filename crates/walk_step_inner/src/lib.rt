@@ -1,8 +1,10 @@
 // A step from a record that is known to be good, into a new one. No public calls.
 
+#![tactic(auto)]
+
 ghost use Rattle.refusal.specs.Order.{Passed};
 ghost use Rattle.walk_kind_laws.specs.Kinds.{kind_of};
-ghost use Rattle.walk_spec.specs.Record.{walkAsked};
+ghost use Rattle.walk_spec.specs.Record.{walk_asked};
 ghost use Rattle.walk_spec.specs.Says.{StepSays};
 
 use walk_kind_laws::Kind;
@@ -10,7 +12,7 @@ use walk_spec::{Outcome, Stepped, Walk};
 
 // A step from a record that passed its checks.
 pub fn step_good(w: Walk, kind: Kind) -> Stepped
-    requires { Passed (walkAsked w) }
+    requires { Passed (walk_asked w) }
     ensures { StepSays (kind_of kind) w result.walk result.outcome }
 {
     let n = w.n;

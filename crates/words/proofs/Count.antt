@@ -1,5 +1,5 @@
 -- Laws of `total` and `count` of specs/Readings.
---     sumBelow k f                                     the sum of f over the numbers below k
+--     sum_below k f                                     the sum of f over the numbers below k
 --     sum-cong, sum-add, sum-zero, sum_one             its laws
 --     total-append, total-map, total-fan               totals over joined, mapped and fanned lists
 --     total-cong, total-zero, total-le, total-add      totals of equal, absent, smaller and added values
@@ -13,33 +13,33 @@ use Rattle.words.proofs.Split.{passes, fails, test, lt, eq, gt, tri}
 use Rattle.words.proofs.Readings.{All, nothing, also, reading-rest, readings-all}
 
 -- the sum of f over the numbers below k
-unfoldable pub sumBelow : ℕ → (ℕ → ℕ) → ℕ
-sumBelow zero f = 0
-sumBelow (suc k) f = sumBelow k f + f k
+unfoldable pub sum_below : ℕ → (ℕ → ℕ) → ℕ
+sum_below zero f = 0
+sum_below (suc k) f = sum_below k f + f k
 
 -- ---- sums
 
 -- equal values have equal sums
-pub sum-cong : (k : ℕ) (f g : ℕ → ℕ) → ((b : ℕ) → b < k → f b ≡ g b) → sumBelow k f ≡ sumBelow k g
-unfolding sumBelow
+pub sum-cong : (k : ℕ) (f g : ℕ → ℕ) → ((b : ℕ) → b < k → f b ≡ g b) → sum_below k f ≡ sum_below k g
+unfolding sum_below
 sum-cong zero f g h = refl
 sum-cong (suc k) f g h = omega (arith, sum-cong k f g (λ b l. h b (omega arith)), h k (omega arith))
 
 -- the sum of sums is the sum of the sums
-pub sum-add : (k : ℕ) (f g : ℕ → ℕ) → sumBelow k (λ b. f b + g b) ≡ sumBelow k f + sumBelow k g
-unfolding sumBelow
+pub sum-add : (k : ℕ) (f g : ℕ → ℕ) → sum_below k (λ b. f b + g b) ≡ sum_below k f + sum_below k g
+unfolding sum_below
 sum-add zero f g = refl
 sum-add (suc k) f g = omega (arith, sum-add k f g)
 
 -- a sum of nothing is nothing
-pub sum-zero : (k : ℕ) (f : ℕ → ℕ) → ((b : ℕ) → b < k → f b ≡ 0) → sumBelow k f ≡ 0
-unfolding sumBelow
+pub sum-zero : (k : ℕ) (f : ℕ → ℕ) → ((b : ℕ) → b < k → f b ≡ 0) → sum_below k f ≡ 0
+unfolding sum_below
 sum-zero zero f h = refl
 sum-zero (suc k) f h = omega (arith, sum-zero k f (λ b l. h b (omega arith)), h k (omega arith))
 
 -- a sum with a value at one place only is that value
-pub sum_one : (k : ℕ) (f : ℕ → ℕ) (a : ℕ) → a < k → ((b : ℕ) → b < k → (a ≡ b → ⊥) → f b ≡ 0) → sumBelow k f ≡ f a
-unfolding sumBelow
+pub sum_one : (k : ℕ) (f : ℕ → ℕ) (a : ℕ) → a < k → ((b : ℕ) → b < k → (a ≡ b → ⊥) → f b ≡ 0) → sum_below k f ≡ f a
+unfolding sum_below
 sum_one zero f a l h = absurd (omega arith)
 sum_one (suc k) f a l h =
     elim (tri a k) [
@@ -63,8 +63,8 @@ total-map f g [] = refl
 total-map f g (w ∷ ws) = omega (arith, total-map f g ws)
 
 -- the total over a fan
-pub total-fan : (f : List ℕ → ℕ) (d : ℕ) (ws : List (List ℕ)) → total f (fan d ws) ≡ sumBelow d (λ b. total (λ w. f (b ∷ w)) ws)
-unfolding fan sumBelow total
+pub total-fan : (f : List ℕ → ℕ) (d : ℕ) (ws : List (List ℕ)) → total f (fan d ws) ≡ sum_below d (λ b. total (λ w. f (b ∷ w)) ws)
+unfolding fan sum_below total
 total-fan f zero ws = refl
 total-fan f (suc d) ws = omega (arith, total-append f (fan d ws) (map (λ w. d ∷ w) ws), total-map f (λ w. d ∷ w) ws, total-fan f d ws)
 
@@ -119,7 +119,7 @@ count-split f g h ws s a =
 -- ---- the list of all readings
 
 -- the total over readings with one sector more, by the first sector
-pub total-cons : (n k : ℕ) (f : List ℕ → ℕ) → total f (readings (suc n) k) ≡ sumBelow k (λ b. total (λ w. f (b ∷ w)) (readings n k))
+pub total-cons : (n k : ℕ) (f : List ℕ → ℕ) → total f (readings (suc n) k) ≡ sum_below k (λ b. total (λ w. f (b ∷ w)) (readings n k))
 unfolding readings
 total-cons n k f = total-fan f k (readings n k)
 
@@ -142,7 +142,7 @@ count-one (suc n) k (a ∷ s) r =
     here = count-cong (λ w. same (a ∷ s) (a ∷ w)) (same s) (readings n k) (λ w p. rw (eq-eqb a a refl)) (readings-all n k)
 
 -- the total over readings with one sector more, by the last sector
-pub total-snoc : (n k : ℕ) (f : List ℕ → ℕ) → total f (readings (suc n) k) ≡ total (λ w. sumBelow k (λ b. f (w ++ (b ∷ [])))) (readings n k)
+pub total-snoc : (n k : ℕ) (f : List ℕ → ℕ) → total f (readings (suc n) k) ≡ total (λ w. sum_below k (λ b. f (w ++ (b ∷ [])))) (readings n k)
 unfolding readings total
 total-snoc zero k f =
     total-cons 0 k f ∙ omega (arith, sum-cong k (λ b. f (b ∷ []) + 0) (λ b. f (b ∷ [])) (λ b l. omega arith))
@@ -151,4 +151,4 @@ total-snoc (suc n) k f =
     (λ a l. total-snoc n k (λ w. f (a ∷ w))) ∙ sym (total-cons n k ends)
   where
     ends : List ℕ → ℕ
-    ends w = sumBelow k (λ b. f (w ++ (b ∷ [])))
+    ends w = sum_below k (λ b. f (w ++ (b ∷ [])))

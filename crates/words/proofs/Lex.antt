@@ -1,14 +1,14 @@
 -- Laws of the order of specs/Order, on readings of any lengths.
 --     before-lt, before-gt, before-cons, before-eq       the order, sector by sector
 --     before-less, less-before                           readings of one length: before is the first difference of Sequence
---     upTo-not-less, not-less-upTo                       the same of up_to
+--     up_to-not-less, not-less-up_to                       the same of up_to
 --     same_true, true_same, same_refl, same_false        same is equality
 --     beginning-first                                    a beginning comes first
 --     Lex v w, lex v w                                   v before w, v is w, or w before v: the order is total
 --     before-irrefl, before-asym, before-trans           before is a strict order
---     not-before, upTo-not-before, not-upTo, before-not-upTo     up_to fails exactly where before passes the other way
---     upTo-refl, upTo-trans, upTo-antisym, upTo-total    up_to is a total order
---     before-upTo, before-upTo-trans, upTo-before-trans, upTo-split    the two together
+--     not-before, up_to-not-before, not-up_to, before-not-up_to     up_to fails exactly where before passes the other way
+--     up_to-refl, up_to-trans, up_to-antisym, up_to-total    up_to is a total order
+--     before-up_to, before-up_to-trans, up_to-before-trans, up_to-split    the two together
 use Rattle.words.proofs.Plain.{ℕ, zero, suc, ◌<◌, arith, ◌≡◌, refl, sym, ap, ◌∙◌, true, false, not, false≢true, List, [], ◌∷◌, ◌++◌, eqb, length, lt-ltb}
 use Rattle.words.proofs.Plain.{le-ltb, eq-eqb, ne_eqb, eqb-true, not-true, not-false}
 use Rattle.words.specs.Order.{before, up_to, same}
@@ -72,14 +72,14 @@ less-before (a ∷ v) (b ∷ w) e l = place (less-before v w (omega arith)) l.at
         before-eq a b v w (agrees 0 (omega arith)) ∙ rest (record { at = i; bound = omega arith; agree = λ m h. agrees (suc m) (omega arith); less = s })
 
 -- of two readings of one length, one that is up to the other is not above it at the first difference
-pub upTo-not-less : (v w : List ℕ) → length v ≡ length w → up_to v w ≡ true → Less (sec w) (sec v) (length v) → ⊥
+pub up_to-not-less : (v w : List ℕ) → length v ≡ length w → up_to v w ≡ true → Less (sec w) (sec v) (length v) → ⊥
 unfolding up_to
-upTo-not-less v w e h l = clash (before w v) (less-before w v (sym e) l) (not-true (before w v) h)
+up_to-not-less v w e h l = clash (before w v) (less-before w v (sym e) l) (not-true (before w v) h)
 
 -- of two readings of one length, one that is not above the other at the first difference is up to it
-pub not-less-upTo : (v w : List ℕ) → length v ≡ length w → (Less (sec w) (sec v) (length v) → ⊥) → up_to v w ≡ true
+pub not-less-up_to : (v w : List ℕ) → length v ≡ length w → (Less (sec w) (sec v) (length v) → ⊥) → up_to v w ≡ true
 unfolding up_to
-not-less-upTo v w e h = ap not (refuted (before w v) (λ b. h (before-less w v (sym e) b)))
+not-less-up_to v w e h = ap not (refuted (before w v) (λ b. h (before-less w v (sym e) b)))
 
 -- ---- same is equality
 
@@ -174,52 +174,52 @@ unfolding up_to
 not-before v w h = ap not h
 
 -- what has a reading up to it is not before the reading
-pub upTo-not-before : (v w : List ℕ) → up_to w v ≡ true → before v w ≡ false
+pub up_to-not-before : (v w : List ℕ) → up_to w v ≡ true → before v w ≡ false
 unfolding up_to
-upTo-not-before v w h = not-true (before v w) h
+up_to-not-before v w h = not-true (before v w) h
 
 -- what is not up to a reading has the reading before it
-pub not-upTo : (v w : List ℕ) → up_to v w ≡ false → before w v ≡ true
+pub not-up_to : (v w : List ℕ) → up_to v w ≡ false → before w v ≡ true
 unfolding up_to
-not-upTo v w h = not-false (before w v) h
+not-up_to v w h = not-false (before w v) h
 
 -- what has a reading before it is not up to the reading
-pub before-not-upTo : (v w : List ℕ) → before w v ≡ true → up_to v w ≡ false
+pub before-not-up_to : (v w : List ℕ) → before w v ≡ true → up_to v w ≡ false
 unfolding up_to
-before-not-upTo v w h = ap not h
+before-not-up_to v w h = ap not h
 
 -- ---- up_to is a total order
 
 -- a reading is up to itself
-pub upTo-refl : (v : List ℕ) → up_to v v ≡ true
-upTo-refl v = not-before v v (before-irrefl v)
+pub up_to-refl : (v : List ℕ) → up_to v v ≡ true
+up_to-refl v = not-before v v (before-irrefl v)
 
 -- what is before a reading is up to it
-pub before-upTo : (v w : List ℕ) → before v w ≡ true → up_to v w ≡ true
-before-upTo v w h = not-before w v (before-asym v w h)
+pub before-up_to : (v w : List ℕ) → before v w ≡ true → up_to v w ≡ true
+before-up_to v w h = not-before w v (before-asym v w h)
 
 -- what is up to a reading and not before it is the reading
-pub upTo-split : (v w : List ℕ) → up_to v w ≡ true → before v w ≡ false → v ≡ w
-upTo-split v w h n = elim (lex v w) [ ahead e ↦ clash (before v w) e n | equal e ↦ e | behind e ↦ clash (before w v) e (upTo-not-before w v h) ]
+pub up_to-split : (v w : List ℕ) → up_to v w ≡ true → before v w ≡ false → v ≡ w
+up_to-split v w h n = elim (lex v w) [ ahead e ↦ clash (before v w) e n | equal e ↦ e | behind e ↦ clash (before w v) e (up_to-not-before w v h) ]
 
 -- readings up to one another are one
-pub upTo-antisym : (v w : List ℕ) → up_to v w ≡ true → up_to w v ≡ true → v ≡ w
-upTo-antisym v w h k = upTo-split v w h (upTo-not-before v w k)
+pub up_to-antisym : (v w : List ℕ) → up_to v w ≡ true → up_to w v ≡ true → v ≡ w
+up_to-antisym v w h k = up_to-split v w h (up_to-not-before v w k)
 
 -- before, then up to, is before
-pub before-upTo-trans : (u v w : List ℕ) → before u v ≡ true → up_to v w ≡ true → before u w ≡ true
-before-upTo-trans u v w p q =
-    elim (lex v w) [ ahead e ↦ before-trans u v w p e | equal e ↦ rw e at p | behind e ↦ clash (before w v) e (upTo-not-before w v q) ]
+pub before-up_to-trans : (u v w : List ℕ) → before u v ≡ true → up_to v w ≡ true → before u w ≡ true
+before-up_to-trans u v w p q =
+    elim (lex v w) [ ahead e ↦ before-trans u v w p e | equal e ↦ rw e at p | behind e ↦ clash (before w v) e (up_to-not-before w v q) ]
 
 -- up to, then before, is before
-pub upTo-before-trans : (u v w : List ℕ) → up_to u v ≡ true → before v w ≡ true → before u w ≡ true
-upTo-before-trans u v w p q =
-    elim (lex u v) [ ahead e ↦ before-trans u v w e q | equal e ↦ rw e q | behind e ↦ clash (before v u) e (upTo-not-before v u p) ]
+pub up_to-before-trans : (u v w : List ℕ) → up_to u v ≡ true → before v w ≡ true → before u w ≡ true
+up_to-before-trans u v w p q =
+    elim (lex u v) [ ahead e ↦ before-trans u v w e q | equal e ↦ rw e q | behind e ↦ clash (before v u) e (up_to-not-before v u p) ]
 
 -- what is up to a reading is up to all that the reading is up to
-pub upTo-trans : (u v w : List ℕ) → up_to u v ≡ true → up_to v w ≡ true → up_to u w ≡ true
-upTo-trans u v w p q = forced (up_to u w) (λ n. clash (before w v) (before-upTo-trans w u v (not-upTo u w n) p) (upTo-not-before w v q))
+pub up_to-trans : (u v w : List ℕ) → up_to u v ≡ true → up_to v w ≡ true → up_to u w ≡ true
+up_to-trans u v w p q = forced (up_to u w) (λ n. clash (before w v) (before-up_to-trans w u v (not-up_to u w n) p) (up_to-not-before w v q))
 
 -- of two readings, one is up to the other
-pub upTo-total : (v w : List ℕ) → up_to v w ≡ false → up_to w v ≡ true
-upTo-total v w h = before-upTo w v (not-upTo v w h)
+pub up_to-total : (v w : List ℕ) → up_to v w ≡ false → up_to w v ≡ true
+up_to-total v w h = before-up_to w v (not-up_to v w h)

@@ -13,7 +13,7 @@ use Rattle.words.specs.Order.{before, up_to}
 use Rattle.words.specs.Readings.{Reading, fan, readings, first}
 pub use Rattle.words.specs.Readings.{All, nothing, also, Increasing, empty, more}
 use Rattle.words.proofs.Split.{passes, fails, test, lt, eq, gt, tri, clash}
-use Rattle.words.proofs.Lex.{before-lt, before-cons, before-upTo, upTo-refl, upTo-antisym}
+use Rattle.words.proofs.Lex.{before-lt, before-cons, before-up_to, up_to-refl, up_to-antisym}
 
 -- ---- laws of All
 
@@ -147,7 +147,7 @@ first-least {P} f (w ∷ ws) v (also p a) (more b i) h =
           subst (Least P f (w ∷ ws)) q (record {
             holds = p;
             passing = e;
-            least = also (λ g. upTo-refl w) (all-weaken (λ u l g. before-upTo w u l) b);
+            least = also (λ g. up_to-refl w) (all-weaken (λ u l g. before-up_to w u l) b);
           })
       | fails e ↦ later e (first-least f ws v a i (rw (e, first) at h))
     ]
@@ -180,7 +180,7 @@ first-is n k f v r p h = go (first f (readings n k)) refl
   where
     go : (o : Option (List ℕ)) → first f (readings n k) ≡ o → o ≡ some v
     go none e = clash (f v) p (nothing-first n k f e v r)
-    go (some u) e = let s = first_some n k f u e in ap some (upTo-antisym u v (s.2 v r p) (h u s.0 s.1))
+    go (some u) e = let s = first_some n k f u e in ap some (up_to-antisym u v (s.2 v r p) (h u s.0 s.1))
 
 -- two tests that agree on a list find the same
 pub first_cong : (f g : List ℕ → Bool) (ws : List (List ℕ)) → All (λ w. f w ≡ g w) ws → first f ws ≡ first g ws

@@ -1,6 +1,6 @@
 -- What the searches of specs/Search find. Nothing else opens them.
 use Rattle.words.proofs.Plain.{ℕ, zero, suc, ◌<◌, ◌≤◌, arith, ◌≡◌, refl, sym, ap, Bool, true, false, ◌&&◌, false≢true, length, get_or}
-use Rattle.words.specs.Search.{all_below, someBelow, least, greatest, tab}
+use Rattle.words.specs.Search.{all_below, some_below, least, greatest, tab}
 use Rattle.words.proofs.Split.{passes, fails, test, lt, eq, gt, tri, both, both_left, both_right, either, left, right, either_left, either-right, clash}
 
 -- ---- all_below
@@ -30,18 +30,18 @@ not-all (suc n) f h =
     wider : (i : ℕ) × (i < n) × (f i ≡ false) → (i : ℕ) × (i < suc n) × (f i ≡ false)
     wider (i, l, g) = (i, omega arith, g)
 
--- ---- someBelow
+-- ---- some_below
 
-pub some_of : (n : ℕ) (f : ℕ → Bool) (i : ℕ) → i < n → f i ≡ true → someBelow n f ≡ true
-unfolding someBelow
+pub some_of : (n : ℕ) (f : ℕ → Bool) (i : ℕ) → i < n → f i ≡ true → some_below n f ≡ true
+unfolding some_below
 some_of zero f i l e = absurd (omega arith)
 some_of (suc n) f i l e =
-    elim (tri i n) [ lt j ↦ either_left (someBelow n f) (f n) (some_of n f i j e) | eq j ↦ either-right (someBelow n f) (f n) (rw j at e) | gt j ↦ absurd (omega arith) ]
+    elim (tri i n) [ lt j ↦ either_left (some_below n f) (f n) (some_of n f i j e) | eq j ↦ either-right (some_below n f) (f n) (rw j at e) | gt j ↦ absurd (omega arith) ]
 
-pub some_at : (n : ℕ) (f : ℕ → Bool) → someBelow n f ≡ true → (i : ℕ) × (i < n) × (f i ≡ true)
-unfolding someBelow
+pub some_at : (n : ℕ) (f : ℕ → Bool) → some_below n f ≡ true → (i : ℕ) × (i < n) × (f i ≡ true)
+unfolding some_below
 some_at zero f h = absurd (false≢true h)
-some_at (suc n) f h = elim (either (someBelow n f) (f n) h) [ left e ↦ wider (some_at n f e) | right e g ↦ (n, omega arith, g) ]
+some_at (suc n) f h = elim (either (some_below n f) (f n) h) [ left e ↦ wider (some_at n f e) | right e g ↦ (n, omega arith, g) ]
   where
     wider : (i : ℕ) × (i < n) × (f i ≡ true) → (i : ℕ) × (i < suc n) × (f i ≡ true)
     wider (i, l, g) = (i, omega arith, g)
@@ -116,8 +116,8 @@ unfolding tab
 length-tab zero f = refl
 length-tab (suc n) f = ap suc (length-tab n (λ i. f (suc i)))
 
-pub getD-tab : (n : ℕ) (f : ℕ → ℕ) (i d : ℕ) → i < n → get_or (tab n f) i d ≡ f i
+pub get_d-tab : (n : ℕ) (f : ℕ → ℕ) (i d : ℕ) → i < n → get_or (tab n f) i d ≡ f i
 unfolding tab
-getD-tab zero f i d h = absurd (omega arith)
-getD-tab (suc n) f zero d h = refl
-getD-tab (suc n) f (suc i) d h = getD-tab n (λ i. f (suc i)) i d (omega arith)
+get_d-tab zero f i d h = absurd (omega arith)
+get_d-tab (suc n) f zero d h = refl
+get_d-tab (suc n) f (suc i) d h = get_d-tab n (λ i. f (suc i)) i d (omega arith)

@@ -1,5 +1,5 @@
 -- Laws of turns (specs/Turn), for i up to the length of w.
---     length-turn, turn_low, turn-high, getD-turn-low, getD-turn-high    length and sectors of a turn
+--     length-turn, turn_low, turn-high, get_d-turn-low, get_d-turn-high    length and sectors of a turn
 --     turn-zero, turn-length, turn_one, turn_suc                         turning by i is i times turning by one
 --     turn-turn, turn-turn-past, turn-back, turn-comm                    turns of turns
 --     turn-again, turn-between                                           a turn of a turn is a turn, and each is one of each other
@@ -7,7 +7,7 @@
 --     get_d_reverse, reverse-turn                                         sectors and turns of the reversal
 use Rattle.words.proofs.Plain.{ℕ, zero, suc, ◌+◌, ◌-◌, ◌<◌, ◌≤◌, add-one, arith, ◌≡◌, refl, sym, ap, ◌∙◌, List, [], ◌∷◌, ◌++◌, reverse, append-nil}
 use Rattle.words.proofs.Plain.{append_assoc, reverse-cons, reverse-append, length, take, drop, get_or, length-append, length-take, length-drop}
-use Rattle.words.proofs.Plain.{length-reverse, take-append-drop, List·getD-append, take-length, drop-length, take-append-le, drop-append-le, take_at}
+use Rattle.words.proofs.Plain.{length-reverse, take-append-drop, List·get_d-append, take-length, drop-length, take-append-le, drop-append-le, take_at}
 use Rattle.words.proofs.Plain.{drop_at, take-add, drop-drop, get_or-append-add, get_or-append_seam, get_or-take, get_or-drop}
 use Rattle.words.specs.{Turn.turn, Readings.Reading}
 use Rattle.words.proofs.Split.{Tri, lt, eq, gt, tri}
@@ -24,7 +24,7 @@ length-turn i w h = simp (length-append, length-drop, length-take) (omega arith)
 pub turn_low : (i : ℕ) (w : List ℕ) (m j : ℕ) → i + m ≡ j → j < length w → get_or (turn i w) m 0 ≡ get_or w j 0
 unfolding turn
 turn_low i w m j e h =
-    List·getD-append (drop i w) (take i w) 0 m (simp length-drop (omega arith)) ∙ get_or-drop i w m 0 ∙ place (sec w) (i + m) j e
+    List·get_d-append (drop i w) (take i w) 0 m (simp length-drop (omega arith)) ∙ get_or-drop i w m 0 ∙ place (sec w) (i + m) j e
 
 -- past the end of the reading, a turn has the sectors from the first place on
 pub turn-high : (i : ℕ) (w : List ℕ) → i ≤ length w → (m j : ℕ) → i + m ≡ length w + j → m < length w → get_or (turn i w) m 0 ≡ get_or w j 0
@@ -33,12 +33,12 @@ turn-high i w l m j e h =
     place (sec (drop i w ++ take i w)) m (length (drop i w) + j) (simp length-drop (omega arith)) ∙ get_or-append-add (drop i w) (take i w) j 0 ∙ get_or-take i w j 0 (omega arith)
 
 -- the same, with the place in the reading computed
-pub getD-turn-low : (i : ℕ) (w : List ℕ) (m : ℕ) → i + m < length w → get_or (turn i w) m 0 ≡ get_or w (i + m) 0
-getD-turn-low i w m h = turn_low i w m (i + m) refl h
+pub get_d-turn-low : (i : ℕ) (w : List ℕ) (m : ℕ) → i + m < length w → get_or (turn i w) m 0 ≡ get_or w (i + m) 0
+get_d-turn-low i w m h = turn_low i w m (i + m) refl h
 
 -- the same, with the place in the reading computed
-pub getD-turn-high : (i : ℕ) (w : List ℕ) → i ≤ length w → (m : ℕ) → length w ≤ i + m → m < length w → get_or (turn i w) m 0 ≡ get_or w (i + m - length w) 0
-getD-turn-high i w l m h k = turn-high i w l m (i + m - length w) (omega arith) k
+pub get_d-turn-high : (i : ℕ) (w : List ℕ) → i ≤ length w → (m : ℕ) → length w ≤ i + m → m < length w → get_or (turn i w) m 0 ≡ get_or w (i + m - length w) 0
+get_d-turn-high i w l m h k = turn-high i w l m (i + m - length w) (omega arith) k
 
 -- ---- turning by i is i times turning by one
 
@@ -119,7 +119,7 @@ reading-turn n k w r i h = record { long = length-turn i w (omega arith) ∙ r.l
     shaded : (m : ℕ) → m < n → get_or (turn i w) m 0 < k
     shaded m l =
         elim (tri (i + m) n) [
-          | lt e ↦ rw (getD-turn-low i w m (omega arith)) (r.shades (i + m) e)
+          | lt e ↦ rw (get_d-turn-low i w m (omega arith)) (r.shades (i + m) e)
           | eq e ↦ rw (turn-high i w (omega arith) m 0 (omega arith) (omega arith)) (r.shades 0 (omega arith))
           | gt e ↦ rw (turn-high i w (omega arith) m (i + m - n) (omega arith) (omega arith)) (r.shades (i + m - n) (omega arith))
         ]
@@ -130,7 +130,7 @@ get_d_reverse [] m j e = absurd (omega arith)
 get_d_reverse (a ∷ w) m zero e =
     rw reverse-cons (place (sec (reverse w ++ (a ∷ []))) m (length (reverse w)) (rw length-reverse (omega arith)) ∙ get_or-append_seam (reverse w) a [] 0)
 get_d_reverse (a ∷ w) m (suc j) e =
-    rw reverse-cons (List·getD-append (reverse w) (a ∷ []) 0 m (rw length-reverse (omega arith)) ∙ get_d_reverse w m j (omega arith))
+    rw reverse-cons (List·get_d-append (reverse w) (a ∷ []) 0 m (rw length-reverse (omega arith)) ∙ get_d_reverse w m j (omega arith))
 
 -- the reversal of a reading is a reading
 pub reading-reverse : (n k : ℕ) (w : List ℕ) → Reading n k w → Reading n k (reverse w)

@@ -1,7 +1,7 @@
 -- Tests of the numbers below n, and lists made of them. Document 01 says 'each', 'some', 'the smallest', 'the longest' and 'the last';
 -- these are those words, as functions that compute.
 --     all_below n f     f passes at each number below n
---     someBelow n f    f passes at some number below n
+--     some_below n f    f passes at some number below n
 --     least n f        the least number below n at which f passes, or n where none does
 --     greatest n f     the greatest number from 1 to n at which f passes, or 0 where none does
 --     tab n f          the list f 0, f 1, .., f (n - 1)
@@ -14,9 +14,9 @@ all_below zero f = true
 all_below (suc n) f = all_below n f && f n
 
 -- f passes at some number below n
-unfoldable pub someBelow : ℕ → (ℕ → Bool) → Bool
-someBelow zero f = false
-someBelow (suc n) f = someBelow n f || f n
+unfoldable pub some_below : ℕ → (ℕ → Bool) → Bool
+some_below zero f = false
+some_below (suc n) f = some_below n f || f n
 
 -- the least number below n at which f passes, or n
 unfoldable pub least : ℕ → (ℕ → Bool) → ℕ

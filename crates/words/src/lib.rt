@@ -1,1 +1,4 @@
 // No code: this crate holds definitions (specs/) and laws (proofs/) about readings as lists.
+
+#![tactic(auto)]
+

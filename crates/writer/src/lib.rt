@@ -1,5 +1,7 @@
 // Writing the records of a catalogue (02, a and k). A record and what is promised of writing it stand in `record_spec`.
 
+#![tactic(auto)]
+
 ghost use Rattle.record_spec.specs.Writes.{WriteSays};
 
 use record_spec::HEAD;

@@ -1,6 +1,6 @@
 -- `converter_pass_inner::take_at` meets its contract: what was read is gone through.
 use Rattle.words.proofs.Needs.{needs, arith, ◌≡◌, refl, ap, ◌∙◌, length-take}
-use Rattle.program_passes_inner.specs.{Passes.courseOf, Passes.Course.Stopped}
+use Rattle.program_passes_inner.specs.{Passes.course_of, Passes.Course.Stopped}
 use Rattle.program_passes_inner.proofs.Courses.{part-read, part-within}
 use Rattle.converter_pass_inner.specs.Says.AtSays.{unread}
 use Rattle.converter_pass_inner.proofs.Blocks.{at_read}
@@ -59,7 +59,7 @@ returns-2 c =
     let s = part-within _ _ read-block.ensures if1.false in
     let k = simp length-take at c.before.new.given in
     let p = read-block.result in
-    at_read args.writing args.at _ args.new.now _ _ p.last p.len (courseOf take-block.result)
+    at_read args.writing args.at _ args.new.now _ _ p.last p.len (course_of take-block.result)
     (part-read _ _ read-block.ensures if1.false) (omega (arith, k, s, pre.1.same, block'.given)) refl take-block.ensures
 
 pub take-at-spec : {M : Type 1} → Rattle.converter_pass_inner.proofs.take_at.Statement.statement M

@@ -1,7 +1,7 @@
 -- `converter_program_inner::go_once` meets its contract. What is done so far are good records, and each block that is not the last has a whole one, so
 -- that the next begins further on.
 use Rattle.words.proofs.Needs.{needs, ◌-◌, ◌<◌, arith, ◌≡◌, refl, sym, ◌∙◌, length, not-true, not-false}
-use Rattle.program_passes_inner.specs.Passes.{limit, courseOf}
+use Rattle.program_passes_inner.specs.Passes.{limit, course_of}
 use Rattle.program_passes_inner.proofs.Courses.{course-more}
 use Rattle.converter_pass_inner.specs.Says.{BuffersFit}
 use Rattle.converter_program_inner.specs.Says.{Reached}
@@ -41,7 +41,7 @@ finish-requires c κs =
     let take_at = c.before.before.before.before.before.before.take_at in
     let block' = c.before.before.before.before.before.block in
     let v = loop'.inv in
-    at-within args.writing loop'.at _ _ v.4 (courseOf take_at.result) v.3 (omega (arith, v.0.short, block'.given)) take_at.ensures
+    at-within args.writing loop'.at _ _ v.4 (course_of take_at.result) v.3 (omega (arith, v.0.short, block'.given)) take_at.ensures
 
 same_length : tie.Need-same-length invariant-loop decreases-loop
 same_length c =
@@ -66,7 +66,7 @@ returns c =
     let block' = c.before.before.before.before.before.before.block in
     let v = loop'.invariant in
     let e = sym goes_on.ensures ∙ not-true goes_on.result c.before.if1.true in
-    let h = at-ends args.writing loop'.at _ _ v.4 (courseOf take_at.result) (omega (arith, v.0.some, block'.given)) e take_at.ensures in
+    let h = at-ends args.writing loop'.at _ _ v.4 (course_of take_at.result) (omega (arith, v.0.some, block'.given)) e take_at.ensures in
     rw c.finish.ensures h
 
 add_at : tie.Need-overflow-add-at invariant-loop decreases-loop
@@ -87,7 +87,7 @@ loop-less c =
     let block' = c.before.before.before.before.before.before.block in
     let v = loop'.inv in
     let e = course-more take_at.result loop'.at (sym goes_on.ensures ∙ not-false goes_on.result c.before.if1.false) in
-    let g = at_on args.writing loop'.at _ _ (courseOf take_at.result) v.4 _ e.0 (omega (arith, v.0.some, block'.given)) take_at.ensures in
+    let g = at_on args.writing loop'.at _ _ (course_of take_at.result) v.4 _ e.0 (omega (arith, v.0.some, block'.given)) take_at.ensures in
     omega (arith, g.0, e.1)
 
 loop-again : tie.Need-loop-preserved invariant-loop decreases-loop
@@ -101,7 +101,7 @@ loop-again c =
     let new' = c.before.before.before.before.new in
     let v = loop'.inv in
     let e = course-more take_at.result loop'.at (sym goes_on.ensures ∙ not-false goes_on.result c.before.if1.false) in
-    let g = at_on args.writing loop'.at _ _ (courseOf take_at.result) v.4 _ e.0 (omega (arith, v.0.some, block'.given)) take_at.ensures in
+    let g = at_on args.writing loop'.at _ _ (course_of take_at.result) v.4 _ e.0 (omega (arith, v.0.some, block'.given)) take_at.ensures in
     (fit-still _ _ _ _ v.0 block'.given new'.given, block'.given ∙ v.1, new'.given ∙ v.2, e.1, g.2)
 
 pub go-once-spec : {M : Type 1} → Rattle.converter_program_inner.proofs.go_once.Statement.statement M

@@ -1,12 +1,12 @@
 -- `density_cuts_inner::cuts_not_above` meets its contract. The loop's invariant: of the first i cuts, so many are not above x.
 use Rattle.words.proofs.Needs.{needs, ◌+◌, ◌≤◌, ◌-◌, arith, ◌≡◌, ◌∙◌, sym, ap, true, false}
 use lib.Ieee.{le}
-use Rattle.density_spec.specs.Cuts.{cut, cutsUpTo}
+use Rattle.density_spec.specs.Cuts.{cut, cuts_up_to}
 use Rattle.density_cuts_inner.proofs.Counting.{none-counted, one-counted, none_more}
 use Rattle.density_cuts_inner.proofs.cuts_not_above.Tie as tie
 
 abbrev invariant-loop : tie.invariant-loop
-invariant-loop card k x last shade₀ i₀ shade i = (i ≤ last) × (shade ≤ i) × (shade ≡ cutsUpTo card k x i)
+invariant-loop card k x last shade₀ i₀ shade i = (i ≤ last) × (shade ≤ i) × (shade ≡ cuts_up_to card k x i)
 
 abbrev decreases-loop : tie.decreases-loop
 decreases-loop card k x last shade₀ i₀ shade i = last - i
@@ -30,7 +30,7 @@ returns : tie.Need-returns invariant-loop decreases-loop
 returns c =
     let a = c.before.before.args in let l = c.before.loop in
     let e : l.i ≡ a.k - 1 = omega arith in
-    l.invariant.2 ∙ ap (cutsUpTo a.card a.k a.x) e
+    l.invariant.2 ∙ ap (cuts_up_to a.card a.k a.x) e
 
 pub cuts-not-above-spec : {M : Type 1} → Rattle.density_cuts_inner.proofs.cuts_not_above.Statement.statement M
 cuts-not-above-spec =

@@ -1,6 +1,6 @@
 -- `desk_count_inner::place_stock` meets its contract.
 use Rattle.words.proofs.Needs.{needs, arith, ◌≡◌, refl, ap}
-use Rattle.desk_spec.specs.Texts.{stockText}
+use Rattle.desk_spec.specs.Texts.{stock_text}
 use Rattle.desk_texts_inner.proofs.Putting.{put-text, put-good, put-bad}
 use Rattle.desk_count_inner.proofs.Reading.{byte, no_byte, great}
 use Rattle.desk_count_inner.proofs.place_stock.Tie as tie
@@ -30,7 +30,7 @@ returns-3 c =
     put-good _ _ _ _ _ _ b.0.0 (byte d.before.before.before.before.before.before.args.t.now b.0.0
     (rw b.1 at d.before.before.before.parse-number.ensures)
     (omega (arith, c.before.before.before.before.before.if1.false)))
-    (put-text _ _ _ _ _ _ (ap stockText c.before.before.before.before.stock-home.ensures) c.before.before.place-stock.ensures)
+    (put-text _ _ _ _ _ _ (ap stock_text c.before.before.before.before.stock-home.ensures) c.before.before.place-stock.ensures)
 
 pub place-stock-spec : {M : Type 1} → Rattle.desk_count_inner.proofs.place_stock.Statement.statement M
 place-stock-spec =

@@ -1,10 +1,10 @@
 -- `desk_inner::both_of` meets its contract.
-use Rattle.desk_spec.specs.Verbs.{bothOf}
+use Rattle.desk_spec.specs.Verbs.{both_of}
 use Rattle.words.proofs.Needs.{needs}
 use Rattle.desk_inner.proofs.both_of.Tie as tie
 
 returns : tie.Need-returns
-unfolding bothOf
+unfolding both_of
 returns c = c.or-either.ensures
 
 pub both-of-spec : {M : Type 1} → Rattle.desk_inner.proofs.both_of.Statement.statement M

@@ -1,11 +1,11 @@
 -- `desk_inner::verb_of` meets its contract.
 use Rattle.desk_inner.proofs.Verbs.{group-then}
-use Rattle.desk_spec.specs.Verbs.{verbOf}
+use Rattle.desk_spec.specs.Verbs.{verb_of}
 use Rattle.words.proofs.Needs.{needs}
 use Rattle.desk_inner.proofs.verb_of.Tie as tie
 
 returns : tie.Need-returns
-unfolding verbOf
+unfolding verb_of
 returns c =
     let or-else6 = c.or-else6 in
     let or-else5 = c.before.or-else5 in

@@ -1,10 +1,10 @@
 -- `desk_rings_inner::each_long` meets its contract: c characters of the word under way have been seen.
 use Rattle.words.proofs.Needs.{needs, ◌≤◌, ◌-◌, arith, ◌≡◌, refl, length, drop}
-use Rattle.desk_rings_inner.proofs.Long.{longFrom, on-digit, on-space, on-wrong, on-end, long-true, long-false}
+use Rattle.desk_rings_inner.proofs.Long.{long_from, on-digit, on-space, on-wrong, on-end, long-true, long-false}
 use Rattle.desk_rings_inner.proofs.each_long.Tie as tie
 
 abbrev invariant-loop : tie.invariant-loop
-invariant-loop u n i₀ c₀ i c = (i ≤ length u) × (c ≤ i) × (longFrom n 0 u ≡ longFrom n c (drop i u))
+invariant-loop u n i₀ c₀ i c = (i ≤ length u) × (c ≤ i) × (long_from n 0 u ≡ long_from n c (drop i u))
 
 abbrev decreases-loop : tie.decreases-loop
 decreases-loop u n i₀ c₀ i c = length u - i

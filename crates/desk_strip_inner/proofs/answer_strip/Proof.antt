@@ -2,7 +2,7 @@
 use Rattle.words.proofs.Needs.{needs, ℕ, ◌^◌, arith, refl, inl, List, length-take}
 use Rattle.strip_spec.specs.{declared.Written.Written, Says.StripSays}
 use Rattle.strip_spec.specs.declared.Written.TheVariants as W
-use Rattle.desk_spec.specs.{Texts.stripText, Answers.blank}
+use Rattle.desk_spec.specs.{Texts.strip_text, Answers.blank}
 use Rattle.desk_texts_inner.proofs.Putting.{put-shown}
 use Rattle.limits_spec.proofs.Given.{accepted-listable}
 use Rattle.desk_strip_inner.proofs.Outputs.{strip-room}
@@ -59,7 +59,7 @@ returns c =
     let plan-numbers = d.before.plan-numbers in
     let place-refusal = c.before.before.place-refusal in
     let g = facts in
-    put-shown {A = Written × List ℕ} (λ x. StripSays g.args.n g.args.k (blank (g.args.k ^ g.args.n)) x.0 x.1) (λ x. stripText x.0 x.1)
+    put-shown {A = Written × List ℕ} (λ x. StripSays g.args.n g.args.k (blank (g.args.k ^ g.args.n)) x.0 x.1) (λ x. strip_text x.0 x.1)
     (W.Refused _, blank (g.args.k ^ g.args.n)) (inl (rw r.given.1 at plan-numbers.ensures), refl) _ _ _ _ place-refusal.ensures
 
 pub answer-strip-spec : {M : Type 1} → Rattle.desk_strip_inner.proofs.answer_strip.Statement.statement M

@@ -1,6 +1,6 @@
 -- `files_pass_inner::take_block` meets its contract: what the block shows is written where that is asked for.
 use Rattle.words.proofs.Needs.{needs, arith, ◌∙◌, sym, refl, length-take}
-use Rattle.program_passes_inner.specs.Passes.{courseOf}
+use Rattle.program_passes_inner.specs.Passes.{course_of}
 use Rattle.files_pass_inner.proofs.Turns.{taken-room, taken-turn}
 use Rattle.files_pass_inner.specs.Says.FileTurnSays.{unwritten}
 use Rattle.files_pass_inner.proofs.take_block.Tie as tie
@@ -35,7 +35,7 @@ returns-2 : tie.Need-returns-2
 returns-2 c =
     let args = (start c.before.before.before.before).args in
     let take-records = c.before.before.before.before.before.take-records in
-    taken-turn args.job args.time args.at args.block.now args.last _ _ _ (courseOf c.turn-of.result) take-records.ensures c.turn-of.ensures
+    taken-turn args.job args.time args.at args.block.now args.last _ _ _ (course_of c.turn-of.result) take-records.ensures c.turn-of.ensures
 
 pub take-block-spec : {M : Type 1} → Rattle.files_pass_inner.proofs.take_block.Statement.statement M
 take-block-spec =

@@ -1,7 +1,7 @@
 -- `files_program_inner::go_once` meets its contract. What is done so far are good records, and each block that is not the last has a whole one, so that
 -- the next begins further on.
 use Rattle.words.proofs.Needs.{needs, ◌-◌, ◌<◌, arith, ◌≡◌, refl, sym, ◌∙◌, length, not-true, not-false}
-use Rattle.program_passes_inner.specs.Passes.{limit, courseOf}
+use Rattle.program_passes_inner.specs.Passes.{limit, course_of}
 use Rattle.program_passes_inner.proofs.Courses.{course-more}
 use Rattle.files_pass_inner.specs.Says.{RoomyFile}
 use Rattle.files_program_inner.specs.Says.{FileReached}
@@ -41,7 +41,7 @@ finish-requires c κs =
     let args = (after-take-at c.before.before.before).before.before.before.before.before.before.args in
     let take_at = c.before.before.before.before.before.before.take_at in
     let v = loop'.inv in
-    at-within args.job args.time loop'.at v.4 _ _ (courseOf take_at.result) v.3 (omega (arith, v.0.small.short, block'.given)) take_at.ensures
+    at-within args.job args.time loop'.at v.4 _ _ (course_of take_at.result) v.3 (omega (arith, v.0.small.short, block'.given)) take_at.ensures
 
 same_length : tie.Need-same-length invariant-loop decreases-loop
 same_length c =
@@ -66,7 +66,7 @@ returns c =
     let take_at = d.before.take_at in
     let v = loop'.invariant in
     let e = sym goes_on.ensures ∙ not-true goes_on.result c.before.if1.true in
-    rw c.finish.ensures (at-ends args.job args.time loop'.at v.4 _ _ (courseOf take_at.result) (omega (arith, v.0.some, block'.given)) e take_at.ensures)
+    rw c.finish.ensures (at-ends args.job args.time loop'.at v.4 _ _ (course_of take_at.result) (omega (arith, v.0.some, block'.given)) e take_at.ensures)
 
 add_at : tie.Need-overflow-add-at invariant-loop decreases-loop
 add_at c =
@@ -86,7 +86,7 @@ loop-less c =
     let args = a.before.before.before.before.before.before.args in
     let v = loop'.inv in
     let e = course-more take_at.result loop'.at (sym goes_on.ensures ∙ not-false goes_on.result c.before.if1.false) in
-    let g = at_on args.job args.time loop'.at v.4 (courseOf take_at.result) _ _ _ e.0 (omega (arith, v.0.some, block'.given)) take_at.ensures in
+    let g = at_on args.job args.time loop'.at v.4 (course_of take_at.result) _ _ _ e.0 (omega (arith, v.0.some, block'.given)) take_at.ensures in
     omega (arith, g.0, e.1)
 
 loop-again : tie.Need-loop-preserved invariant-loop decreases-loop
@@ -100,7 +100,7 @@ loop-again c =
     let out' = c.before.before.before.before.out in
     let v = loop'.inv in
     let e = course-more take_at.result loop'.at (sym goes_on.ensures ∙ not-false goes_on.result c.before.if1.false) in
-    let g = at_on args.job args.time loop'.at v.4 (courseOf take_at.result) _ _ _ e.0 (omega (arith, v.0.some, block'.given)) take_at.ensures in
+    let g = at_on args.job args.time loop'.at v.4 (course_of take_at.result) _ _ _ e.0 (omega (arith, v.0.some, block'.given)) take_at.ensures in
     (roomy-still _ _ _ _ v.0 block'.given out'.given, block'.given ∙ v.1, out'.given ∙ v.2, e.1, g.2)
 
 pub go-once-spec : {M : Type 1} → Rattle.files_program_inner.proofs.go_once.Statement.statement M

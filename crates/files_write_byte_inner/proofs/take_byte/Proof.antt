@@ -2,7 +2,7 @@
 use Rattle.words.proofs.Needs.{needs, arith, ◌≡◌, refl, ◌∙◌, sym, length, length-take, length-set}
 use Rattle.stream_spec.proofs.Taking.{byte-kept, byte-passed}
 use Rattle.stream_spec.specs.Blocks.{ends}
-use Rattle.files_text_inner.specs.Room.{recordRoom}
+use Rattle.files_text_inner.specs.Room.{record_room}
 use Rattle.files_write_spec.specs.RingLines.{LineWrites}
 use Rattle.files_write_byte_inner.proofs.Ends.{one_ended, none-ended}
 use Rattle.files_write_byte_inner.proofs.take_byte.Tie as tie
@@ -35,7 +35,7 @@ returns-3 c =
     let if1 = c.before.if1 in
     let a = args in (
       simp length-set (omega (arith, if2.true)),
-      rw pre.0 at (byte-kept (LineWrites a.kind) recordRoom a.line.now a.len a.at a.b a.buf.now if1.false if2.true),
+      rw pre.0 at (byte-kept (LineWrites a.kind) record_room a.line.now a.len a.at a.b a.buf.now if1.false if2.true),
       omega (arith, none-ended a.b if1.false),
     )
 
@@ -47,7 +47,7 @@ returns-4 c =
     let if2 = c.if2 in
     let a = args in (
       pre.1.0,
-      rw pre.0 at (byte-passed (LineWrites a.kind) recordRoom a.line.now a.len a.at a.b a.buf.now if1.false pre.1.0 if2.false),
+      rw pre.0 at (byte-passed (LineWrites a.kind) record_room a.line.now a.len a.at a.b a.buf.now if1.false pre.1.0 if2.false),
       omega (arith, none-ended a.b if1.false),
     )
 

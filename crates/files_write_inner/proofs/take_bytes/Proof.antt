@@ -4,8 +4,8 @@ use Rattle.words.proofs.Needs.{needs, ◌+◌, ◌-◌, ◌*◌, ◌≤◌, arit
 use Rattle.stream_spec.specs.Lines.{ended}
 use Rattle.stream_spec.proofs.Bytes.{ended-none}
 use Rattle.stream_spec.proofs.Taking.{Taking, taking-none, taking-room, taking-on, taking-end}
-use Rattle.files_text_inner.specs.Room.{recordRoom}
-use Rattle.files_write_spec.specs.RingLines.{mostKept, LineWrites}
+use Rattle.files_text_inner.specs.Room.{record_room}
+use Rattle.files_write_spec.specs.RingLines.{most_kept, LineWrites}
 use Rattle.files_write_spec.proofs.Cut.{writes-tells}
 use Rattle.files_write_inner.proofs.Lining.{count_none, count-on, count-few, count-end, block_refused}
 use Rattle.files_write_inner.proofs.take_bytes.Tie as tie
@@ -13,9 +13,9 @@ use Rattle.files_write_inner.proofs.take_bytes.Tie as tie
 abbrev invariant-loop : tie.invariant-loop
 invariant-loop kind line₀ len block buf₀ lines m₀ at₀ n₀ i₀ line buf m at n i =
     (i ≤ length block)
-    × (length line ≡ mostKept)
-    × (m ≤ mostKept)
-    × Taking (LineWrites kind) mostKept recordRoom (take len line₀) block buf₀ i (take m line) at buf
+    × (length line ≡ most_kept)
+    × (m ≤ most_kept)
+    × Taking (LineWrites kind) most_kept record_room (take len line₀) block buf₀ i (take m line) at buf
     × (length buf ≡ length buf₀)
     × (n ≡ lines + length (ended (take len line₀) (take i block)))
     × (n ≤ lines + i)

@@ -1,7 +1,7 @@
 -- `home::bring_home` meets its contract: what the check answers, or else the turn by the shift.
 use Rattle.words.proofs.Needs.{needs, arith, ◌∙◌, refl, length}
 use Rattle.home.proofs.Answers.{passed-pos, passed-room, shift_fits, turned-home}
-use Rattle.refusal.specs.Calls.{askRoom}
+use Rattle.refusal.specs.Calls.{ask_room}
 use Rattle.home.proofs.bring_home.Tie as tie
 
 enum_told : tie.Need-enum-told
@@ -10,12 +10,12 @@ enum_told c = search needs
 least-shift-requires : tie.Need-least-shift-requires
 least-shift-requires c κs =
     let a = c.before.before.before.before.before.args in
-    passed-pos (askRoom a.s.now a.k (length a.out.now)) (rw c.enum_told.given.1 at c.before.before.check-room.ensures)
+    passed-pos (ask_room a.s.now a.k (length a.out.now)) (rw c.enum_told.given.1 at c.before.before.check-room.ensures)
 
 period-of-requires : tie.Need-period-of-requires
 period-of-requires c κs =
     let a = c.before.before.before.before.before.before.args in
-    passed-pos (askRoom a.s.now a.k (length a.out.now)) (rw c.before.enum_told.given.1 at
+    passed-pos (ask_room a.s.now a.k (length a.out.now)) (rw c.before.enum_told.given.1 at
     c.before.before.before.check-room.ensures)
 
 write-turn-requires : tie.Need-write-turn-requires
@@ -23,7 +23,7 @@ write-turn-requires c κs =
     let d = c.before.before.before.before.before.before in
     let a = d.before.before.args in
     let g = rw c.before.before.before.enum_told.given.1 at c.before.before.before.before.before.check-room.ensures in
-    let z = passed-pos (askRoom a.s.now a.k (length a.out.now)) g in
+    let z = passed-pos (ask_room a.s.now a.k (length a.out.now)) g in
     omega (arith, shift_fits a.s.now c.before.before.least-shift.result z c.before.before.least-shift.ensures, passed-room a.s.now a.k (length a.out.now) g)
 
 returns : tie.Need-returns

@@ -1,6 +1,6 @@
 -- `home::nearer` meets its contract: what the check answers, or else whether a turn is near enough.
 use Rattle.words.proofs.Needs.{needs, ◌∙◌, sym}
-use Rattle.refusal.specs.Calls.{askTwo}
+use Rattle.refusal.specs.Calls.{ask_two}
 use Rattle.home.proofs.Answers.{passed-pos, passed-pair}
 use Rattle.home.proofs.nearer.Tie as tie
 
@@ -11,7 +11,7 @@ is-nearer-requires : tie.Need-is-nearer-requires
 is-nearer-requires c κs =
     let a = c.before.before.before.before.before.args in
     let g = rw c.enum_told.given.1 at c.before.before.check-pair.ensures in
-    (passed-pos (askTwo a.a.now a.b.now a.k) g, passed-pair a.a.now a.b.now a.k g)
+    (passed-pos (ask_two a.a.now a.b.now a.k) g, passed-pair a.a.now a.b.now a.k g)
 
 returns : tie.Need-returns
 returns c = (

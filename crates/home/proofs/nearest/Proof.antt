@@ -1,5 +1,5 @@
 -- `home::nearest` meets its contract: what the check answers, or else the fewest places at which a turn of the one differs from the other, and the first turn that does.
-use Rattle.refusal.specs.Calls.{askTwo}
+use Rattle.refusal.specs.Calls.{ask_two}
 use Rattle.words.proofs.Needs.{needs}
 use Rattle.home.proofs.Answers.{passed-pos, passed-pair}
 use Rattle.home.proofs.nearest.Tie as tie
@@ -17,7 +17,7 @@ nearest-turn-requires : tie.Need-nearest-turn-requires
 nearest-turn-requires c κs =
     let a = c.before.before.before.before.before.before.args in
     let g = rw c.before.enum_told.given.1 at c.before.before.before.check-pair.ensures in
-    (passed-pos (askTwo a.a.now a.b.now a.k) g, passed-pair a.a.now a.b.now a.k g, c.fewest-differing.ensures)
+    (passed-pos (ask_two a.a.now a.b.now a.k) g, passed-pair a.a.now a.b.now a.k g, c.fewest-differing.ensures)
 
 returns : tie.Need-returns
 returns c = rw c.before.r.given.1 at c.before.before.before.check-pair.ensures

@@ -1,7 +1,7 @@
 -- `home::same_ring` meets its contract: what the check answers, or else whether the two turns by the shifts are the same.
 use Rattle.words.proofs.Needs.{needs, arith, ◌∙◌, sym}
 use Rattle.home.proofs.Answers.{passed-pos, passed-pair, shift_fits, same-turned}
-use Rattle.refusal.specs.Calls.{askTwo}
+use Rattle.refusal.specs.Calls.{ask_two}
 use Rattle.home.proofs.same_ring.Tie as tie
 
 enum_told : tie.Need-enum-told
@@ -10,20 +10,20 @@ enum_told c = search needs
 least-shift-requires : tie.Need-least-shift-requires
 least-shift-requires c κs =
     let a = c.before.before.before.before.before.args in
-    passed-pos (askTwo a.a.now a.b.now a.k) (rw c.enum_told.given.1 at c.before.before.check-pair.ensures)
+    passed-pos (ask_two a.a.now a.b.now a.k) (rw c.enum_told.given.1 at c.before.before.check-pair.ensures)
 
 least-shift-requires-2 : tie.Need-least-shift-requires-2
 least-shift-requires-2 c κs =
     let a = c.before.before.before.before.before.before.args in
     let g = rw c.before.enum_told.given.1 at c.before.before.before.check-pair.ensures in
-    omega (arith, passed-pair a.a.now a.b.now a.k g, passed-pos (askTwo a.a.now a.b.now a.k) g)
+    omega (arith, passed-pair a.a.now a.b.now a.k g, passed-pos (ask_two a.a.now a.b.now a.k) g)
 
 same-turns-requires : tie.Need-same-turns-requires
 same-turns-requires c κs =
     let d = c.before.before.before.before.before.before in
     let a = d.before.args in
     let g = rw c.before.before.enum_told.given.1 at c.before.before.before.before.check-pair.ensures in
-    let z = passed-pos (askTwo a.a.now a.b.now a.k) g in
+    let z = passed-pos (ask_two a.a.now a.b.now a.k) g in
     let e = passed-pair a.a.now a.b.now a.k g in
     omega (
       arith,

@@ -1,6 +1,6 @@
 -- `home::steady` meets its contract: what the check answers, or else whether a turn of the reading comes near to itself.
 use Rattle.words.proofs.Needs.{needs, ◌∙◌, sym}
-use Rattle.refusal.specs.Calls.{askReading}
+use Rattle.refusal.specs.Calls.{ask_reading}
 use Rattle.home.proofs.Answers.{passed-pos}
 use Rattle.home.proofs.steady.Tie as tie
 
@@ -10,7 +10,7 @@ enum_told c = search needs
 is-steady-requires : tie.Need-is-steady-requires
 is-steady-requires c κs =
     let a = c.before.before.before.before.args in
-    passed-pos (askReading a.s.now a.k) (rw c.enum_told.given.1 at c.before.before.check-reading.ensures)
+    passed-pos (ask_reading a.s.now a.k) (rw c.enum_told.given.1 at c.before.before.check-reading.ensures)
 
 returns : tie.Need-returns
 returns c = (rw c.before.before.enum_told.given.1 at c.before.before.before.before.check-reading.ensures, sym c.before.is-steady.ensures ∙ c.if1.true)

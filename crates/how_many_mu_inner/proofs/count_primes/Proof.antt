@@ -1,7 +1,7 @@
 -- `how_many_mu_inner::count_primes` meets its contract. The loop's invariant: x is the sum up to i.
 use Rattle.words.proofs.Needs.{needs, ℕ, ◌≤◌, ◌-◌, arith, ◌≡◌, ◌&&◌}
 use Rattle.words.specs.Readings.{bit}
-use Rattle.how_many_number_spec.specs.{Divisors.sum_to, Divisors.divides, Mu.prime, Mu.primesOf}
+use Rattle.how_many_number_spec.specs.{Divisors.sum_to, Divisors.divides, Mu.prime, Mu.primes_of}
 use Rattle.how_many_number_laws.proofs.Loops.{sum-start, sum-on, sum-end}
 use Rattle.how_many_mu_inner.proofs.count_primes.Tie as tie
 
@@ -27,7 +27,7 @@ loop-again c =
     )
 
 returns : tie.Need-returns invariant-loop decreases-loop
-unfolding primesOf
+unfolding primes_of
 returns c = let a = c.before.before.args in let l = c.before.loop in sum-end (λ j. bit (prime j && divides j a.m)) l.x l.i a.m l.invariant.0 c.loop-test.false l.invariant.1
 
 pub count-primes-spec : {M : Type 1} → Rattle.how_many_mu_inner.proofs.count_primes.Statement.statement M

@@ -1,12 +1,12 @@
 -- `how_many_phi_inner::gcd_of` meets its contract. The loop's invariant: the greatest common divisor is not above g.
 use Rattle.words.proofs.Needs.{needs, ◌≡◌, sym, ◌∙◌}
 use Rattle.words.specs.Search.{greatest}
-use Rattle.how_many_number_spec.specs.Phi.{dividesBoth, gcd}
+use Rattle.how_many_number_spec.specs.Phi.{divides_both, gcd}
 use Rattle.how_many_number_laws.proofs.Loops.{gcd-start, gcd-found, gcd-on, gcd-end}
 use Rattle.how_many_phi_inner.proofs.gcd_of.Tie as tie
 
 abbrev invariant-loop : tie.invariant-loop
-invariant-loop a b g₀ g = gcd a b ≡ greatest g (dividesBoth a b)
+invariant-loop a b g₀ g = gcd a b ≡ greatest g (divides_both a b)
 
 abbrev decreases-loop : tie.decreases-loop
 decreases-loop a b g₀ g = g

@@ -1,6 +1,6 @@
 -- `how_many_sums_inner::over_divisors` meets its contract. The loop's invariant: x is the sum up to d.
 use Rattle.words.proofs.Needs.{needs, ℕ, ◌≤◌, ◌-◌, ◌*◌, arith, ◌≡◌}
-use Rattle.how_many_number_spec.specs.Divisors.{when, sum_to, divides, overDivisors}
+use Rattle.how_many_number_spec.specs.Divisors.{when, sum_to, divides, over_divisors}
 use Rattle.how_many_sums_inner.specs.Weights.{powers}
 use Rattle.how_many_number_laws.proofs.Loops.{sum-start, sum-on, sum-end}
 use Rattle.how_many_sums_inner.proofs.over_divisors.Tie as tie
@@ -30,7 +30,7 @@ loop-again c =
     )
 
 returns : tie.Need-returns invariant-loop decreases-loop
-unfolding overDivisors
+unfolding over_divisors
 returns c =
     let a = c.before.before.args in let l = c.before.loop in
     sum-end (λ j. when (divides j a.n) (powers a.w a.k a.n j)) l.x l.d a.n l.invariant.0 c.loop-test.false l.invariant.1

@@ -1,16 +1,16 @@
 -- `listing_program_inner::print_pages` meets its contract: the page stands in the buffer, and fewer pages follow each time.
 use Rattle.words.proofs.Needs.{needs, ◌≤◌, arith, ◌≡◌, refl, sym, ◌∙◌, length, length-take, not-true, not-false}
-use Rattle.listing_spec.specs.Paging.{rowRoom}
+use Rattle.listing_spec.specs.Paging.{row_room}
 use Rattle.listing_steps_inner.proofs.Going.{goes-bytes}
 use Rattle.listing_program_inner.specs.Says.{Turning}
-use Rattle.listing_program_inner.proofs.Turns.{paged-length, turning-next, pagesLeft, pages-fall}
+use Rattle.listing_program_inner.proofs.Turns.{paged-length, turning-next, pages_left, pages-fall}
 use Rattle.listing_program_inner.proofs.print_pages.Tie as tie
 
 abbrev invariant-loop : tie.invariant-loop
-invariant-loop buf₀ page₀ buf page = (rowRoom ≤ length buf) × (length buf ≡ length buf₀) × Turning page (length buf)
+invariant-loop buf₀ page₀ buf page = (row_room ≤ length buf) × (length buf ≡ length buf₀) × Turning page (length buf)
 
 abbrev decreases-loop : tie.decreases-loop
-decreases-loop buf₀ page₀ buf page = pagesLeft page
+decreases-loop buf₀ page₀ buf page = pages_left page
 
 abbrev at-loop : tie.Else1 invariant-loop decreases-loop → tie.At-loop invariant-loop decreases-loop
 at-loop c = c.before.before.before.before

@@ -2,7 +2,7 @@
 use Rattle.words.proofs.Needs.{needs, ◌≤◌, arith}
 use Rattle.text_fill_spec.specs.Filled.{slots, longest}
 use Rattle.text_form_inner.proofs.Fits.{fits_more}
-use Rattle.picture_spec.specs.Text.{headText}
+use Rattle.picture_spec.specs.Text.{head_text}
 use Rattle.picture_inner.proofs.place_head.Tie as tie
 
 place-form-requires : tie.Need-place-form-requires
@@ -10,7 +10,7 @@ unfolding longest slots
 place-form-requires c κs = search needs
 
 returns : tie.Need-returns
-unfolding longest slots headText
+unfolding longest slots head_text
 returns c = fits_more c.before.before.place-form.ensures 320 (omega arith)
 
 pub place-head-spec : {M : Type 1} → Rattle.picture_inner.proofs.place_head.Statement.statement M

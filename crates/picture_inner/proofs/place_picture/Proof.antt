@@ -1,7 +1,7 @@
 -- `picture_inner::place_picture` meets its contract.
 use Rattle.words.proofs.Needs.{needs, ◌+◌, ◌≤◌, arith}
 use Rattle.text_form_inner.proofs.Fits.{fits-append, fits-room}
-use Rattle.picture_spec.specs.Text.{pictureText}
+use Rattle.picture_spec.specs.Text.{picture_text}
 use Rattle.picture_inner.proofs.place_picture.Tie as tie
 
 abbrev start : tie.After-place-head → tie.Start
@@ -27,7 +27,7 @@ place-tail-requires c κs =
     )
 
 returns : tie.Need-returns
-unfolding pictureText
+unfolding picture_text
 returns c = fits-append (fits-append (after-place-head c.before.before.before.before.before).place-head.ensures
     c.before.before.before.before.before.before.place-ring.ensures) c.before.before.place-tail.ensures
 

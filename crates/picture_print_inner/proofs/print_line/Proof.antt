@@ -1,7 +1,7 @@
 -- `picture_print_inner::print_line` meets its contract.
 use Rattle.words.proofs.Needs.{needs, arith, length, length-take, length-drop}
 use Rattle.picture_words_inner.proofs.Words.{print-bad}
-use Rattle.picture_print_inner.proofs.Printing.{put-line, no_number}
+use Rattle.picture_print_inner.proofs.Printing.{put-line, no_number_lem}
 use Rattle.picture_print_inner.proofs.print_line.Tie as tie
 
 abbrev start : tie.After-k → tie.Start
@@ -22,7 +22,7 @@ print-words-requires c κs = (
 returns : tie.Need-returns
 returns c =
     let d = c.before.before.before.before.before.before in
-    print-bad _ _ _ _ _ (no_number d.before.before.before.before.args.l.now
+    print-bad _ _ _ _ _ (no_number_lem d.before.before.before.before.args.l.now
     (rw c.before.before.before.before.enum_told.given.1 at c.before.before.before.before.before.before.head_of.ensures))
     c.before.before.place-malformed.ensures
 

@@ -1,7 +1,7 @@
 -- `report_answers_inner::place_counts` meets its contract: each piece stands behind the one before it, and there is room for all.
 use Rattle.words.proofs.Needs.{needs, arith}
 use Rattle.text_spec.proofs.Put.{placed-length, placed-append}
-use Rattle.report_spec.specs.Lines.{countsLine}
+use Rattle.report_spec.specs.Lines.{counts_line}
 use Rattle.report_answers_inner.proofs.Placing.{length-counts}
 use Rattle.report_answers_inner.proofs.place_counts.Tie as tie
 
@@ -43,7 +43,7 @@ same_length c =
     placed-length _ _ _ _ _ (placed-append _ _ _ _ _ _ _ _ t3 s4.place-text2.ensures)
 
 returns : tie.Need-returns
-unfolding countsLine
+unfolding counts_line
 returns c =
     let s4 = c.before.before in
     let s3 = s4.before.before.before.before.before in

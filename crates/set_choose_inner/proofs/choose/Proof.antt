@@ -2,7 +2,7 @@
 -- taken on, is the set; each turn leaves fewer readings above.
 use Rattle.words.proofs.Needs.{needs, arith, sym, length-take, length-take-le}
 use Rattle.words.specs.{Order.before, Readings.readings, Readings.count}
-use Rattle.walk_spec.specs.Record.{ringOf}
+use Rattle.walk_spec.specs.Record.{ring_of}
 use Rattle.set_choose_inner.proofs.Along.{Along, zeros-part, taken-few, started, along-start, along-ended, Turned, turned, along-full}
 use Rattle.set_choose_inner.proofs.choose.Tie as tie
 
@@ -10,7 +10,7 @@ abbrev invariant-loop : tie.invariant-loop
 invariant-loop rule n k d wanted w₀ places₀ tallies₀ taken₀ w places tallies taken = Along rule n k d wanted w places tallies taken
 
 abbrev decreases-loop : tie.decreases-loop
-decreases-loop rule n k d wanted w₀ places₀ tallies₀ taken₀ w places tallies taken = count (before (ringOf w)) (readings n k)
+decreases-loop rule n k d wanted w₀ places₀ tallies₀ taken₀ w places tallies taken = count (before (ring_of w)) (readings n k)
 
 abbrev start : tie.In-loop invariant-loop decreases-loop → tie.Start invariant-loop decreases-loop
 start c = c.before.before.before.before.before.before

@@ -3,12 +3,12 @@ use Rattle.words.proofs.Needs.{needs, ◌≤◌, ◌-◌, arith, ◌≡◌, leng
 use Rattle.set_text_inner.proofs.Lines.{lines_start, lines-room, lines-on}
 use Rattle.text_spec.specs.Put.{Placed}
 use Rattle.text_spec.proofs.Put.{placed-length}
-use Rattle.set_spec.specs.Places.{setIn}
-use Rattle.set_text_spec.specs.Text.{ringTexts}
+use Rattle.set_spec.specs.Places.{set_in}
+use Rattle.set_text_spec.specs.Text.{ring_texts}
 use Rattle.set_text_inner.proofs.place_rings.Tie as tie
 
 abbrev invariant-loop : tie.invariant-loop
-invariant-loop buf₀ places n taken at₀ j₀ buf at j = (j ≤ taken) × Placed buf₀ 0 (ringTexts (setIn n places j)) at buf
+invariant-loop buf₀ places n taken at₀ j₀ buf at j = (j ≤ taken) × Placed buf₀ 0 (ring_texts (set_in n places j)) at buf
 
 abbrev decreases-loop : tie.decreases-loop
 decreases-loop buf₀ places n taken at₀ j₀ buf at j = taken - j

@@ -1,20 +1,20 @@
 -- `shades_next_inner::seek` meets its contract. The loop: the next ring above `ring` is that above `start`, and at each turn a place further right is raised:
 -- those raised so far are counted by the words that end there (specs/Raised).
 use Rattle.words.proofs.Needs.{needs, ℕ, ◌-◌, arith, ◌≡◌, refl, ◌∙◌, sym, List, ◌++◌, take, drop, set, length-set, length-take-le}
-use Rattle.shades_next_inner.proofs.Seeking.{Standing, headed, lastRaised, seek-start, seek-none, seek-asks, Rounded, rounded}
+use Rattle.shades_next_inner.proofs.Seeking.{Standing, headed, last_raised, seek-start, seek-none, seek-asks, Rounded, rounded}
 use Rattle.shades_next_inner.proofs.Raised.{raised-none}
-use Rattle.shades_next_inner.specs.{Raised.raisedTo, Runs.Repeats}
+use Rattle.shades_next_inner.specs.{Raised.raised_to, Runs.Repeats}
 use Rattle.shades_raise_inner.specs.Places.{Headed}
 use Rattle.shades_next_inner.proofs.seek.Tie as tie
 
 abbrev invariant-loop : tie.invariant-loop
 invariant-loop n k p counts ring₀ lyn₀ raised₀ ring lyn raised =
-    Standing counts n k ring₀ ring (lastRaised n ring₀ ring)
-    × (raised ≡ raisedTo (take n ring₀) (take n ring))
+    Standing counts n k ring₀ ring (last_raised n ring₀ ring)
+    × (raised ≡ raised_to (take n ring₀) (take n ring))
     × Headed ring n lyn
 
 abbrev decreases-loop : tie.decreases-loop
-decreases-loop n k p counts ring₀ lyn₀ raised₀ ring lyn raised = n - lastRaised n ring₀ ring
+decreases-loop n k p counts ring₀ lyn₀ raised₀ ring lyn raised = n - last_raised n ring₀ ring
 
 abbrev start : tie.Else1 invariant-loop decreases-loop → tie.Start invariant-loop decreases-loop
 start c = c.before.before.before.before
@@ -54,7 +54,7 @@ round : (c : tie.After-repeat invariant-loop decreases-loop) →
     let l = c.before.before.before.before.before.loop in
     let r = c.before.before.before.before.find.result in
     (t : List ℕ) → Repeats r.end (take a.n (set l.ring (r.end - 1) r.shade)) t →
-    Rounded a.counts.now a.n a.k a.start (lastRaised a.n a.start l.ring) r.end l.raised (t ++ drop a.n (set l.ring (r.end - 1) r.shade))
+    Rounded a.counts.now a.n a.k a.start (last_raised a.n a.start l.ring) r.end l.raised (t ++ drop a.n (set l.ring (r.end - 1) r.shade))
 round c t rep = let l = c.before.before.before.before.before.loop in rounded l.invariant.0 c.before.before.before.before.find.ensures c.before.before.before.if1.false rep l.invariant.1
 
 add-raised : tie.Need-overflow-add-raised invariant-loop decreases-loop

@@ -2,7 +2,7 @@
 use Rattle.words.proofs.Needs.{needs, ◌+◌, ◌≤◌, ◌<◌, arith}
 use Rattle.text_fill_spec.specs.Filled.{slots, longest}
 use Rattle.text_form_inner.proofs.Fits.{fits_more}
-use Rattle.sheet_spec.specs.Text.{footOf}
+use Rattle.sheet_spec.specs.Text.{foot_of}
 use Rattle.sheet_inner.proofs.place_foot.Tie as tie
 
 enum_told : tie.Need-enum-told
@@ -21,19 +21,19 @@ unfolding longest slots
 place-form-requires-3 c κs = search needs
 
 returns : tie.Need-returns
-unfolding longest slots footOf
+unfolding longest slots foot_of
 returns c =
     let d = c.before.before.before.before.before.before in
     rw d.before.enum_told.given.1 (fits_more c.before.before.place-form.ensures 320 (omega arith))
 
 returns-2 : tie.Need-returns-2
-unfolding longest slots footOf
+unfolding longest slots foot_of
 returns-2 c =
     let d = c.before.before.before.before.before.before in
     rw d.before.enum-told2.given.1 (fits_more c.before.before.place-form2.ensures 320 (omega arith))
 
 returns-3 : tie.Need-returns-3
-unfolding longest slots footOf
+unfolding longest slots foot_of
 returns-3 c =
     let d = c.before.before.before.before.before.before in
     rw d.before.enum-told3.given.1 (fits_more c.before.before.place-form3.ensures 320 (omega arith))

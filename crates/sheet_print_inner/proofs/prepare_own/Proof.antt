@@ -1,7 +1,7 @@
 -- `sheet_print_inner::prepare_own` meets its contract.
 use Rattle.words.proofs.Needs.{needs, refl, ◌∙◌}
 use Rattle.stream_spec.specs.Lines.{lines}
-use Rattle.sheet_print_inner.specs.Says.{ownAnswer}
+use Rattle.sheet_print_inner.specs.Says.{own_answer}
 use Rattle.sheet_print_inner.specs.declared.Answer.TheVariants as A
 use Rattle.sheet_print_inner.proofs.Ready.{own-as, own-good, own-wrong}
 use Rattle.sheet_print_inner.proofs.prepare_own.Tie as tie
@@ -17,7 +17,7 @@ returns c =
     let x = own-good a.sheet (lines a.text.now) o.result o.ensures n.0.0 l in
     let e = j.ensures in (
       e.1,
-      own-as a.sheet (lines a.text.now) o.result j.result.sheet n.0.0 j.result.count (ownAnswer n.0.0) j.result.answer
+      own-as a.sheet (lines a.text.now) o.result j.result.sheet n.0.0 j.result.count (own_answer n.0.0) j.result.answer
           e.0 e.2 (e.3 ∙ c.before.own-answer.ensures) x,
     )
 

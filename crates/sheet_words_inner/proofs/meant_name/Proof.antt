@@ -1,13 +1,13 @@
 -- `sheet_words_inner::meant_name` meets its contract.
 use Rattle.words.proofs.Needs.{needs, ◌≡◌, refl, sym, ap, ◌∙◌}
-use Rattle.sheet_words_spec.specs.Words.{wishFor}
+use Rattle.sheet_words_spec.specs.Words.{wish_for}
 use Rattle.sheet_words_inner.proofs.meant_name.Tie as tie
 
 returns : tie.Need-returns
 returns c = rw c.enum_told.given.1 refl
 
 returns-2 : tie.Need-returns-2
-returns-2 c = rw c.before.before.enum-told2.given.1 (c.wish-for.ensures ∙ ap (wishFor c.before.before.before.before.args.v) c.before.one_number.ensures)
+returns-2 c = rw c.before.before.enum-told2.given.1 (c.wish-for.ensures ∙ ap (wish_for c.before.before.before.before.args.v) c.before.one_number.ensures)
 
 returns-3 : tie.Need-returns-3
 returns-3 c = rw c.enum-told3.given.1 refl

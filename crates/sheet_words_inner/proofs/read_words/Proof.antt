@@ -1,12 +1,12 @@
 -- `sheet_words_inner::read_words` meets its contract: the words from the place on mean what all of them mean behind the first.
 use Rattle.words.proofs.Needs.{needs, ◌+◌, ◌-◌, ◌≤◌, arith, ◌≡◌, refl, sym, ap, ◌∙◌, length}
 use Rattle.sheet_words_spec.specs.Words.{asked}
-use Rattle.sheet_words_inner.specs.Says.{wordsFrom}
+use Rattle.sheet_words_inner.specs.Says.{words_from}
 use Rattle.sheet_words_inner.proofs.Reading.{asked-on, asked-end}
 use Rattle.sheet_words_inner.proofs.read_words.Tie as tie
 
 abbrev invariant-loop : tie.invariant-loop
-invariant-loop t a₀ at₀ a at = (at ≤ length t + 1) × (asked (wordsFrom t at) a ≡ asked (wordsFrom t 0) a₀)
+invariant-loop t a₀ at₀ a at = (at ≤ length t + 1) × (asked (words_from t at) a ≡ asked (words_from t 0) a₀)
 
 abbrev decreases-loop : tie.decreases-loop
 decreases-loop t a₀ at₀ a at = length t + 1 - at

@@ -1,13 +1,13 @@
 -- `sheet_write_inner::print_lines` meets its contract: the targets below the place are written.
 use Rattle.words.proofs.Needs.{needs, ◌-◌, ◌≤◌, arith, ◌≡◌, refl, ◌∙◌, length, length-take}
-use Rattle.sheet_spec.specs.Says.{targetRoom}
+use Rattle.sheet_spec.specs.Says.{target_room}
 use Rattle.sheet_lines_inner.specs.Says.{LineReached}
 use Rattle.sheet_lines_inner.proofs.Lines.{reached-first}
 use Rattle.sheet_write_inner.proofs.Inside.{step-inside}
 use Rattle.sheet_write_inner.proofs.print_lines.Tie as tie
 
 abbrev invariant-loop : tie.invariant-loop
-invariant-loop sheet text count buf₀ at₀ j₀ buf at j = LineReached text at j × (j ≤ count) × (targetRoom ≤ length buf) × (length buf ≡ length buf₀)
+invariant-loop sheet text count buf₀ at₀ j₀ buf at j = LineReached text at j × (j ≤ count) × (target_room ≤ length buf) × (length buf ≡ length buf₀)
 
 abbrev decreases-loop : tie.decreases-loop
 decreases-loop sheet text count buf₀ at₀ j₀ buf at j = count - j

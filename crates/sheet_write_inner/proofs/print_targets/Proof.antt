@@ -1,11 +1,11 @@
 -- `sheet_write_inner::print_targets` meets its contract: the targets below the place are written.
 use Rattle.words.proofs.Needs.{needs, ◌-◌, ◌≤◌, arith, ◌≡◌, refl, ◌∙◌, length, length-take}
-use Rattle.sheet_spec.specs.Says.{targetRoom}
+use Rattle.sheet_spec.specs.Says.{target_room}
 use Rattle.sheet_write_inner.proofs.Inside.{step-inside}
 use Rattle.sheet_write_inner.proofs.print_targets.Tie as tie
 
 abbrev invariant-loop : tie.invariant-loop
-invariant-loop sheet places count buf₀ i₀ buf i = (i ≤ count) × (targetRoom ≤ length buf) × (length buf ≡ length buf₀)
+invariant-loop sheet places count buf₀ i₀ buf i = (i ≤ count) × (target_room ≤ length buf) × (length buf ≡ length buf₀)
 
 abbrev decreases-loop : tie.decreases-loop
 decreases-loop sheet places count buf₀ i₀ buf i = count - i

@@ -1,7 +1,7 @@
 -- `sheets::target` meets its contract.
 use Rattle.words.proofs.Needs.{needs, ◌≤◌, ◌<◌, arith, refl, inl, inr, length}
 use Rattle.refusal.specs.Order.{Passed, Given}
-use Rattle.sheet_spec.specs.Says.{sheetOrder}
+use Rattle.sheet_spec.specs.Says.{sheet_order}
 use Rattle.sheets.proofs.target.Tie as tie
 
 enum_told : tie.Need-enum-told
@@ -10,7 +10,7 @@ enum_told c = search needs
 place-target-requires : tie.Need-place-target-requires
 place-target-requires c κs =
     let a = c.before.before.before.before.before.before.args in
-    let p : Passed (sheetOrder a.sheet a.ring.now a.i (length a.buf.now)) = rw c.before.enum_told.given.1 at c.before.before.before.check-target.ensures in
+    let p : Passed (sheet_order a.sheet a.ring.now a.i (length a.buf.now)) = rw c.before.enum_told.given.1 at c.before.before.before.check-target.ensures in
     let q = p.0.0.0.0 in
     let n = q.0.0.0.0.0.0 in
     let s = q.0.0.0.0.1 in
@@ -19,14 +19,14 @@ place-target-requires c κs =
 returns : tie.Need-returns
 returns c =
     let a = c.before.before.before.before.before.before.args in
-    let g : Given (sheetOrder a.sheet a.ring.now a.i (length a.buf.now)) _ = rw c.before.r.given.1 at c.before.before.before.check-target.ensures in
+    let g : Given (sheet_order a.sheet a.ring.now a.i (length a.buf.now)) _ = rw c.before.r.given.1 at c.before.before.before.check-target.ensures in
     (g, refl)
 
 returns-2 : tie.Need-returns-2
 returns-2 c =
     let d = c.before.before.before.before.before.before in
     let a = d.before.before.before.args in
-    let p : Passed (sheetOrder a.sheet a.ring.now a.i (length a.buf.now)) = rw c.before.before.before.before.enum_told.given.1 at
+    let p : Passed (sheet_order a.sheet a.ring.now a.i (length a.buf.now)) = rw c.before.before.before.before.enum_told.given.1 at
     c.before.before.before.before.before.before.check-target.ensures in
     let f = c.before.before.place-target.ensures in
     (p, f.placed, omega (arith, f.short, f.placed.next))

@@ -3,7 +3,7 @@
 use Rattle.words.proofs.Needs.{needs, ◌-◌, ◌*◌, ◌≤◌, arith, ◌≡◌, refl, sym, ◌∙◌, length, take, length-take}
 use Rattle.stream_spec.specs.{Texts.Tells, Blocks.ByteSays}
 use Rattle.stream_spec.proofs.Taking.{Taking, taking-none, taking-room, taking-long, taking-on, taking-end}
-use Rattle.stream_kind_inner.specs.Says.{Said, most_of, roomOf}
+use Rattle.stream_kind_inner.specs.Says.{Said, most_of, room_of}
 use Rattle.stream_kind_inner.proofs.Telling.{said-tells}
 use Rattle.stream_blocks_inner.proofs.take_bytes.Tie as tie
 
@@ -12,7 +12,7 @@ invariant-loop kind line₀ len block buf₀ m₀ at₀ i₀ line buf m at i =
     (i ≤ length block)
     × (length line ≡ most_of kind)
     × (m ≤ most_of kind)
-    × Taking (Said kind) (most_of kind) (roomOf kind) (take len line₀) block buf₀ i (take m line) at buf
+    × Taking (Said kind) (most_of kind) (room_of kind) (take len line₀) block buf₀ i (take m line) at buf
     × (length buf ≡ length buf₀)
 
 abbrev decreases-loop : tie.decreases-loop

@@ -1,6 +1,6 @@
 -- `stream_program_inner::pump` meets its contract. The measure is the number of reads that are left.
 use Rattle.words.proofs.Needs.{needs, ◌-◌, ◌*◌, ◌<◌, ◌≤◌, arith, ◌≡◌, refl, sym, ◌∙◌, length, take, not-true, not-false}
-use Rattle.stream_kind_inner.specs.Says.{most_of, roomOf}
+use Rattle.stream_kind_inner.specs.Says.{most_of, room_of}
 use Rattle.stream_program_inner.specs.Says.{TurnsMade, none}
 use Rattle.stream_steps_inner.proofs.Going.{goes-less}
 use Rattle.stream_program_inner.proofs.Stopping.{turns_more}

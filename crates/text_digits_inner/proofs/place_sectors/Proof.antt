@@ -1,11 +1,11 @@
 -- `text_digits_inner::place_sectors` meets its contract. The loop's invariant: the first i sectors are placed.
 use Rattle.words.proofs.Needs.{needs, ◌≤◌, ◌+◌, ◌-◌, arith, map, length, take}
-use Rattle.text_spec.specs.{Put.Placed, Text.hexOf}
+use Rattle.text_spec.specs.{Put.Placed, Text.hex_of}
 use Rattle.text_spec.proofs.Put.{placed-none, placed-length, placed-sector, placed-sectors}
 use Rattle.text_digits_inner.proofs.place_sectors.Tie as tie
 
 abbrev invariant-loop : tie.invariant-loop
-invariant-loop buf₀ at ring i₀ buf i = (i ≤ length ring) × Placed buf₀ at (take i (map hexOf ring)) (at + i) buf
+invariant-loop buf₀ at ring i₀ buf i = (i ≤ length ring) × Placed buf₀ at (take i (map hex_of ring)) (at + i) buf
 
 abbrev decreases-loop : tie.decreases-loop
 decreases-loop buf₀ at ring i₀ buf i = length ring - i

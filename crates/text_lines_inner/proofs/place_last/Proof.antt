@@ -1,14 +1,14 @@
 -- `text_lines_inner::place_last` meets its contract: the last line is two numbers and their words.
 use Rattle.words.proofs.Needs.{needs}
-use Rattle.text_spec.specs.Text.{twoNumbers, lastLine}
+use Rattle.text_spec.specs.Text.{two_numbers, last_line}
 use Rattle.text_lines_inner.proofs.place_last.Tie as tie
 
 place-two-requires : tie.Need-place-two-requires
-unfolding lastLine twoNumbers
+unfolding last_line two_numbers
 place-two-requires c κs = search needs
 
 returns : tie.Need-returns
-unfolding lastLine twoNumbers
+unfolding last_line two_numbers
 returns c = c.before.before.place-two.ensures
 
 pub place-last-spec : {M : Type 1} → Rattle.text_lines_inner.proofs.place_last.Statement.statement M

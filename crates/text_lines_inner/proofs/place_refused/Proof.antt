@@ -1,6 +1,6 @@
 -- `text_lines_inner::place_refused` meets its contract: each piece stands behind the one before it, and there is room for all.
 use Rattle.words.proofs.Needs.{needs, arith}
-use Rattle.text_spec.specs.Text.{refusedLine}
+use Rattle.text_spec.specs.Text.{refused_line}
 use Rattle.text_spec.proofs.Put.{length-refused, placed-length, placed-append}
 use Rattle.text_lines_inner.proofs.place_refused.Tie as tie
 
@@ -40,7 +40,7 @@ same_length c =
     placed-length _ _ _ _ _ (placed-append _ _ _ _ _ _ _ _ (placed-append _ _ _ _ _ _ _ _ p1 p2) p3)
 
 returns : tie.Need-returns
-unfolding refusedLine
+unfolding refused_line
 returns c =
     let b = after-buf2 c.before in
     let a = (start (after-place-text b)).args in

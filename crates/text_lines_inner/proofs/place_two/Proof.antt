@@ -1,6 +1,6 @@
 -- `text_lines_inner::place_two` meets its contract: each piece stands behind the one before it, and there is room for all.
 use Rattle.words.proofs.Needs.{needs, arith}
-use Rattle.text_spec.specs.Text.{twoNumbers}
+use Rattle.text_spec.specs.Text.{two_numbers}
 use Rattle.text_spec.proofs.Put.{length_two, placed-length, placed-append}
 use Rattle.text_lines_inner.proofs.place_two.Tie as tie
 
@@ -59,7 +59,7 @@ same_length c =
     placed-length _ _ _ _ _ (placed-append _ _ _ _ _ _ _ _ t4 s5.place-text3.ensures)
 
 returns : tie.Need-returns
-unfolding twoNumbers
+unfolding two_numbers
 returns c =
     let s5 = c.before.before in
     let s4 = s5.before.before.before.before.before in

@@ -1,7 +1,7 @@
 -- `walk_bracelet_inner::step_good` meets its contract. What `next` came to is the next bracelet, and a start from it hands out its record.
 use Rattle.words.proofs.Needs.{needs, arith, ◌≡◌, sym, some, length, length-take, length-append, length-drop}
 use Rattle.rings.specs.{Alike.bracelet, Steps.next_of}
-use Rattle.walk_spec.specs.Record.{ringOf}
+use Rattle.walk_spec.specs.Record.{ring_of}
 use Rattle.walk_record_laws.proofs.Good.{good-ready, good-long}
 use Rattle.walk_bracelet_inner.proofs.Arriving.{good-reading, arrived-long, arrived-ring, arrived-passed, arrived, ended}
 use Rattle.walk_bracelet_inner.proofs.step_good.Tie as tie
@@ -36,7 +36,7 @@ array-share-prefix-ahead c =
     let w = g.args.w in
     let l : length w.ring ≡ 64 = search needs in
     let x = c.before.before.next in
-    let e : next_of bracelet w.k (ringOf w) ≡ some x.new.0 = rw c.if1.true at x.ensures in
+    let e : next_of bracelet w.k (ring_of w) ≡ some x.new.0 = rw c.if1.true at x.ensures in
     simp (length-append, length-drop) (omega (arith, l, arrived-long w g.requires l x.new.0 e))
 
 slice-aggregate-start-good : tie.Need-slice-aggregate-start-good
@@ -45,7 +45,7 @@ slice-aggregate-start-good c =
     let w = g.args.w in
     let l : length w.ring ≡ 64 = search needs in
     let x = c.before.before.before.next in
-    let e : next_of bracelet w.k (ringOf w) ≡ some x.new.0 = rw c.before.if1.true at x.ensures in
+    let e : next_of bracelet w.k (ring_of w) ≡ some x.new.0 = rw c.before.if1.true at x.ensures in
     rw (arrived-ring w g.requires l x.new.0 e) (sym (arrived-long w g.requires l x.new.0 e))
 
 start-good-requires : tie.Need-start-good-requires
@@ -54,7 +54,7 @@ start-good-requires c κs =
     let w = g.args.w in
     let l : length w.ring ≡ 64 = search needs in
     let x = c.before.before.before.next in
-    let e : next_of bracelet w.k (ringOf w) ≡ some x.new.0 = rw c.before.if1.true at x.ensures in
+    let e : next_of bracelet w.k (ring_of w) ≡ some x.new.0 = rw c.before.if1.true at x.ensures in
     rw (arrived-ring w g.requires l x.new.0 e) (arrived-passed w g.requires l x.new.0 e)
 
 returns : tie.Need-returns
@@ -64,7 +64,7 @@ returns c =
     let l : length w.ring ≡ 64 = search needs in
     let x = c.before.before.before.before.before.next in
     let s = c.before.start-good in
-    let e : next_of bracelet w.k (ringOf w) ≡ some x.new.0 = rw c.before.before.before.if1.true at x.ensures in
+    let e : next_of bracelet w.k (ring_of w) ≡ some x.new.0 = rw c.before.before.before.if1.true at x.ensures in
     arrived w g.pre l x.new.0 e s.result.walk s.result.answer (rw (arrived-ring w g.pre l x.new.0 e) at s.ensures)
 
 returns-2 : tie.Need-returns-2

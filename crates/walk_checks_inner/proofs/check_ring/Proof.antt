@@ -3,7 +3,7 @@
 use Rattle.words.proofs.Needs.{needs, ◌≤◌, arith, ◌≡◌, refl, inl, inr, true, length, length-take}
 use Rattle.walk_checks_inner.proofs.Sectors.{head-bad, head-good, tail-bad, tail-good}
 use Rattle.refusal.specs.Order.{Passed}
-use Rattle.refusal.proofs.More.{upTo2, numbers-refused, numbers-passed}
+use Rattle.refusal.proofs.More.{up_to2, numbers-refused, numbers-passed}
 use Rattle.walk_checks_inner.proofs.check_ring.Tie as tie
 
 abbrev else1 : tie.After-first-bad2 → tie.Else1
@@ -13,7 +13,7 @@ enum_told : tie.Need-enum-told
 enum_told c = search needs
 
 -- behind the check of the numbers
-sized : (c : tie.After-enum-told) → let a = c.before.before.before.args in Passed (upTo2 a.n Unit a.k) × (a.n ≤ length a.t3) × (length a.t3 ≡ 64)
+sized : (c : tie.After-enum-told) → let a = c.before.before.before.args in Passed (up_to2 a.n Unit a.k) × (a.n ≤ length a.t3) × (length a.t3 ≡ 64)
 sized c =
     let a = c.before.before.before.args in
     let g = numbers-passed a.n a.n a.k Unit (λ q. tt) (rw c.enum_told.given.1 at c.before.before.check-numbers.ensures) in

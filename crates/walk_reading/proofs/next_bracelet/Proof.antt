@@ -1,7 +1,7 @@
 -- `walk_reading::next_bracelet` meets its contract.
 use Rattle.words.proofs.Needs.{needs, ◌≤◌, arith, refl, length, length-take}
 use Rattle.refusal.specs.Order.{Passed}
-use Rattle.walk_reading_spec.specs.Says.{readingOrder}
+use Rattle.walk_reading_spec.specs.Says.{reading_order}
 use Rattle.walk_reading_inner.proofs.Passing.{passed-ready}
 use Rattle.walk_reading.proofs.next_bracelet.Tie as tie
 
@@ -10,7 +10,7 @@ enum_told c = search needs
 
 -- the reading passed the checks, and fits into 64 sectors
 passed : (c : tie.After-enum-told) →
-    let a = c.before.before.before.before.before.args in Passed (readingOrder a.reading.now a.k (length a.out.now)) × (length a.reading.now ≤ 64)
+    let a = c.before.before.before.before.before.args in Passed (reading_order a.reading.now a.k (length a.out.now)) × (length a.reading.now ≤ 64)
 passed c = let p = rw c.enum_told.given.1 at c.before.before.check-step.ensures in (p, (passed-ready _ _ _ p).fits)
 
 array-borrow-prefix-ring : tie.Need-array-borrow-prefix-ring
