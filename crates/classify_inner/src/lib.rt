@@ -10,7 +10,7 @@ ghost use Rattle.classify_inner.specs.Beginning.{LongestPrenecklace};
 use rings::Class;
 
 // How far a reading is a prenecklace: its longest beginning that is one ends before `end`, and the lyn of that beginning is `lyn`.
-#[derive(Drop)]
+#[derive(Clone, Copy)]
 pub struct Begun {
     pub end: usize,
     pub lyn: usize,

@@ -6,7 +6,7 @@ use refusal::Refusal;
 use rings::Class;
 
 // What classifying answers.
-#[derive(Drop)]
+#[derive(Clone, Copy)]
 pub enum Classified {
     Is(Class),
     Refused(Refusal),

@@ -2,6 +2,6 @@
 
 #![tactic(auto)]
 
-fn main() {
-    converter_program_inner::run();
+fn main(rt: HostRuntime) {
+    converter_program_inner::run(rt);
 }

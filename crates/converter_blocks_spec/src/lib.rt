@@ -5,7 +5,7 @@
 use refusal::Refusal;
 
 // What a block holds from its front on.
-#[derive(Drop)]
+#[derive(Clone, Copy)]
 pub enum Stretch {
     // so many bytes of whole records, each of them good; behind them stands nothing, or the beginning of one more
     Records(usize),

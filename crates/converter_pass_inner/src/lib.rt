@@ -8,9 +8,12 @@ ghost use Rattle.program_passes_inner.specs.Passes.{limit, course_of};
 ghost use Rattle.converter_pass_inner.specs.Says.{most_block, BuffersFit, BlockBecomes, AtSays};
 
 use converter_blocks::Stretch;
-use libc::STDOUT_FILENO;
 use program_ending_inner::Ending;
 use program_passes_inner::Turn;
+use std::fs::File;
+
+// The number of standard output.
+const STDOUT_FILENO: i32 = 1;
 
 // The first time, a block that begins at `at` of the catalogue.
 fn check_block(at: usize, block: &[u8], last: bool) -> Turn
@@ -57,12 +60,12 @@ fn take_block(writing: bool, at: usize, block: &[u8], last: bool, new: &mut [u8]
 }
 
 // Reads a block from `at` on, and goes through it.
-pub fn take_at(writing: bool, at: usize, block: &mut [u8], new: &mut [u8]) -> Turn
+pub fn take_at(input: &mut File, writing: bool, at: usize, block: &mut [u8], new: &mut [u8]) -> Turn
     requires at_lt_limit { at < limit }
     requires buffers_fit { BuffersFit block.old new.old }
     ensures { AtSays writing at block.new new.new (course_of result) }
 {
-    let part = program_passes_inner::read_block(at, block);
+    let part = program_passes_inner::read_block(input, at, block);
     if part.failed {
         return program_passes_inner::stop(program_passes_inner::failed(writing));
     }

@@ -8,18 +8,22 @@ ghost use Rattle.program_passes_inner.specs.Passes.{finish_of};
 ghost use Rattle.converter_pass_inner.specs.Says.{BuffersFit};
 ghost use Rattle.converter_program_inner.specs.Says.{PassSays, WrittenSays, ThroughSays};
 
-use libc::{SEEK_CUR, STDERR_FILENO, STDIN_FILENO};
 use program_ending_inner::Ending;
 use program_passes_inner::Pass;
+use std::fs::File;
+use std::rt::HostRuntime;
+
+// The number of standard error.
+const STDERR_FILENO: i32 = 2;
 
 // Once through the catalogue.
-fn go_once(writing: bool, block: &mut [u8], new: &mut [u8]) -> Pass
+fn go_once(input: &mut File, writing: bool, block: &mut [u8], new: &mut [u8]) -> Pass
     requires { BuffersFit block.old new.old }
     ensures { PassSays writing (finish_of result) }
 {
     let mut at = 0;
     loop {
-        let t = converter_pass_inner::take_at(writing, at, block, new);
+        let t = converter_pass_inner::take_at(input, writing, at, block, new);
         if !program_passes_inner::goes_on(at, t) {
             return program_passes_inner::finish(at, t);
         }
@@ -28,11 +32,11 @@ fn go_once(writing: bool, block: &mut [u8], new: &mut [u8]) -> Pass
 }
 
 // The second time, behind a first that went through to the place `end`.
-fn write_to(end: usize, block: &mut [u8], new: &mut [u8]) -> Ending
+fn write_to(input: &mut File, end: usize, block: &mut [u8], new: &mut [u8]) -> Ending
     requires { BuffersFit block.old new.old }
     ensures { WrittenSays end result }
 {
-    let second = go_once(true, block, new);
+    let second = go_once(input, true, block, new);
     if second.through {
         return program_passes_inner::same_end(end, second.at);
     }
@@ -40,25 +44,26 @@ fn write_to(end: usize, block: &mut [u8], new: &mut [u8]) -> Ending
 }
 
 // Both times. What does not stand at the beginning of a file cannot be read twice from there.
-fn go_through(block: &mut [u8], new: &mut [u8]) -> Ending
+fn go_through(input: Option<File>, block: &mut [u8], new: &mut [u8]) -> Ending
     requires { BuffersFit block.old new.old }
     ensures { ThroughSays result }
 {
-    if libc::lseek(STDIN_FILENO, 0, SEEK_CUR) != 0 {
+    let Some(mut file) = input else {
         return Ending::NoFile;
-    }
-    let first = go_once(false, block, new);
+    };
+    let first = go_once(&mut file, false, block, new);
     if first.through {
-        return write_to(first.at, block, new);
+        return write_to(&mut file, first.at, block, new);
     }
     first.why
 }
 
 // The program: the old catalogue from standard input, the new one on standard output; on standard error why not, or why not all of it.
-pub fn run() {
+pub fn run(rt: HostRuntime) {
     let mut block = io::large_buffer();
     let mut new = io::large_buffer();
-    let ended = go_through(&mut block, &mut new);
+    let input = program_passes_inner::open_input(&rt);
+    let ended = go_through(input, &mut block, &mut new);
     let m = program_ending_inner::say(ended, &mut new);
     io::write_all(STDERR_FILENO, &new[..m]);
 }

@@ -3,23 +3,21 @@
 --     turned-there                     the first i reversed, the others reversed, and then the whole: turned by i
 use Rattle.words.proofs.Plain.{ℕ, ◌≤◌, arith, ◌≡◌, refl, ◌∙◌, List, [], ◌++◌, append-nil, reverse, reverse-append, reverse-reverse, length, take, drop}
 use Rattle.words.proofs.Plain.{length-append, length-drop, length-reverse, length-take-le, take-length, drop-length, take_at, drop_at}
-use Rattle.bytes.specs.Bytes.{rev, slice}
+use Rattle.std.specs.Prelude.{slice_range}
 use Rattle.words.specs.Turn.{turn}
 
 -- the first i reversed
-front-reversed : (i : ℕ) (w u : List ℕ) → u ≡ take 0 w ++ (rev (slice 0 i w) ++ drop i w) → u ≡ reverse (take i w) ++ drop i w
-unfolding rev slice
+front-reversed : (i : ℕ) (w u : List ℕ) → u ≡ take 0 w ++ (reverse (slice_range w 0 i) ++ drop i w) → u ≡ reverse (take i w) ++ drop i w
 front-reversed i w u e = e
 
 -- what stands behind a beginning p, up to the end n, reversed
-rest-reversed : (p q u : List ℕ) (i n : ℕ) → length p ≡ i → n ≡ length (p ++ q) → u ≡ take i (p ++ q) ++ (rev (slice i n (p ++ q)) ++ drop n (p ++ q)) → u ≡ p ++ reverse q
-unfolding rev slice
+rest-reversed : (p q u : List ℕ) (i n : ℕ) → length p ≡ i → n ≡ length (p ++ q) → u ≡ take i (p ++ q) ++ (reverse (slice_range (p ++ q) i n) ++ drop n (p ++ q)) → u ≡ p ++ reverse q
 rest-reversed p q u i n l m e =
     e ∙ rw (m, take-length (p ++ q), drop-length (p ++ q), take_at p q i l, drop_at p q i l, append-nil (reverse q))
 
 -- the three reversals together
-pub turned-there : (i n : ℕ) (w u v x : List ℕ) → i ≤ length w → n ≡ length w → u ≡ take 0 w ++ (rev (slice 0 i w) ++ drop i w) →
-    v ≡ take i u ++ (rev (slice i n u) ++ drop n u) → x ≡ take 0 v ++ (rev (slice 0 n v) ++ drop n v) → x ≡ turn i w
+pub turned-there : (i n : ℕ) (w u v x : List ℕ) → i ≤ length w → n ≡ length w → u ≡ take 0 w ++ (reverse (slice_range w 0 i) ++ drop i w) →
+    v ≡ take i u ++ (reverse (slice_range u i n) ++ drop n u) → x ≡ take 0 v ++ (reverse (slice_range v 0 n) ++ drop n v) → x ≡ turn i w
 unfolding turn
 turned-there i n w u v x h m e f g =
     let l : length front ≡ i = length-reverse (take i w) ∙ length-take-le i w h in

@@ -31,7 +31,7 @@ fn turn_there(a: &mut [u8], i: usize)
     ensures { a.new ≡ turn i a.old }
 {
     let n = a.len();
-    bytes::reverse(a, 0, i);
-    bytes::reverse(a, i, n);
-    bytes::reverse(a, 0, n);
+    byte_moves_inner::reverse(a, 0, i);
+    byte_moves_inner::reverse(a, i, n);
+    byte_moves_inner::reverse(a, 0, n);
 }

@@ -5,7 +5,7 @@
 use refusal::Refusal;
 
 // What converting a catalogue answers; the new catalogue itself is written to the output.
-#[derive(Drop)]
+#[derive(Clone, Copy)]
 pub enum Conversion {
     Converted,
     Refused(Refusal),

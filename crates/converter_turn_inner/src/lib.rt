@@ -27,7 +27,7 @@ fn put_front(part: &[u8], out: &mut [u8])
     requires { (4 < length part.now) × (length out.old ≡ length part.now) }
     ensures { Fronted part.now out.new }
 {
-    bytes::copy(part, out);
+    byte_moves_inner::copy(part, out);
     if part[1] != RETIRED_MARK {
         return;
     }

@@ -1,4 +1,3 @@
 // Nothing runs here: the theorems about shades of reflectances stand in proofs/.
 
 #![tactic(auto)]
-

@@ -5,14 +5,14 @@
 use refusal::Refusal;
 
 // The reference card: the reflectances of its dark and of its light field.
-#[derive(Drop)]
+#[derive(Clone, Copy)]
 pub struct Card {
     pub dark: f32,
     pub light: f32,
 }
 
 // What one sector's reflectance tells: its shade, or that it lies below 0 or above 1, with the value itself, or that it is not a number.
-#[derive(Drop)]
+#[derive(Clone, Copy)]
 pub enum Sector {
     Shade(u8),
     Outside(f32),
@@ -20,14 +20,14 @@ pub enum Sector {
 }
 
 // What `sector_shade` answers.
-#[derive(Drop)]
+#[derive(Clone, Copy)]
 pub enum SectorRead {
     Is(Sector),
     Refused(Refusal),
 }
 
 // What `ring_shades` answers: the shades are in the output, or the call is refused.
-#[derive(Drop)]
+#[derive(Clone, Copy)]
 pub enum RingRead {
     Written,
     Refused(Refusal),

@@ -4,6 +4,6 @@
 
 use stream_kind_inner::Kind;
 
-fn main() {
-    stream_program_inner::run(Kind::Desk);
+fn main(rt: HostRuntime) {
+    stream_program_inner::run(rt, Kind::Desk);
 }

@@ -9,7 +9,7 @@ use desk_words_inner::Head;
 use line_spec::Numeral;
 
 // How many counts a text has; or that it has none that can be read.
-#[derive(Drop)]
+#[derive(Clone, Copy)]
 pub enum Listed {
     Counts(usize),
     Malformed,

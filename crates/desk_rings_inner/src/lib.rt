@@ -6,7 +6,7 @@ ghost use Rattle.std.specs.Prelude.{◌≤◌, length};
 ghost use Rattle.desk_rings_inner.specs.Says.{SpeltSays, EachSays};
 
 // The sectors of all words lie end to end: up to which place those of the rings do, and up to which those of the reading; or a word is no reading.
-#[derive(Drop)]
+#[derive(Clone, Copy)]
 pub enum Words {
     Spelt(usize, usize),
     Malformed,

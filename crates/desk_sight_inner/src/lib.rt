@@ -52,7 +52,7 @@ fn ask_sight(k: usize, most: usize, u: &[u8], out: &mut [u8], buf: &mut [u8], at
 }
 
 // The two numbers in front of the rings, k and how many sectors may be misread, and the place behind them.
-#[derive(Drop)]
+#[derive(Clone, Copy)]
 enum Heads {
     Numbers(usize, usize, usize),
     Malformed,

@@ -3,7 +3,7 @@
 #![tactic(auto)]
 
 // A step from a reading, to the next ring of a kind.
-#[derive(Drop)]
+#[derive(Clone, Copy)]
 pub enum Step {
     Necklace,
     Lyndon,
@@ -12,7 +12,7 @@ pub enum Step {
 }
 
 // A question about one reading.
-#[derive(Drop)]
+#[derive(Clone, Copy)]
 pub enum About {
     Class,
     Home,
@@ -22,14 +22,14 @@ pub enum About {
 }
 
 // A question about two readings.
-#[derive(Drop)]
+#[derive(Clone, Copy)]
 pub enum Both {
     Same,
     Apart,
 }
 
 // What a line asks: its first word tells.
-#[derive(Drop)]
+#[derive(Clone, Copy)]
 pub enum Verb {
     About(About),
     Both(Both),
@@ -43,7 +43,7 @@ pub enum Verb {
 }
 
 // The verb of a word, if it is one's name.
-#[derive(Drop)]
+#[derive(Clone, Copy)]
 pub enum Found {
     Known(Verb),
     Unknown,

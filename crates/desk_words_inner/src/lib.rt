@@ -7,7 +7,7 @@ ghost use Rattle.desk_words_inner.specs.Says.{HeadAtSays, HeadSays};
 use line_spec::Numeral;
 
 // A number and a further piece behind it: the number, and where the text goes on behind its separator; or that there are none.
-#[derive(Drop)]
+#[derive(Clone, Copy)]
 pub enum Head {
     Number(usize, usize),
     Malformed,

@@ -54,7 +54,7 @@ fn lay(set: Picked, out: &mut [u8]) -> SetLaid
         Checked::Refused(r) => SetLaid::Refused(r),
         Checked::Good => {
             let places = set.places;
-            bytes::copy(&places, out);
+            byte_moves_inner::copy(&places, out);
             SetLaid::Set {
                 taken: set.taken,
                 full: set.full,

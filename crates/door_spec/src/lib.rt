@@ -7,7 +7,7 @@ use refusal::Refusal;
 
 // An answer of one number.
 #[repr(C)]
-#[derive(Drop)]
+#[derive(Clone, Copy)]
 pub struct RingsAnswer {
     pub refused: usize,
     pub place: usize,
@@ -16,7 +16,7 @@ pub struct RingsAnswer {
 
 // A class: kind 1 loose, 2 opening, 3 repeating, 4 single, with what the class carries.
 #[repr(C)]
-#[derive(Drop)]
+#[derive(Clone, Copy)]
 pub struct RingsClass {
     pub refused: usize,
     pub place: usize,
@@ -26,7 +26,7 @@ pub struct RingsClass {
 
 // A reading that was brought home.
 #[repr(C)]
-#[derive(Drop)]
+#[derive(Clone, Copy)]
 pub struct RingsHome {
     pub refused: usize,
     pub place: usize,
@@ -36,7 +36,7 @@ pub struct RingsHome {
 
 // How far apart two readings are, and by how many turns of the first they come so near.
 #[repr(C)]
-#[derive(Drop)]
+#[derive(Clone, Copy)]
 pub struct RingsNearest {
     pub refused: usize,
     pub place: usize,
@@ -46,7 +46,7 @@ pub struct RingsNearest {
 
 // What is seen of a set: kind 1 a ring from the front, 2 one from behind, 3 several, 0 none; of one ring its number, the turns and the sectors misread.
 #[repr(C)]
-#[derive(Drop)]
+#[derive(Clone, Copy)]
 pub struct RingsSighting {
     pub refused: usize,
     pub place: usize,
@@ -58,7 +58,7 @@ pub struct RingsSighting {
 
 // A step: moved 1 where there is a next ring, 0 where there is none, and the moves.
 #[repr(C)]
-#[derive(Drop)]
+#[derive(Clone, Copy)]
 pub struct RingsStep {
     pub refused: usize,
     pub place: usize,
@@ -68,7 +68,7 @@ pub struct RingsStep {
 
 // A record that was read: kind 1 front, 2 packed, 0 at the catalogue's end.
 #[repr(C)]
-#[derive(Drop)]
+#[derive(Clone, Copy)]
 pub struct RingsRecord {
     pub refused: usize,
     pub place: usize,
@@ -80,7 +80,7 @@ pub struct RingsRecord {
 
 // What one reflectance tells: kind 1 a shade, 2 outside, with the reflectance, 3 not a number.
 #[repr(C)]
-#[derive(Drop)]
+#[derive(Clone, Copy)]
 pub struct RingsSector {
     pub refused: usize,
     pub place: usize,
@@ -91,7 +91,7 @@ pub struct RingsSector {
 
 // A set that was picked: how many rings were taken, and full 1 where that is the wanted number.
 #[repr(C)]
-#[derive(Drop)]
+#[derive(Clone, Copy)]
 pub struct RingsSet {
     pub refused: usize,
     pub place: usize,
@@ -100,7 +100,7 @@ pub struct RingsSet {
 }
 
 // What picking a set into a lent output answers; the set itself is written there.
-#[derive(Drop)]
+#[derive(Clone, Copy)]
 pub enum SetLaid {
     Set { taken: usize, full: bool },
     Refused(Refusal),

@@ -8,9 +8,12 @@ ghost use Rattle.files_pass_inner.specs.Says.{RoomyFile, SmallFile, turn_of, Fil
 
 use files_spec::{How, Job};
 use files_time_inner::Time;
-use libc::STDOUT_FILENO;
 use program_ending_inner::Ending;
 use program_passes_inner::Turn;
+use std::fs::File;
+
+// The number of standard output.
+const STDOUT_FILENO: i32 = 1;
 
 // What becomes of a block that was gone through.
 fn turn_of(time: Time, how: How, used: usize) -> Turn
@@ -41,12 +44,19 @@ fn take_block(job: Job, time: Time, at: usize, block: &[u8], last: bool, out: &m
 }
 
 // Reads a block from `at` on, and goes through it.
-pub fn take_at(job: Job, time: Time, at: usize, block: &mut [u8], out: &mut [u8]) -> Turn
+pub fn take_at(
+    input: &mut File,
+    job: Job,
+    time: Time,
+    at: usize,
+    block: &mut [u8],
+    out: &mut [u8],
+) -> Turn
     requires at_lt_limit { at < limit }
     requires roomy_file { RoomyFile block.old out.old }
     ensures { FileAtSays job time at block.new out.new (course_of result) }
 {
-    let part = program_passes_inner::read_block(at, block);
+    let part = program_passes_inner::read_block(input, at, block);
     if part.failed {
         return program_passes_inner::stop(files_time_inner::failed(time));
     }

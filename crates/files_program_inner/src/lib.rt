@@ -11,18 +11,22 @@ ghost use Rattle.files_program_inner.specs.Says.{once_for, FilePassSays, FileWri
 
 use files_spec::Job;
 use files_time_inner::Time;
-use libc::{SEEK_CUR, STDERR_FILENO, STDIN_FILENO};
 use program_ending_inner::Ending;
 use program_passes_inner::Pass;
+use std::fs::File;
+use std::rt::HostRuntime;
+
+// The number of standard error.
+const STDERR_FILENO: i32 = 2;
 
 // Once through the file.
-fn go_once(job: Job, time: Time, block: &mut [u8], out: &mut [u8]) -> Pass
+fn go_once(input: &mut File, job: Job, time: Time, block: &mut [u8], out: &mut [u8]) -> Pass
     requires { RoomyFile block.old out.old }
     ensures { FilePassSays job time (finish_of result) }
 {
     let mut at = 0;
     loop {
-        let t = files_pass_inner::take_at(job, time, at, block, out);
+        let t = files_pass_inner::take_at(input, job, time, at, block, out);
         if !program_passes_inner::goes_on(at, t) {
             return program_passes_inner::finish(at, t);
         }
@@ -31,12 +35,12 @@ fn go_once(job: Job, time: Time, block: &mut [u8], out: &mut [u8]) -> Pass
 }
 
 // The only time.
-fn go_only(job: Job, block: &mut [u8], out: &mut [u8]) -> Ending
+fn go_only(input: &mut File, job: Job, block: &mut [u8], out: &mut [u8]) -> Ending
     requires roomy_file { RoomyFile block.old out.old }
     requires job_value { once_for job ≡ true }
     ensures { FileThroughSays job result }
 {
-    let only = go_once(job, Time::Only, block, out);
+    let only = go_once(input, job, Time::Only, block, out);
     if only.through {
         return Ending::Whole;
     }
@@ -44,11 +48,11 @@ fn go_only(job: Job, block: &mut [u8], out: &mut [u8]) -> Ending
 }
 
 // The second time, behind a first that went through to the place `end`.
-fn go_again(job: Job, end: usize, block: &mut [u8], out: &mut [u8]) -> Ending
+fn go_again(input: &mut File, job: Job, end: usize, block: &mut [u8], out: &mut [u8]) -> Ending
     requires { RoomyFile block.old out.old }
     ensures { FileWrittenSays job end result }
 {
-    let second = go_once(job, Time::Second, block, out);
+    let second = go_once(input, job, Time::Second, block, out);
     if second.through {
         return program_passes_inner::same_end(end, second.at);
     }
@@ -56,37 +60,38 @@ fn go_again(job: Job, end: usize, block: &mut [u8], out: &mut [u8]) -> Ending
 }
 
 // Both times.
-fn go_twice(job: Job, block: &mut [u8], out: &mut [u8]) -> Ending
+fn go_twice(input: &mut File, job: Job, block: &mut [u8], out: &mut [u8]) -> Ending
     requires roomy_file { RoomyFile block.old out.old }
     requires job_value { once_for job ≡ false }
     ensures { FileThroughSays job result }
 {
-    let first = go_once(job, Time::First, block, out);
+    let first = go_once(input, job, Time::First, block, out);
     if first.through {
-        return go_again(job, first.at, block, out);
+        return go_again(input, job, first.at, block, out);
     }
     first.why
 }
 
 // As often as the job asks. What does not stand at the beginning of a file cannot be read from there.
-fn go_through(job: Job, block: &mut [u8], out: &mut [u8]) -> Ending
+fn go_through(input: Option<File>, job: Job, block: &mut [u8], out: &mut [u8]) -> Ending
     requires { RoomyFile block.old out.old }
     ensures { FileThroughSays job result }
 {
-    if libc::lseek(STDIN_FILENO, 0, SEEK_CUR) != 0 {
+    let Some(mut file) = input else {
         return Ending::NoFile;
-    }
+    };
     match job {
-        Job::Read => go_only(job, block, out),
-        Job::Move => go_twice(job, block, out),
+        Job::Read => go_only(&mut file, job, block, out),
+        Job::Move => go_twice(&mut file, job, block, out),
     }
 }
 
 // The program: the file from standard input, what it shows on standard output; on standard error why not, or why not all of it.
-pub fn run(job: Job) {
+pub fn run(rt: HostRuntime, job: Job) {
     let mut block = [0u8; 2048];
     let mut out = io::large_buffer();
-    let ended = go_through(job, &mut block, &mut out);
+    let input = program_passes_inner::open_input(&rt);
+    let ended = go_through(input, job, &mut block, &mut out);
     let m = program_ending_inner::say(ended, &mut out);
     io::write_all(STDERR_FILENO, &out[..m]);
 }

@@ -16,7 +16,7 @@ use record_spec::Entry;
 use refusal::Refusal;
 
 // What a record was: so many bytes, with the place behind what it shows; or refused.
-#[derive(Drop)]
+#[derive(Clone, Copy)]
 pub enum Step {
     After(usize, usize),
     Refused(Refusal),

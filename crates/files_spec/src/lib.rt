@@ -5,14 +5,14 @@
 use refusal::Refusal;
 
 // What a file is gone through for: a catalogue is told record by record, or its records are moved to the other form.
-#[derive(Drop)]
+#[derive(Clone, Copy)]
 pub enum Job {
     Read,
     Move,
 }
 
 // Why a block is as far as it was gone through: the next one follows, the file ends, or a piece is refused.
-#[derive(Drop)]
+#[derive(Clone, Copy)]
 pub enum How {
     On,
     Over,
@@ -20,7 +20,7 @@ pub enum How {
 }
 
 // How far a block was gone through: so many bytes of it, up to a place of the file, with so many bytes of output.
-#[derive(Drop)]
+#[derive(Clone, Copy)]
 pub struct Taken {
     pub how: How,
     pub used: usize,

@@ -9,7 +9,7 @@ use program_ending_inner::Ending;
 use refusal::Refusal;
 
 // Which time through the file it is: the only one, the first, or the second.
-#[derive(Drop)]
+#[derive(Clone, Copy)]
 pub enum Time {
     Only,
     First,

@@ -12,7 +12,7 @@ use refusal::Refusal;
 
 // Behind some bytes: how many bytes of the line under way are held, the place behind the records, and how many lines have ended; or why a line that ends is refused, and its
 // number, counted from 1.
-#[derive(Drop)]
+#[derive(Clone, Copy)]
 pub enum Lined {
     On(usize, usize, usize),
     Refused(Refusal, usize),

@@ -7,19 +7,21 @@ ghost use Rattle.std.specs.Prelude.{◌≤◌, ◌≡◌, length};
 ghost use Rattle.text_spec.specs.Put.{Placed};
 ghost use Rattle.files_write_ending_inner.specs.Endings.{line_refused_of, line_failed_of, writes_records, HandedOn, ended_room, ended_text};
 
-use libc::STDOUT_FILENO;
 use program_ending_inner::Ending;
 use refusal::Refusal;
 
+// The number of standard output.
+const STDOUT_FILENO: i32 = 1;
+
 // Which time through the input it is.
-#[derive(Drop)]
+#[derive(Clone, Copy)]
 pub enum Time {
     First,
     Second,
 }
 
 // How a run ended: a line is refused, and its number; or as the run of any program may end.
-#[derive(Drop)]
+#[derive(Clone, Copy)]
 pub enum Ended {
     Line(Refusal, usize),
     As(Ending),

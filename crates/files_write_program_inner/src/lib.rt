@@ -12,14 +12,18 @@ ghost use Rattle.files_write_program_inner.specs.Says.{RoomyLines, LineTurnSays,
 
 use files_write_byte_inner::Lined;
 use files_write_ending_inner::{Ended, Time};
-use libc::{SEEK_CUR, STDERR_FILENO, STDIN_FILENO};
 use program_ending_inner::Ending;
 use program_passes_inner::LIMIT;
 use program_reading_inner::Most;
 use record_spec::Kind;
+use std::fs::File;
+use std::rt::HostRuntime;
+
+// The number of standard error.
+const STDERR_FILENO: i32 = 2;
 
 // What becomes of a block: so many bytes of it are done, with so many bytes held of the line under way and so many lines ended; or the input is over; or that is as far as it goes.
-#[derive(Drop)]
+#[derive(Clone, Copy)]
 pub enum Turn {
     On(usize, usize, usize),
     Done,
@@ -27,7 +31,7 @@ pub enum Turn {
 }
 
 // How a time through the input ended: at its end, which is at that place, or before it.
-#[derive(Drop)]
+#[derive(Clone, Copy)]
 pub enum Pass {
     Through(usize),
     Stopped(Ended),
@@ -79,6 +83,7 @@ fn take_end(kind: Kind, time: Time, line: &[u8], lines: usize, out: &mut [u8]) -
 
 // Reads a block from `at` on, and takes it. Only a read of 0 bytes tells that the input is over.
 fn take_at(
+    input: &mut File,
     kind: Kind,
     time: Time,
     at: usize,
@@ -94,7 +99,7 @@ fn take_at(
     requires lines_le_at { lines ≤ at }
     ensures { LineAtSays kind time (take len line.old) block.new lines out.old result line.new out.new }
 {
-    match program_passes_inner::read_from(at, block) {
+    match program_passes_inner::read_from(input, at, block) {
         Most::Failed => Turn::Stopped(files_write_ending_inner::failed(time)),
         Most::Full => take_block(kind, time, block, line, len, lines, out),
         Most::Ended(got) => {
@@ -107,7 +112,14 @@ fn take_at(
 }
 
 // Once through the input.
-fn go_once(kind: Kind, time: Time, block: &mut [u8], line: &mut [u8], out: &mut [u8]) -> Pass
+fn go_once(
+    input: &mut File,
+    kind: Kind,
+    time: Time,
+    block: &mut [u8],
+    line: &mut [u8],
+    out: &mut [u8],
+) -> Pass
     requires { RoomyLines block.old line.old out.old }
     ensures { LinePassSays kind time result }
 {
@@ -115,7 +127,7 @@ fn go_once(kind: Kind, time: Time, block: &mut [u8], line: &mut [u8], out: &mut 
     let mut len = 0;
     let mut lines = 0;
     while at < LIMIT {
-        match take_at(kind, time, at, block, line, len, lines, out) {
+        match take_at(input, kind, time, at, block, line, len, lines, out) {
             Turn::On(used, m, n) => {
                 at += used;
                 len = m;
@@ -133,36 +145,50 @@ fn go_once(kind: Kind, time: Time, block: &mut [u8], line: &mut [u8], out: &mut 
 }
 
 // The second time, behind a first that went through to the place `end`.
-fn go_again(kind: Kind, end: usize, block: &mut [u8], line: &mut [u8], out: &mut [u8]) -> Ended
+fn go_again(
+    input: &mut File,
+    kind: Kind,
+    end: usize,
+    block: &mut [u8],
+    line: &mut [u8],
+    out: &mut [u8],
+) -> Ended
     requires { RoomyLines block.old line.old out.old }
     ensures { LineWrittenSays kind end result }
 {
-    match go_once(kind, Time::Second, block, line, out) {
+    match go_once(input, kind, Time::Second, block, line, out) {
         Pass::Through(again) => Ended::As(program_passes_inner::same_end(end, again)),
         Pass::Stopped(t) => t,
     }
 }
 
 // Both times. What does not stand at the beginning of a file cannot be read from there.
-fn go_through(kind: Kind, block: &mut [u8], line: &mut [u8], out: &mut [u8]) -> Ended
+fn go_through(
+    input: Option<File>,
+    kind: Kind,
+    block: &mut [u8],
+    line: &mut [u8],
+    out: &mut [u8],
+) -> Ended
     requires { RoomyLines block.old line.old out.old }
     ensures { LineThroughSays kind result }
 {
-    if libc::lseek(STDIN_FILENO, 0, SEEK_CUR) != 0 {
+    let Some(mut file) = input else {
         return Ended::As(Ending::NoFile);
-    }
-    match go_once(kind, Time::First, block, line, out) {
-        Pass::Through(end) => go_again(kind, end, block, line, out),
+    };
+    match go_once(&mut file, kind, Time::First, block, line, out) {
+        Pass::Through(end) => go_again(&mut file, kind, end, block, line, out),
         Pass::Stopped(t) => t,
     }
 }
 
 // The program: the lines from standard input, their records on standard output; on standard error why not, or why not all of them.
-pub fn run(kind: Kind) {
+pub fn run(rt: HostRuntime, kind: Kind) {
     let mut block = [0u8; 468];
     let mut line = [0u8; 4096];
     let mut out = io::large_buffer();
-    let ended = go_through(kind, &mut block, &mut line, &mut out);
+    let input = program_passes_inner::open_input(&rt);
+    let ended = go_through(input, kind, &mut block, &mut line, &mut out);
     let m = files_write_ending_inner::say_ended(ended, &mut out);
     io::write_all(STDERR_FILENO, &out[..m]);
 }

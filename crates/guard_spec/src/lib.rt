@@ -4,7 +4,7 @@
 #![tactic(auto)]
 
 // By which rule a set is chosen: by distance alone, or so that it stays guarded.
-#[derive(Drop)]
+#[derive(Clone, Copy)]
 pub enum Rule {
     Plain,
     Guarded,

@@ -1,4 +1,3 @@
 // No code: this crate holds theorems (proofs/) about what `home::apart` and `home::same_ring` answer (02, request d), through their contracts alone.
 
 #![tactic(auto)]
-

@@ -5,14 +5,14 @@
 use refusal::Refusal;
 
 // What bringing a reading home answers; the home reading itself is written to the output.
-#[derive(Drop)]
+#[derive(Clone, Copy)]
 pub enum Homed {
     Home { shift: usize, period: usize },
     Refused(Refusal),
 }
 
 // What a question to be answered yes or no answers.
-#[derive(Drop)]
+#[derive(Clone, Copy)]
 pub enum Told {
     Yes,
     No,
@@ -20,14 +20,14 @@ pub enum Told {
 }
 
 // How far apart two readings are.
-#[derive(Drop)]
+#[derive(Clone, Copy)]
 pub enum Distance {
     Apart(usize),
     Refused(Refusal),
 }
 
 // How far apart two readings are, and by how many left turns of the first they come so near, the fewest that do.
-#[derive(Drop)]
+#[derive(Clone, Copy)]
 pub enum Closest {
     At { distance: usize, shift: usize },
     Refused(Refusal),

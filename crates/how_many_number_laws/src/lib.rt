@@ -1,4 +1,3 @@
 // No code: this crate holds the theorems (proofs/) about the definitions of `how_many_number_spec`.
 
 #![tactic(auto)]
-

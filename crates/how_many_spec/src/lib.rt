@@ -5,7 +5,7 @@
 use refusal::Refusal;
 
 // How many there are, or a refusal.
-#[derive(Drop)]
+#[derive(Clone, Copy)]
 pub enum Counted {
     Rings(usize),
     Refused(Refusal),

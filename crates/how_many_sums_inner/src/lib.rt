@@ -10,7 +10,7 @@ ghost use Rattle.how_many_number_spec.specs.Divisors.{when, divides, over_diviso
 ghost use Rattle.how_many_sums_inner.specs.Weights.{Small, weight_of, powers};
 
 // What a sum over the divisors weighs its powers by: phi, or 1 where mu is 1, or 1 where mu is -1.
-#[derive(Drop)]
+#[derive(Clone, Copy)]
 pub enum Weight {
     Phi,
     Plus,

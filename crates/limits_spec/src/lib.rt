@@ -5,7 +5,7 @@
 use refusal::Refusal;
 
 // What two numbers ask for: the rings of k shades and n sectors, or a refusal.
-#[derive(Drop)]
+#[derive(Clone, Copy)]
 pub enum Planned {
     Accepted(usize, usize),
     Refused(Refusal),

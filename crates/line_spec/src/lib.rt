@@ -3,14 +3,14 @@
 #![tactic(auto)]
 
 // what the line says: k, then n; or that it is malformed
-#[derive(Drop)]
+#[derive(Clone, Copy)]
 pub enum Parsed {
     Pair(usize, usize),
     Line,
 }
 
 // one number of the line
-#[derive(Drop)]
+#[derive(Clone, Copy)]
 pub enum Numeral {
     Value(usize),
     Malformed,

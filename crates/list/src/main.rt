@@ -2,6 +2,6 @@
 
 #![tactic(auto)]
 
-fn main() {
-    listing_program_inner::run();
+fn main(rt: HostRuntime) {
+    listing_program_inner::run(rt);
 }

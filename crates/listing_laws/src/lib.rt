@@ -1,4 +1,3 @@
 // No code: theorems about crate `listing_spec`'s definitions.
 
 #![tactic(auto)]
-

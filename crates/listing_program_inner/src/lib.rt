@@ -8,12 +8,18 @@ ghost use Rattle.program_reading_inner.specs.Says.{MostSays};
 ghost use Rattle.listing_steps_inner.specs.Says.{goes_on};
 ghost use Rattle.listing_program_inner.specs.Says.{list_line_bytes, FirstPageSays, Turning};
 
-use libc::{STDERR_FILENO, STDOUT_FILENO};
 use listing_spec::Page;
 use program_reading_inner::Most;
+use std::rt::HostRuntime;
+
+// The number of standard error.
+const STDERR_FILENO: i32 = 2;
+
+// The number of standard output.
+const STDOUT_FILENO: i32 = 1;
 
 // Where the program stopped: whether the last page could be written, and how many bytes it had.
-#[derive(Drop)]
+#[derive(Clone, Copy)]
 pub struct Printed {
     pub wrote: bool,
     pub length: usize,
@@ -59,9 +65,9 @@ pub fn print_through(line: &[u8], buf: &mut [u8])
 }
 
 // The program: the output for standard input on standard output; on standard error why not all of it, if so.
-pub fn run() {
+pub fn run(rt: HostRuntime) {
     let mut line = [0u8; 16];
-    let most = program_reading_inner::read_most(&mut line);
+    let most = program_reading_inner::read_most(&mut rt.stdin(), &mut line);
     let mut buf = io::large_buffer();
     let first = first_of_input(most, &line, &mut buf);
     let left = print_pages(first, &mut buf);

@@ -13,7 +13,7 @@ use walk_spec::Outcome;
 const LINE_ROOM: usize = 107;
 
 // Lines of rings: where the listing stands behind them, the place behind them, and whether there was room for no more.
-#[derive(Drop)]
+#[derive(Clone, Copy)]
 pub struct Rows {
     pub state: State,
     pub at: usize,

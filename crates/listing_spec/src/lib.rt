@@ -3,7 +3,7 @@
 #![tactic(auto)]
 
 // Where a listing stands: k and n, the ring with room for 64 sectors, the number of rings up to it and the sum of their moves.
-#[derive(Drop)]
+#[derive(Clone, Copy)]
 pub struct State {
     pub k: usize,
     pub n: usize,
@@ -13,7 +13,7 @@ pub struct State {
 }
 
 // A page: how many bytes of the buffer it has, and where the listing stands behind it.
-#[derive(Drop)]
+#[derive(Clone, Copy)]
 pub struct Page {
     pub length: usize,
     pub state: State,

@@ -5,6 +5,6 @@
 
 use files_spec::Job;
 
-fn main() {
-    files_program_inner::run(Job::Move);
+fn main(rt: HostRuntime) {
+    files_program_inner::run(rt, Job::Move);
 }

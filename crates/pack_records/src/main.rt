@@ -2,6 +2,6 @@
 
 #![tactic(auto)]
 
-fn main() {
-    files_write_program_inner::run(record_spec::Kind::Packed);
+fn main(rt: HostRuntime) {
+    files_write_program_inner::run(rt, record_spec::Kind::Packed);
 }

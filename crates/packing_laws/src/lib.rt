@@ -1,4 +1,3 @@
 // No code: this crate holds the theorems of the packed stored form, that packing and unpacking undo each other, for every width (proofs/).
 
 #![tactic(auto)]
-

@@ -2,6 +2,6 @@
 
 #![tactic(auto)]
 
-fn main() {
-    picture_program_inner::run();
+fn main(rt: HostRuntime) {
+    picture_program_inner::run(rt);
 }

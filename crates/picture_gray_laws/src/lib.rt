@@ -1,4 +1,3 @@
 // A drawn shade is read back as itself. No functions.
 
 #![tactic(auto)]
-

@@ -1,4 +1,3 @@
 // What the picture of a target shows. No functions.
 
 #![tactic(auto)]
-

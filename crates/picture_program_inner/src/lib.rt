@@ -7,8 +7,14 @@ ghost use Rattle.picture_spec.specs.Says.{picture_room};
 ghost use Rattle.program_reading_inner.specs.Says.{MostSays};
 ghost use Rattle.picture_program_inner.specs.Says.{PictureInputSays};
 
-use libc::{STDERR_FILENO, STDOUT_FILENO};
 use program_reading_inner::Most;
+use std::rt::HostRuntime;
+
+// The number of standard error.
+const STDERR_FILENO: i32 = 2;
+
+// The number of standard output.
+const STDOUT_FILENO: i32 = 1;
 
 // The output for an input of which that was read; none where a read failed or the input is too long. `w` lends a byte for each of the input.
 fn output_of_input(most: Most, line: &[u8], w: &mut [u8], buf: &mut [u8]) -> usize
@@ -25,9 +31,9 @@ fn output_of_input(most: Most, line: &[u8], w: &mut [u8], buf: &mut [u8]) -> usi
 }
 
 // The program: the output for standard input on standard output; on standard error why not all of it, if so.
-pub fn run() {
+pub fn run(rt: HostRuntime) {
     let mut line = io::buffer();
-    let most = program_reading_inner::read_most(&mut line);
+    let most = program_reading_inner::read_most(&mut rt.stdin(), &mut line);
     let mut w = io::buffer();
     let mut buf = io::large_buffer();
     let m = output_of_input(most, &line, &mut w, &mut buf);

@@ -5,14 +5,14 @@
 use refusal::Refusal;
 
 // Which gray stands for a shade: the one that a colour-managed print brings to the shade's reflectance, or levels in proportion to the shades.
-#[derive(Drop)]
+#[derive(Clone, Copy)]
 pub enum Tone {
     Managed,
     Levels,
 }
 
 // What drawing answers: how many bytes of the buffer the picture has.
-#[derive(Drop)]
+#[derive(Clone, Copy)]
 pub enum Drawn {
     Whole(usize),
     Refused(Refusal),

@@ -6,7 +6,7 @@ ghost use Rattle.std.specs.Prelude.{◌≤◌, length};
 ghost use Rattle.program_ending_inner.specs.Text.{say_room, EndingSaid, SaySays};
 
 // How a run ended: all of the output was written, or why not.
-#[derive(Drop)]
+#[derive(Clone, Copy)]
 pub enum Ending {
     Whole,
     // a record of a catalogue is refused: the number, and the place in the whole catalogue

@@ -7,15 +7,19 @@ ghost use Rattle.std.specs.Prelude.{◌<◌, ◌≡◌};
 ghost use Rattle.program_reading_inner.specs.Says.{MostSays};
 ghost use Rattle.program_passes_inner.specs.Passes.{limit, failed_of, same_end, part_of, PartSays, Stopped, course_of, gone_by, goes_further, EndWithin, finish_of, finish_at};
 
-use libc::{SEEK_SET, STDIN_FILENO};
 use program_ending_inner::Ending;
 use program_reading_inner::Most;
+use std::fs;
+use std::fs::File;
+use std::io::{Read, Seek, SeekFrom};
+use std::os::unix::fs::FileTypeExt;
+use std::rt::HostRuntime;
 
 // No file goes so far: 2 to the power 62.
 pub const LIMIT: usize = 4611686018427387904;
 
 // Behind a block: another follows, or it was the last, or that is as far as it goes.
-#[derive(Drop)]
+#[derive(Clone, Copy)]
 pub enum Then {
     More,
     Over,
@@ -23,7 +27,7 @@ pub enum Then {
 }
 
 // What was read to a block: how many bytes, and whether the input ended behind them; or that a read failed.
-#[derive(Drop)]
+#[derive(Clone, Copy)]
 pub struct Part {
     pub failed: bool,
     pub len: usize,
@@ -31,7 +35,7 @@ pub struct Part {
 }
 
 // What becomes of a block: so many bytes of it are done, and what follows; and why, where nothing does.
-#[derive(Drop)]
+#[derive(Clone, Copy)]
 pub struct Turn {
     pub then: Then,
     pub used: usize,
@@ -39,7 +43,7 @@ pub struct Turn {
 }
 
 // How a time through the file ended: at its end, which is at that place; or before it, and why.
-#[derive(Drop)]
+#[derive(Clone, Copy)]
 pub struct Pass {
     pub through: bool,
     pub at: usize,
@@ -124,16 +128,61 @@ pub fn failed(second: bool) -> Ending
     Ending::Unread
 }
 
-// Reads standard input from `at` on until the block is full or the input ends.
-pub fn read_from(at: usize, block: &mut [u8]) -> Most
+// Whether standard input stands at its beginning, as the system's record of it says.
+fn at_beginning(rt: &HostRuntime) -> bool {
+    let mut said = [0u8; 7];
+    match File::open(rt, "/proc/self/fdinfo/0") {
+        Ok(mut record) => match record.read(&mut said) {
+            Ok(_) => said == *b"pos:\t0\n",
+            Err(_) => false,
+        },
+        Err(_) => false,
+    }
+}
+
+// Whether standard input can be opened anew: a pipe cannot, and might wait for one who writes to it.
+fn is_pipe(rt: &HostRuntime) -> bool {
+    match fs::metadata(rt, "/dev/stdin") {
+        Ok(of) => of.file_type().is_fifo(),
+        Err(_) => true,
+    }
+}
+
+// Standard input as a file with a place of its own, where it is a file that stands at its beginning.
+pub fn open_input(rt: &HostRuntime) -> Option<File> {
+    if is_pipe(rt) || !at_beginning(rt) {
+        return None;
+    }
+    match File::open(rt, "/dev/stdin") {
+        Ok(mut file) => {
+            if move_to(&mut file, 0) {
+                Some(file)
+            } else {
+                None
+            }
+        }
+        Err(_) => None,
+    }
+}
+
+// Moves a file to the place `at`, and tells whether it is there.
+fn move_to(input: &mut File, at: usize) -> bool {
+    let place = at as u64;
+    match input.seek(SeekFrom::Start(place)) {
+        Ok(there) => there == place,
+        Err(_) => false,
+    }
+}
+
+// Reads the input from `at` on until the block is full or the input ends.
+pub fn read_from(input: &mut File, at: usize, block: &mut [u8]) -> Most
     requires { at < limit }
     ensures { MostSays result block.new }
 {
-    let place = at as i64;
-    if libc::lseek(STDIN_FILENO, place, SEEK_SET) != place {
+    if !move_to(input, at) {
         return Most::Failed;
     }
-    program_reading_inner::read_most(block)
+    program_reading_inner::read_most(input, block)
 }
 
 // What reading until a block of that room is full gave. Only a read of 0 bytes tells that it is the last.
@@ -160,11 +209,11 @@ fn part_of(most: Most, room: usize) -> Part
 }
 
 // Reads a block from `at` on.
-pub fn read_block(at: usize, block: &mut [u8]) -> Part
+pub fn read_block(input: &mut File, at: usize, block: &mut [u8]) -> Part
     requires { at < limit }
     ensures { PartSays block.new result }
 {
-    let most = read_from(at, block);
+    let most = read_from(input, at, block);
     part_of(most, block.len())
 }
 

@@ -1,4 +1,5 @@
 -- What reading promises. How a run ended by it: `program_outcome_inner`.
+--     Moved most got         what the system may answer to a read: -1 where it failed, and else how many bytes it gave
 --     told_of got             what the system's answer says: -1 that the read failed, 0 that the input is over
 --     GotSays r s            some bytes, and no more than the block s has
 --     ended_of got at         behind `at` bytes a read that gave none: the input is over, or the read failed
@@ -9,6 +10,11 @@ use Rattle.program_reading_inner.specs.declared.Got.{Got}
 use Rattle.program_reading_inner.specs.declared.Got.TheVariants.{Bytes, Over, Failed}
 use Rattle.program_reading_inner.specs.declared.Most.{Most}
 use Rattle.program_reading_inner.specs.declared.Most.TheVariants as M
+
+-- what the system may answer to a read into a block of so many bytes: that it failed, or no more bytes than there is room for
+abbrev pub Moved : ℕ → ℤ → Type 0
+Moved most (negsuc k) = k ≡ 0
+Moved most (pos n) = n ≤ most
 
 abbrev pub told_of : ℤ → Got
 told_of (negsuc k) = Failed

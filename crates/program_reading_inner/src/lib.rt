@@ -3,13 +3,12 @@
 #![tactic(auto)]
 
 ghost use Rattle.std.specs.Prelude.{◌≡◌, length};
-ghost use Rattle.libc.specs.Io.{Moved};
-ghost use Rattle.program_reading_inner.specs.Says.{told_of, GotSays, ended_of, MostSays};
+ghost use Rattle.program_reading_inner.specs.Says.{Moved, told_of, GotSays, ended_of, MostSays};
 
-use libc::STDIN_FILENO;
+use std::io::Read;
 
 // What a read gave: so many bytes, at least one; the end of the input; or that it failed.
-#[derive(Drop)]
+#[derive(Clone, Copy)]
 pub enum Got {
     Bytes(usize),
     Over,
@@ -17,7 +16,7 @@ pub enum Got {
 }
 
 // What reading until a buffer is full gave: it is full; or the input ended behind so many bytes; or a read failed.
-#[derive(Drop)]
+#[derive(Clone, Copy)]
 pub enum Most {
     Full,
     Ended(usize),
@@ -39,11 +38,21 @@ fn told(got: isize, block: &[u8]) -> Got
     Got::Bytes(n)
 }
 
+// The system's answer to a read: how many bytes it gave, or -1 where it failed.
+fn answer_of<R: Read>(input: &mut R, block: &mut [u8]) -> isize
+    ensures { Moved (length block.new) result }
+{
+    match input.read(block) {
+        Ok(n) => n as isize,
+        Err(_) => -1,
+    }
+}
+
 // Reads what is there, as soon as something is.
-pub fn read_some(block: &mut [u8]) -> Got
+pub fn read_some<R: Read>(input: &mut R, block: &mut [u8]) -> Got
     ensures { GotSays result block.new }
 {
-    let got = libc::read(STDIN_FILENO, block);
+    let got = answer_of(input, block);
     told(got, block)
 }
 
@@ -59,12 +68,12 @@ fn ended(got: Got, at: usize) -> Most
 }
 
 // Reads until there is no more room or the input is over. Each read gives a byte or is the last, so that this ends by itself.
-pub fn read_most(buf: &mut [u8]) -> Most
+pub fn read_most<R: Read>(input: &mut R, buf: &mut [u8]) -> Most
     ensures { MostSays result buf.new }
 {
     let mut at = 0;
     while at < buf.len() {
-        let got = read_some(&mut buf[at..]);
+        let got = read_some(input, &mut buf[at..]);
         let Got::Bytes(n) = got else {
             return ended(got, at);
         };

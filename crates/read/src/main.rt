@@ -4,6 +4,6 @@
 
 use files_spec::Job;
 
-fn main() {
-    files_program_inner::run(Job::Read);
+fn main(rt: HostRuntime) {
+    files_program_inner::run(rt, Job::Read);
 }

@@ -13,7 +13,7 @@ use record_spec::HEAD;
 use refusal::{Checked, Refusal};
 
 // What sectors are: home; or else which one is the first that is no shade, or, where all are, which one to look at.
-#[derive(Drop)]
+#[derive(Clone, Copy)]
 pub enum Looked {
     Home,
     NoShade(usize),

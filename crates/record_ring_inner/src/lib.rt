@@ -34,7 +34,7 @@ fn show(kind: Kind, body: &[u8], k: usize, out: &mut [u8])
 {
     match kind {
         Kind::Front => {
-            bytes::copy(body, out);
+            byte_moves_inner::copy(body, out);
         }
         Kind::Packed => packing_unpack_inner::unpack_into(
             body,

@@ -17,14 +17,14 @@ pub const RETIRED_MARK: u8 = b'B';
 pub const HEAD: usize = 4;
 
 // The mark's kind: the front ring's sectors stand there a byte each, or packed.
-#[derive(Drop)]
+#[derive(Clone, Copy)]
 pub enum Kind {
     Front,
     Packed,
 }
 
 // What reading a record answers; the front ring itself is written to the output.
-#[derive(Drop)]
+#[derive(Clone, Copy)]
 pub enum Entry {
     Record {
         n: usize,
@@ -37,7 +37,7 @@ pub enum Entry {
 }
 
 // What writing a record answers: the place after it; the record itself is written to the buffer.
-#[derive(Drop)]
+#[derive(Clone, Copy)]
 pub enum Written {
     After(usize),
     Refused(Refusal),

@@ -6,7 +6,7 @@ ghost use Rattle.std.specs.Prelude.{◌≡◌};
 ghost use Rattle.refusal.specs.Numbers.{number_of, place_of};
 
 // a case for each row of the table; a case whose place is always 0 carries none
-#[derive(Drop)]
+#[derive(Clone, Copy)]
 pub enum Refusal {
     Length(usize),
     Shades(usize),
@@ -27,7 +27,7 @@ pub enum Refusal {
     Padding(usize),
 }
 
-#[derive(Drop)]
+#[derive(Clone, Copy)]
 pub enum Checked {
     Good,
     Refused(Refusal),

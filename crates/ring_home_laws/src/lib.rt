@@ -1,4 +1,3 @@
 // Nothing runs here: the theorems about home readings, shifts and periods stand in proofs/.
 
 #![tactic(auto)]
-

@@ -4,6 +4,6 @@
 
 use set_program_inner::Rule;
 
-fn main() {
-    set_program_inner::run(Rule::Plain);
+fn main(rt: HostRuntime) {
+    set_program_inner::run(rt, Rule::Plain);
 }

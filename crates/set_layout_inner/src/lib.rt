@@ -20,7 +20,7 @@ pub fn write_rings(places: &[u8], n: usize, taken: usize, out: &mut [u8])
         let past = from + n;
         let at = n * j;
         let end = at + n;
-        bytes::copy(&places[from..past], &mut out[at..end]);
+        byte_moves_inner::copy(&places[from..past], &mut out[at..end]);
         j += 1;
     }
 }

@@ -3,7 +3,7 @@
 #![tactic(auto)]
 
 // what the line says: n, k, the distance and the wanted number; or that it is malformed
-#[derive(Drop)]
+#[derive(Clone, Copy)]
 pub enum Spelt {
     Numbers(usize, usize, usize, usize),
     Malformed,

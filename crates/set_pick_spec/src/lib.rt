@@ -6,7 +6,7 @@ use refusal::Checked;
 
 // The set in 32 places of 24 sectors, in the order taken and everything unused 0; how many were taken, and whether that is the wanted number. A refusal has
 // taken none, and is not full.
-#[derive(Drop)]
+#[derive(Clone, Copy)]
 pub struct Picked {
     pub places: [u8; 768],
     pub taken: usize,

@@ -61,9 +61,9 @@ pub fn offer(
     }
     let at = SECTORS * taken;
     let end = at + ring.len();
-    bytes::copy(ring, &mut places[at..end]);
+    byte_moves_inner::copy(ring, &mut places[at..end]);
     let first = SHADES * taken;
     let past = first + SHADES;
-    bytes::copy(counts, &mut tallies[first..past]);
+    byte_moves_inner::copy(counts, &mut tallies[first..past]);
     taken + 1
 }

@@ -7,8 +7,14 @@ ghost use Rattle.program_reading_inner.specs.Says.{MostSays};
 ghost use Rattle.set_program_inner.specs.Says.{set_line_bytes, InputSays};
 
 pub use guard_spec::Rule;
-use libc::{STDERR_FILENO, STDOUT_FILENO};
 use program_reading_inner::Most;
+use std::rt::HostRuntime;
+
+// The number of standard error.
+const STDERR_FILENO: i32 = 2;
+
+// The number of standard output.
+const STDOUT_FILENO: i32 = 1;
 
 // The output for an input of which that was read: all of it, or as many bytes as there was room for. There has to be room for 17 bytes, of which a line has at
 // most 16. Where a read failed there is no output.
@@ -25,9 +31,9 @@ fn output_of_input(rule: Rule, most: Most, line: &[u8], buf: &mut [u8]) -> usize
 }
 
 // The program: the output for standard input on standard output; on standard error why not all of it, if so.
-pub fn run(rule: Rule) {
+pub fn run(rt: HostRuntime, rule: Rule) {
     let mut line = [0u8; 32];
-    let most = program_reading_inner::read_most(&mut line);
+    let most = program_reading_inner::read_most(&mut rt.stdin(), &mut line);
     let mut buf = io::buffer();
     let m = output_of_input(rule, most, &line, &mut buf);
     let wrote = io::write_all(STDOUT_FILENO, &buf[..m]);

@@ -36,7 +36,7 @@ pub fn next_ring(s: &[u8], k: usize, counts: &[usize], out: &mut [u8]) -> NextAn
                 return NextAnswer::Done;
             }
             let ring = found.ring;
-            bytes::copy(&ring[..n], out);
+            byte_moves_inner::copy(&ring[..n], out);
             NextAnswer::Ring
         }
     }

@@ -25,7 +25,7 @@ pub fn cap(s: &[u8], k: usize) -> [u8; 64]
     ensures { Capped s.now k (take (length s.now) result) }
 {
     let mut out = [0u8; 64];
-    bytes::copy(s, &mut out);
+    byte_moves_inner::copy(s, &mut out);
     let top = (k - 1) as u8;
     let mut i = check_numbers_inner::first_bad(s, k);
     while i < s.len() {

@@ -22,7 +22,7 @@ fn repeat(s: &mut [u8], p: usize)
 }
 
 // A ring, where there is some, and how many places were raised to find it or to see that there is none.
-#[derive(Drop)]
+#[derive(Clone, Copy)]
 pub struct Sought {
     pub some: bool,
     pub ring: [u8; 64],

@@ -8,7 +8,7 @@ ghost use Rattle.shades_raise_inner.specs.Ready.{Opening};
 use shades_tally_inner::Fit;
 
 // A place, counted from 1, and the shade to which it is raised; 0 and 0 where there is none.
-#[derive(Drop)]
+#[derive(Clone, Copy)]
 pub struct Place {
     pub end: usize,
     pub shade: usize,

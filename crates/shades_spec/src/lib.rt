@@ -5,14 +5,14 @@
 use refusal::Refusal;
 
 // What `first_ring` answers: the ring is in the output, or the call is refused.
-#[derive(Drop)]
+#[derive(Clone, Copy)]
 pub enum FirstAnswer {
     Ring,
     Refused(Refusal),
 }
 
 // What `next_ring` answers: the ring is in the output, or there is none, or the call is refused.
-#[derive(Drop)]
+#[derive(Clone, Copy)]
 pub enum NextAnswer {
     Ring,
     Done,

@@ -63,7 +63,7 @@ fn untouched(counts: &[usize]) -> [usize; 16]
 }
 
 // How many sectors fit into counts, and what the counts leave beside those.
-#[derive(Drop)]
+#[derive(Clone, Copy)]
 pub struct Fit {
     pub end: usize,
     pub rem: [usize; 16],

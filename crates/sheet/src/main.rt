@@ -2,6 +2,6 @@
 
 #![tactic(auto)]
 
-fn main() {
-    sheet_program_inner::run();
+fn main(rt: HostRuntime) {
+    sheet_program_inner::run(rt);
 }

@@ -15,7 +15,7 @@ use sheet_spec::Sheet;
 const ROOM: usize = 18432;
 
 // What checking all lines told: so many, all good; or the first refusal, and the number of its line.
-#[derive(Drop)]
+#[derive(Clone, Copy)]
 pub enum LinesTold {
     Good(usize),
     Refused(Refusal, usize),

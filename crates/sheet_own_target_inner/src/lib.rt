@@ -16,7 +16,7 @@ use picture_spec::Drawn;
 use sheet_spec::Sheet;
 
 // What placing a target told: how long its text is, and where the next line begins.
-#[derive(Drop)]
+#[derive(Clone, Copy)]
 pub struct Step {
     pub length: usize,
     pub next: usize,

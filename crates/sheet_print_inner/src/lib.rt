@@ -17,7 +17,7 @@ use sheet_spec::Sheet;
 const ROOM: usize = 18432;
 
 // What is printed: the sheet of the set in the places; that of the lines from a place of the input on; a refusal's line; or that of a line, by its number.
-#[derive(Drop)]
+#[derive(Clone, Copy)]
 pub enum Answer {
     Set,
     Own,
@@ -26,7 +26,7 @@ pub enum Answer {
 }
 
 // The same with the sheet, the places of a set, the place where lines begin, and the number of rings.
-#[derive(Drop)]
+#[derive(Clone, Copy)]
 pub struct Job {
     pub sheet: Sheet,
     pub places: [u8; 768],

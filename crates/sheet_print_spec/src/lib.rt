@@ -1,4 +1,3 @@
 // What the command for a sheet reads and prints. No functions.
 
 #![tactic(auto)]
-

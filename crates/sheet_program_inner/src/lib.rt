@@ -8,10 +8,16 @@ ghost use Rattle.sheet_spec.specs.Says.{target_room};
 ghost use Rattle.program_reading_inner.specs.Says.{MostSays};
 ghost use Rattle.sheet_program_inner.specs.Says.{AnswerReady};
 
-use libc::{STDERR_FILENO, STDOUT_FILENO};
 use program_reading_inner::Most;
 use refusal::Refusal;
 use sheet_print_inner::{Answer, Job};
+use std::rt::HostRuntime;
+
+// The number of standard error.
+const STDERR_FILENO: i32 = 2;
+
+// The number of standard output.
+const STDOUT_FILENO: i32 = 1;
 
 // Writes a refusal's line.
 fn print_refusal(r: Refusal, buf: &mut [u8]) -> bool
@@ -74,9 +80,9 @@ fn print_input(most: Most, input: &[u8], buf: &mut [u8]) -> bool
 }
 
 // The program: the output for standard input on standard output; on standard error why not all of it, if so.
-pub fn run() {
+pub fn run(rt: HostRuntime) {
     let mut input = io::large_buffer();
-    let most = program_reading_inner::read_most(&mut input);
+    let most = program_reading_inner::read_most(&mut rt.stdin(), &mut input);
     let mut buf = io::large_buffer();
     let wrote = print_input(most, &input, &mut buf);
     let ended = program_outcome_inner::whole_ending(most, wrote);

@@ -5,7 +5,7 @@
 use picture_spec::Tone;
 
 // Where the rings of a sheet come from: the guarded choice, the plain one, or rings of one's own.
-#[derive(Drop)]
+#[derive(Clone, Copy)]
 pub enum Source {
     Guarded,
     Plain,
@@ -13,7 +13,7 @@ pub enum Source {
 }
 
 // A sheet's rings have n sectors and k shades; for a set, d and the wanted number are those it was chosen by. The targets are so many mm wide, in so many columns.
-#[derive(Drop)]
+#[derive(Clone, Copy)]
 pub struct Sheet {
     pub n: usize,
     pub k: usize,

@@ -13,7 +13,7 @@ use sheet_spec::{Sheet, Source};
 use sheet_words_spec::{Asked, Awaits, Word};
 
 // A sheet that was read, where the line asks for one.
-#[derive(Drop)]
+#[derive(Clone, Copy)]
 pub struct Read {
     pub sheet: Sheet,
     pub good: bool,

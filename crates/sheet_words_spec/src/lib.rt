@@ -5,7 +5,7 @@
 use sheet_spec::Sheet;
 
 // What a word is: a number of at most three digits, one of four names, or another.
-#[derive(Drop)]
+#[derive(Clone, Copy)]
 pub enum Word {
     Number(usize),
     Plain,
@@ -16,7 +16,7 @@ pub enum Word {
 }
 
 // What may stand next: the numbers in their order, a wish, the number that a wish goes on with; or nothing, since a word was wrong.
-#[derive(Drop)]
+#[derive(Clone, Copy)]
 pub enum Awaits {
     First,
     Second,
@@ -29,7 +29,7 @@ pub enum Awaits {
 }
 
 // What the words so far ask for, and what may stand next. Columns that were not asked for are 0: as many as fit on a page.
-#[derive(Drop)]
+#[derive(Clone, Copy)]
 pub struct Asked {
     pub sheet: Sheet,
     pub awaits: Awaits,

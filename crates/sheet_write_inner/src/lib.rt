@@ -8,11 +8,13 @@ ghost use Rattle.sheet_spec.specs.Says.{target_room};
 ghost use Rattle.sheet_print_inner.specs.Says.{ReadySet, ReadyOwn};
 ghost use Rattle.sheet_write_inner.specs.Says.{AllWritten};
 
-use libc::STDOUT_FILENO;
 use sheet_spec::Sheet;
 
+// The number of standard output.
+const STDOUT_FILENO: i32 = 1;
+
 // How far a sheet was written: whether the last text could be, and how many targets before that.
-#[derive(Drop)]
+#[derive(Clone, Copy)]
 pub struct Written {
     pub wrote: bool,
     pub targets: usize,

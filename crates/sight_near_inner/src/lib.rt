@@ -7,7 +7,7 @@ ghost use Rattle.sight_spec.specs.Rings.{rings_in};
 ghost use Rattle.sight_near_inner.specs.Says.{FirstNear, NearSays};
 
 // Which of the rings are near a reading: none, the one of this number, or more.
-#[derive(Drop)]
+#[derive(Clone, Copy)]
 pub enum Near {
     Nobody,
     One(usize),

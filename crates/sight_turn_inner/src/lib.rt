@@ -7,7 +7,7 @@ ghost use Rattle.sight_spec.specs.Rings.{ring_at};
 ghost use Rattle.sight_turn_inner.specs.Says.{Turns};
 
 // How many turns bring a reading as near to another as they are apart, and at how many places it then differs.
-#[derive(Drop)]
+#[derive(Clone, Copy)]
 pub struct Turned {
     pub shift: usize,
     pub misread: usize,

@@ -1,4 +1,3 @@
 // What the stock table promises: a byte's sectors, and the byte of its home reading. No functions.
 
 #![tactic(auto)]
-

@@ -6,7 +6,7 @@ ghost use Rattle.std.specs.Prelude.{◌*◌, ◌≤◌, ◌≡◌};
 ghost use Rattle.stream_kind_inner.specs.Says.{most_of, room_of};
 
 // Which program.
-#[derive(Drop)]
+#[derive(Clone, Copy)]
 pub enum Kind {
     Count,
     Desk,

@@ -8,13 +8,19 @@ ghost use Rattle.stream_kind_inner.specs.Says.{most_of, room_of};
 ghost use Rattle.stream_steps_inner.specs.Says.{GoesOn};
 ghost use Rattle.stream_program_inner.specs.Says.{RoomForRead, BehindRead, ReadAnswered, PumpSays};
 
-use libc::{STDERR_FILENO, STDOUT_FILENO};
 use program_reading_inner::Got;
+use std::rt::{HostRuntime, Stdin};
 use stream_kind_inner::Kind;
 use stream_steps_inner::Behind;
 
+// The number of standard error.
+const STDERR_FILENO: i32 = 2;
+
+// The number of standard output.
+const STDOUT_FILENO: i32 = 1;
+
 // Behind a turn: what its read gave, whether the texts could be written, and how many bytes of the line under way are held.
-#[derive(Drop)]
+#[derive(Clone, Copy)]
 pub struct Turned {
     pub got: Got,
     pub wrote: bool,
@@ -22,7 +28,7 @@ pub struct Turned {
 }
 
 // Where the program stopped: what the last read gave, whether all texts could be written, and how many reads came before.
-#[derive(Drop)]
+#[derive(Clone, Copy)]
 pub struct Stopped {
     pub got: Got,
     pub wrote: bool,
@@ -56,14 +62,21 @@ fn place_turn(
 }
 
 // Reads what there is, and writes the texts that it asks for.
-fn turn(kind: Kind, block: &mut [u8], line: &mut [u8], len: usize, buf: &mut [u8]) -> Turned
+fn turn(
+    input: &mut Stdin,
+    kind: Kind,
+    block: &mut [u8],
+    line: &mut [u8],
+    len: usize,
+    buf: &mut [u8],
+) -> Turned
     requires line_len { length line.old ≡ most_of kind }
     requires len_in_bounds { len ≤ length line.old }
     requires block_nonzero { (0 < length block.old) × (length block.old * room_of kind ≤ length buf.old) }
     ensures len_in_bounds_2 { result.len ≤ length line.new }
     ensures read_answered { ReadAnswered kind result.got (take len line.old) block.new buf.old (take result.len line.new) buf.new }
 {
-    let got = program_reading_inner::read_some(block);
+    let got = program_reading_inner::read_some(input, block);
     let q = place_turn(kind, got, block, line, len, buf);
     let m = q.at;
     let wrote = io::write_all(STDOUT_FILENO, &buf[..m]);
@@ -75,7 +88,7 @@ fn turn(kind: Kind, block: &mut [u8], line: &mut [u8], len: usize, buf: &mut [u8
 }
 
 // Turn after turn, each with what the one before it left of the line under way.
-fn pump(kind: Kind, block: &mut [u8], line: &mut [u8], buf: &mut [u8]) -> Stopped
+fn pump(input: &mut Stdin, kind: Kind, block: &mut [u8], line: &mut [u8], buf: &mut [u8]) -> Stopped
     requires line_len { length line.old ≡ most_of kind }
     requires block_nonzero { (0 < length block.old) × (length block.old * room_of kind ≤ length buf.old) }
     ensures goes_on { GoesOn result.wrote result.got result.reads false }
@@ -84,7 +97,7 @@ fn pump(kind: Kind, block: &mut [u8], line: &mut [u8], buf: &mut [u8]) -> Stoppe
     let mut len = 0;
     let mut reads = 0;
     loop {
-        let t = turn(kind, block, line, len, buf);
+        let t = turn(input, kind, block, line, len, buf);
         let got = t.got;
         let wrote = t.wrote;
         if !stream_steps_inner::goes_on(got, wrote, reads) {
@@ -103,13 +116,19 @@ fn wide_buffer() -> [u8; 1048576]
 }
 
 // The program: the texts on standard output; on standard error why not all of them, if so.
-pub fn run(kind: Kind) {
+pub fn run(rt: HostRuntime, kind: Kind) {
     let mut block = [0u8; 2048];
     let mut line = [0u8; 4096];
     let mut buf = wide_buffer();
     let n = stream_kind_inner::block_length(kind);
     let m = stream_kind_inner::kept_bytes(kind);
-    let left = pump(kind, &mut block[..n], &mut line[..m], &mut buf);
+    let left = pump(
+        &mut rt.stdin(),
+        kind,
+        &mut block[..n],
+        &mut line[..m],
+        &mut buf,
+    );
     let got = left.got;
     let ended = program_outcome_inner::stream_ending(got, left.wrote);
     let k = program_ending_inner::say(ended, &mut buf);

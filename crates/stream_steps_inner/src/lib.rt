@@ -8,14 +8,14 @@ ghost use Rattle.stream_steps_inner.specs.Says.{HeldSays, GoesOn};
 use program_reading_inner::Got;
 
 // Behind some bytes: how many bytes of the line under way are held, and the place behind the texts.
-#[derive(Drop)]
+#[derive(Clone, Copy)]
 pub struct Behind {
     pub len: usize,
     pub at: usize,
 }
 
 // Behind one byte: the line ends with it, or so many bytes of the line are held.
-#[derive(Drop)]
+#[derive(Clone, Copy)]
 pub enum Held {
     Ended,
     Bytes(usize),

@@ -5,14 +5,14 @@
 use refusal::Refusal;
 
 // What writing a strip answers.
-#[derive(Drop)]
+#[derive(Clone, Copy)]
 pub enum Written {
     Strip,
     Refused(Refusal),
 }
 
 // What telling a place answers.
-#[derive(Drop)]
+#[derive(Clone, Copy)]
 pub enum Position {
     Place(usize),
     Refused(Refusal),

@@ -11,7 +11,7 @@ pub const MANY: usize = 1000;
 // The next byte of standard input; a newline where none is left.
 fn byte() -> u8 {
     let mut b = [b'\n'; 1];
-    io::read_full(libc::STDIN_FILENO, &mut b);
+    io::read_full(0, &mut b);
     b[0]
 }
 

@@ -8,10 +8,15 @@
 ghost use Rattle.std.specs.Prelude.{◌≤◌, length};
 ghost use Rattle.listing_spec.specs.Paging.{row_room};
 
-use libc::{STDIN_FILENO, STDOUT_FILENO};
 use limits::Planned;
 use listing_spec::{Page, State};
 use refusal::Refusal;
+
+// The number of standard input.
+const STDIN_FILENO: i32 = 0;
+
+// The number of standard output.
+const STDOUT_FILENO: i32 = 1;
 
 // The first place that holds the character, or the length.
 fn find(s: &[u8], character: u8) -> usize

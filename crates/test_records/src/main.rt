@@ -139,7 +139,7 @@ fn write(line: &[u8], kind: Kind) {
 // ---- moving
 
 // Where the next record is read, and where it is written.
-#[derive(Drop)]
+#[derive(Clone, Copy)]
 struct Places {
     from: usize,
     to: usize,

@@ -64,7 +64,7 @@ fn goes_on(k: usize, counts: &[usize], ring: &mut [u8], next: &mut [u8]) -> bool
         return false;
     };
     if next.len() <= ring.len() {
-        bytes::copy(next, ring);
+        byte_moves_inner::copy(next, ring);
     }
     true
 }

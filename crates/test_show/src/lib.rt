@@ -2,9 +2,11 @@
 
 #![tactic(auto)]
 
-use libc::STDOUT_FILENO;
 use refusal::Refusal;
 use rings::Class;
+
+// The number of standard output.
+const STDOUT_FILENO: i32 = 1;
 
 // A piece of text.
 pub fn text(s: &[u8]) {

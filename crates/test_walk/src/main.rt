@@ -108,7 +108,7 @@ fn follow(start: Walk, kind: u8, times: usize) {
 // ---- a whole walk
 
 // What is added up along a walk.
-#[derive(Drop)]
+#[derive(Clone, Copy)]
 struct Sums {
     moves: usize,
     periods: usize,

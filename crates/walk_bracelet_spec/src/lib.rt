@@ -6,7 +6,7 @@ use refusal::Refusal;
 use walk_spec::Walk;
 
 // How a step to the next bracelet ended. It reports no moves: between two bracelets there can be more prenecklaces than a number of 64 bits holds.
-#[derive(Drop)]
+#[derive(Clone, Copy)]
 pub enum Arrival {
     Moved,
     Done,
@@ -14,7 +14,7 @@ pub enum Arrival {
 }
 
 // Its answer, and the record that it hands back: the one it was given unless it moved.
-#[derive(Drop)]
+#[derive(Clone, Copy)]
 pub struct Arrived {
     pub walk: Walk,
     pub arrival: Arrival,

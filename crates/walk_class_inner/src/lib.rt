@@ -9,7 +9,7 @@ ghost use Rattle.walk_spec.specs.Record.{on_walk};
 use rings::Class;
 
 // Whether a ring is on the walk, and the sector to look at where it is not.
-#[derive(Drop)]
+#[derive(Clone, Copy)]
 pub struct Looked {
     pub on: bool,
     pub at: usize,

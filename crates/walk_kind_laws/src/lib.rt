@@ -3,7 +3,7 @@
 #![tactic(auto)]
 
 // The three kinds of step.
-#[derive(Drop)]
+#[derive(Clone, Copy)]
 pub enum Kind {
     Prenecklace,
     Necklace,

@@ -51,7 +51,7 @@ pub fn class_at(n: usize, p: usize) -> Class
 }
 
 // What a step came to: the lyn of its ring, or 0 where there is none of the kind, and the moves.
-#[derive(Drop)]
+#[derive(Clone, Copy)]
 pub struct Reached {
     pub lyn: usize,
     pub moves: usize,

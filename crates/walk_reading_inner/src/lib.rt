@@ -17,12 +17,12 @@ pub fn step_in(reading: &[u8], k: usize, kind: Kind, ring: &mut [u8], out: &mut 
     requires ring_len { length ring.old ≡ length reading.now }
     ensures { StepFromSays (kind_of kind) reading.now k out.old result out.new }
 {
-    bytes::copy(reading, ring);
+    byte_moves_inner::copy(reading, ring);
     let reached = walk_moves_inner::advance(ring, k, kind);
     if reached.lyn == 0 {
         return Outcome::Done(reached.moves);
     }
-    bytes::copy(ring, out);
+    byte_moves_inner::copy(ring, out);
     Outcome::Moved(reached.moves)
 }
 
@@ -32,9 +32,9 @@ pub fn bracelet_in(reading: &[u8], k: usize, ring: &mut [u8], out: &mut [u8]) ->
     requires ring_len { length ring.old ≡ length reading.now }
     ensures { BraceletFromSays reading.now k out.old result out.new }
 {
-    bytes::copy(reading, ring);
+    byte_moves_inner::copy(reading, ring);
     if bracelet_next_inner::next(ring, k) {
-        bytes::copy(ring, out);
+        byte_moves_inner::copy(ring, out);
         return Arrival::Moved;
     }
     Arrival::Done

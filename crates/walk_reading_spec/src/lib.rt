@@ -2,4 +2,3 @@
 // `Outcome` of `walk_spec`, `Arrival` of `walk_bracelet_spec`. No functions.
 
 #![tactic(auto)]
-

@@ -27,6 +27,6 @@ pub fn lay_out(s: &[u8]) -> [u8; 64]
     ensures { result ≡ laid_out s.now }
 {
     let mut ring = [0u8; 64];
-    bytes::copy(s, &mut ring);
+    byte_moves_inner::copy(s, &mut ring);
     ring
 }

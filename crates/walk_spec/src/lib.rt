@@ -6,7 +6,7 @@ use refusal::{Checked, Refusal};
 use rings::Class;
 
 // A walk: n, k, the ring with room for 64 sectors, those past n 0, its class, and how often each of the 16 shades stands in it, 0 for those from k up.
-#[derive(Drop)]
+#[derive(Clone, Copy)]
 pub struct Walk {
     pub n: usize,
     pub k: usize,
@@ -16,14 +16,14 @@ pub struct Walk {
 }
 
 // A start's answer, and the record that it hands out: an empty one where it is refused.
-#[derive(Drop)]
+#[derive(Clone, Copy)]
 pub struct Started {
     pub walk: Walk,
     pub answer: Checked,
 }
 
 // How a step ended: onto the next ring in so many moves; there is none, and so many moves were left; or refused.
-#[derive(Drop)]
+#[derive(Clone, Copy)]
 pub enum Outcome {
     Moved(usize),
     Done(usize),
@@ -31,14 +31,14 @@ pub enum Outcome {
 }
 
 // A step's outcome, and the record that it hands back: the one it was given unless it moved.
-#[derive(Drop)]
+#[derive(Clone, Copy)]
 pub struct Stepped {
     pub walk: Walk,
     pub outcome: Outcome,
 }
 
 // A step by necklaces that was made in the ring's own place: its outcome, and the period of the ring that it came to.
-#[derive(Drop)]
+#[derive(Clone, Copy)]
 pub struct Went {
     pub outcome: Outcome,
     pub period: usize,

@@ -1,10 +1,10 @@
--- What the kit's `bytes::copy` and `bytes::reverse` leave, in the words of plain lists. s is copied over o, which is u afterwards.
+-- What the `byte_moves_inner::copy` and `reverse` leave, in the words of plain lists. s is copied over o, which is u afterwards.
 --     copied       s over as many bytes: s
 --     laid         s over n zeros: s with zeros behind it
 --     reversed     and then reversed: s reversed
 use Rattle.words.proofs.Plain.{ℕ, zero, suc, ◌-◌, ◌≤◌, arith, ◌≡◌, refl, ap, ◌∙◌, List, [], ◌∷◌, ◌++◌, append-nil, reverse, length, take, drop, replicate}
 use Rattle.words.proofs.Plain.{drop_of_length-le, take_all}
-use Rattle.bytes.specs.Bytes.{rev, slice}
+use Rattle.std.specs.Prelude.{slice_range}
 
 -- s over as many bytes: s
 pub copied : (s o u : List ℕ) → u ≡ take (length s) s ++ drop (length s) o → length o ≡ length s → u ≡ s
@@ -22,7 +22,7 @@ pub laid : (s u : List ℕ) (n : ℕ) → u ≡ take (length s) s ++ drop (lengt
 laid s u n e = e ∙ rw (take_all (length s) s (omega arith), dropped (length s) n 0)
 
 -- s copied over as many bytes, and the whole then reversed: s reversed
-pub reversed : (s o u v : List ℕ) (n : ℕ) → u ≡ take (length s) s ++ drop (length s) o → length o ≡ length s → n ≡ length s → v ≡ take 0 u ++ (rev (slice 0 n u) ++ drop n u) → v ≡ reverse s
-unfolding rev slice
+pub reversed : (s o u v : List ℕ) (n : ℕ) → u ≡ take (length s) s ++ drop (length s) o → length o ≡ length s → n ≡ length s → v ≡ take 0 u ++ (reverse (slice_range u 0 n) ++ drop n u) → v ≡ reverse s
 reversed s o u v n e l q f =
-    f ∙ rw (copied s o u e l, q, take_all (length s) s (omega arith), drop_of_length-le s {i = length s} (omega arith)) (append-nil (reverse s))
+    let none : n - 0 ≡ n = omega arith in
+    f ∙ rw (copied s o u e l, none, q, take_all (length s) s (omega arith), drop_of_length-le s {i = length s} (omega arith)) (append-nil (reverse s))

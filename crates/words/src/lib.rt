@@ -1,4 +1,3 @@
 // No code: this crate holds definitions (specs/) and laws (proofs/) about readings as lists.
 
 #![tactic(auto)]
-

@@ -3,6 +3,6 @@
 
 #![tactic(auto)]
 
-fn main() {
-    files_write_program_inner::run(record_spec::Kind::Front);
+fn main(rt: HostRuntime) {
+    files_write_program_inner::run(rt, record_spec::Kind::Front);
 }
