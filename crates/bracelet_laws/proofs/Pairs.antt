@@ -80,7 +80,7 @@ module _ (n k : ℕ) (z : 0 < n) (y : 0 < k) (rings : List (List ℕ)) (m : ℕ)
   bracelet-once u r p =
       elim (lex (zeros n) u) [
         | ahead l ↦ rw (after-not-same u (zeros n) l) (omega (arith, walk-each bracelet k walk u (rw (length-zeros n) r) p l))
-        | equal e ↦ rw (← e, same_refl (zeros n)) (omega (arith, count-zero (same (zeros n)) rings (λ x a. before-not-same (zeros n) x a.2) (walk-kind bracelet k walk)))
+        | equal e ↦ rw (← e, same_refl (zeros n)) (omega (arith, count-zero (same u) rings (λ x a. rw (← e) (before-not-same (zeros n) x a.2)) (walk-kind bracelet k walk)))
         | behind l ↦ absurd (zeros-first n u r.long l)
       ]
 

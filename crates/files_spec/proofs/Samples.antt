@@ -39,11 +39,11 @@ front_bytes : record_bytes (other_kind Packed) 2 ring ≡ (0x52 ∷ 0x46 ∷ 6 �
 unfolding open-all open-packing
 front_bytes = refl
 
-packed-bytes : record_bytes (other_kind Front) 2 ring ≡ (0x52 ∷ 0x50 ∷ 6 ∷ 2 ∷ 0x2_c ∷ [])
+packed-bytes : record_bytes (other_kind Front) 2 ring ≡ (0x52 ∷ 0x50 ∷ 6 ∷ 2 ∷ 0x2C ∷ [])
 unfolding open-all open-packing
 packed-bytes = refl
 
-pub front-moved : (s : ℕ) (t : List ℕ) → Shows Move s 6 2 Front ring t → t ≡ (0x52 ∷ 0x50 ∷ 6 ∷ 2 ∷ 0x2_c ∷ [])
+pub front-moved : (s : ℕ) (t : List ℕ) → Shows Move s 6 2 Front ring t → t ≡ (0x52 ∷ 0x50 ∷ 6 ∷ 2 ∷ 0x2C ∷ [])
 front-moved s t h = filled-bytes ring 2 (other_kind Front) t h ∙ packed-bytes
 
 pub packed-moved : (s : ℕ) (t : List ℕ) → Shows Move s 6 2 Packed ring t → t ≡ (0x52 ∷ 0x46 ∷ 6 ∷ 2 ∷ ring)

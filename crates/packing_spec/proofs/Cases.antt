@@ -33,7 +33,7 @@ unfoldable pub table : List Case
 table =
     needs 2 1 ∷
     needs 5 3 ∷
-    lies 2 (0 ∷ 0 ∷ 1 ∷ 0 ∷ 1 ∷ 1 ∷ []) (0x2_c ∷ []) ∷
+    lies 2 (0 ∷ 0 ∷ 1 ∷ 0 ∷ 1 ∷ 1 ∷ []) (0x2C ∷ []) ∷
     -- not the request's: the other widths, at their least and greatest k
     needs 3 2 ∷
     needs 4 2 ∷
@@ -42,28 +42,28 @@ table =
     needs 16 4 ∷
     -- one bit: seven unused, none, and a second byte begun
     lies 2 (1 ∷ []) (0x80 ∷ []) ∷
-    lies 2 (0 ∷ 0 ∷ 1 ∷ 0 ∷ 1 ∷ 1 ∷ 0 ∷ 1 ∷ []) (0x2_d ∷ []) ∷
+    lies 2 (0 ∷ 0 ∷ 1 ∷ 0 ∷ 1 ∷ 1 ∷ 0 ∷ 1 ∷ []) (0x2D ∷ []) ∷
     lies 2 (0 ∷ 0 ∷ 0 ∷ 0 ∷ 0 ∷ 0 ∷ 0 ∷ 0 ∷ 1 ∷ []) (0x00 ∷ 0x80 ∷ []) ∷
     -- two bits: 00 01 10; 00 01 10 11 | 11
     lies 3 (0 ∷ 1 ∷ 2 ∷ []) (0x18 ∷ []) ∷
-    lies 4 (0 ∷ 1 ∷ 2 ∷ 3 ∷ 3 ∷ []) (0x1_b ∷ 0x_c0 ∷ []) ∷
+    lies 4 (0 ∷ 1 ∷ 2 ∷ 3 ∷ 3 ∷ []) (0x1B ∷ 0xC0 ∷ []) ∷
     -- three bits, which straddle: 001 000 10|0 011 010; 111 000 11|1; 000 000 00|1 010 011 1|00 100 100
     lies 5 (1 ∷ 0 ∷ 4 ∷ 3 ∷ 2 ∷ []) (0x22 ∷ 0x34 ∷ []) ∷
-    lies 8 (7 ∷ 0 ∷ 7 ∷ []) (0x_e3 ∷ 0x80 ∷ []) ∷
-    lies 5 (0 ∷ 0 ∷ 1 ∷ 2 ∷ 3 ∷ 4 ∷ 4 ∷ 4 ∷ []) (0x00 ∷ 0x_a7 ∷ 0x24 ∷ []) ∷
+    lies 8 (7 ∷ 0 ∷ 7 ∷ []) (0xE3 ∷ 0x80 ∷ []) ∷
+    lies 5 (0 ∷ 0 ∷ 1 ∷ 2 ∷ 3 ∷ 4 ∷ 4 ∷ 4 ∷ []) (0x00 ∷ 0xA7 ∷ 0x24 ∷ []) ∷
     -- four bits: a sector is a hexadecimal digit
     lies 9 (8 ∷ []) (0x80 ∷ []) ∷
-    lies 16 (1 ∷ 2 ∷ 15 ∷ []) (0x12 ∷ 0x_f0 ∷ []) ∷
+    lies 16 (1 ∷ 2 ∷ 15 ∷ []) (0x12 ∷ 0xF0 ∷ []) ∷
     -- eight bits: a sector is a byte
-    lies 256 (1 ∷ 255 ∷ []) (0x01 ∷ 0x_ff ∷ []) ∷
+    lies 256 (1 ∷ 255 ∷ []) (0x01 ∷ 0xFF ∷ []) ∷
     -- either unused bit of the request's row, and none of its used ones
-    ends-clear 2 6 (0x2_d ∷ []) false ∷
-    ends-clear 2 6 (0x2_e ∷ []) false ∷
-    ends-clear 2 6 (0x_fc ∷ []) true ∷
+    ends-clear 2 6 (0x2D ∷ []) false ∷
+    ends-clear 2 6 (0x2E ∷ []) false ∷
+    ends-clear 2 6 (0xFC ∷ []) true ∷
     -- only the last byte has unused bits, and not always
     ends-clear 5 5 (0x22 ∷ 0x35 ∷ []) false ∷
     ends-clear 5 5 (0x23 ∷ 0x34 ∷ []) true ∷
-    ends-clear 2 8 (0x_ff ∷ []) true ∷
+    ends-clear 2 8 (0xFF ∷ []) true ∷
     takes 2 1 1 ∷
     takes 2 8 1 ∷
     takes 2 9 2 ∷
@@ -82,7 +82,7 @@ table =
     starts 16 2 1 ∷
     lit 3 4 0 1 ∷
     lit 3 4 2 0 ∷
-    lit 8 0x2_c 2 1 ∷
+    lit 8 0x2C 2 1 ∷
     []
 
 -- the one claim

@@ -8,10 +8,9 @@ use Rattle.words.proofs.Plain.{ℕ, zero, suc, min, ◌<◌, ◌≤◌, arith, �
 use lib.IntN.{ℤ, pos, negsuc}
 use lib.Signed.{lt_z}
 use Rattle.io.specs.Counts.{clamp_len}
-use Rattle.libc.specs.Io.{Moved}
 use Rattle.program_reading_inner.specs.{declared.Got.Got, declared.Most.Most}
 use Rattle.program_reading_inner.specs.declared.Got.TheVariants.{Bytes, Over, Failed}
-use Rattle.program_reading_inner.specs.Says.{told_of, GotSays, ended_of, MostSays}
+use Rattle.program_reading_inner.specs.Says.{Moved, told_of, GotSays, ended_of, MostSays}
 
 -- z is the answer as it was handed over
 module _ (got z : ℤ) (same : z ≡ got) where

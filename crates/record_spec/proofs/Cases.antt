@@ -31,7 +31,7 @@ front_record = 0x52 ∷ 0x46 ∷ 6 ∷ 2 ∷ 0 ∷ 0 ∷ 1 ∷ 0 ∷ 1 ∷ 1 ∷
 
 -- request k's: the front ring 001011 becomes 52 50 06 02 2C
 abbrev pub packed_record : List ℕ
-packed_record = 0x52 ∷ 0x50 ∷ 6 ∷ 2 ∷ 0x2_c ∷ []
+packed_record = 0x52 ∷ 0x50 ∷ 6 ∷ 2 ∷ 0x2C ∷ []
 
 -- a front record of these numbers and sectors
 abbrev pub front : ℕ → ℕ → List ℕ → List ℕ
@@ -89,11 +89,11 @@ table =
     stores Packed 5 (4 ∷ 0 ∷ 1 ∷ 2 ∷ []) (pack 4 5 (0x05 ∷ 0x40 ∷ [])) ∷
     shows Packed (pack 4 5 (0x05 ∷ 0x40 ∷ [])) 0 (0 ∷ 1 ∷ 2 ∷ 4 ∷ []) ∷
     -- n = 64 and k = 16 take 32 bytes, and one less is cut; 9 sectors of two shades take two bytes
-    answers (pack 64 16 (replicate 32 0x_ff)) 0 64 (Record 64 16 Packed 36) ∷
-    answers (pack 64 16 (replicate 31 0x_ff)) 0 64 (Refused (Cut 0)) ∷
+    answers (pack 64 16 (replicate 32 0xFF)) 0 64 (Record 64 16 Packed 36) ∷
+    answers (pack 64 16 (replicate 31 0xFF)) 0 64 (Refused (Cut 0)) ∷
     answers (front_record ++ pack 9 2 (0 ∷ [])) 10 64 (Refused (Cut 10)) ∷
     -- Sector at the byte of its first bit: 0 1 7 0, whose third sector straddles, with bits set in the padding; the fourth, in the second byte
-    answers (front_record ++ pack 4 5 (0x07 ∷ 0x8_f ∷ [])) 10 64 (Refused (Sector 14)) ∷
+    answers (front_record ++ pack 4 5 (0x07 ∷ 0x8F ∷ [])) 10 64 (Refused (Sector 14)) ∷
     answers (front_record ++ pack 4 5 (0x05 ∷ 0x70 ∷ [])) 10 64 (Refused (Sector 15)) ∷
     -- Padding at the last byte, before Not home: 1 0 and 1 0 0 1 0 0 0 0 0 are no necklaces
     answers (front_record ++ pack 2 2 (0x81 ∷ [])) 10 64 (Refused (Padding 14)) ∷
@@ -101,7 +101,7 @@ table =
     -- Not home: Opening at the first byte; Loose at the byte of the sector where it goes wrong: 1 1 0 1 at the third, which straddles, 011011010 at the ninth
     answers (front_record ++ pack 4 2 (0x60 ∷ [])) 10 64 (Refused (NotHome 14)) ∷
     answers (front_record ++ pack 4 5 (0x24 ∷ 0x10 ∷ [])) 10 64 (Refused (NotHome 14)) ∷
-    answers (front_record ++ pack 9 2 (0x6_d ∷ 0x00 ∷ [])) 10 64 (Refused (NotHome 15)) ∷
+    answers (front_record ++ pack 9 2 (0x6D ∷ 0x00 ∷ [])) 10 64 (Refused (NotHome 15)) ∷
     -- the mark is looked at first, the numbers before the bytes
     answers (0x52 ∷ 0x50 ∷ 6 ∷ []) 0 64 (Refused (Cut 0)) ∷
     answers (pack 0 99 []) 0 64 (Refused (Length 2)) ∷

@@ -94,7 +94,7 @@ module _ (kind : List ℕ → Bool) (k : ℕ) where
       let g = next-facts w v e in
       elim (lex v u) [
         | ahead l ↦ rw (after-not-same u v l) (omega (arith, walk-each f u (rw g.0.long r) q l))
-        | equal p ↦ rw (← p, same_refl v) (omega (arith, count-zero (same v) _ (λ x y. before-not-same v x y.2) (walk-kind f)))
+        | equal p ↦ rw (← p, same_refl v) (omega (arith, count-zero (same u) _ (λ x y. rw (← p) (before-not-same v x y.2)) (walk-kind f)))
         | behind l ↦ clash (up_to v u) (g.3 u r h q) (before-not-up_to v u l)
       ]
 

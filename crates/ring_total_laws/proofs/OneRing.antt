@@ -42,7 +42,7 @@ module _ (n k : ℕ) (z : 0 < n) (y : 0 < k) (rings : List (List ℕ)) (m : ℕ)
   walk-all u r h =
       elim (lex (zeros n) u) [
         | ahead l ↦ rw (after-not-same u (zeros n) l) (omega (arith, walk-each necklace k walk u (subst (λ (x : ℕ). Reading x k u) (sym (length-zeros n)) r) h l))
-        | equal e ↦ rw (← e, same_refl (zeros n)) (omega (arith, count-zero (same (zeros n)) rings (λ x q. before-not-same (zeros n) x q.2) later))
+        | equal e ↦ rw (← e, same_refl (zeros n)) (omega (arith, count-zero (same u) rings (λ x q. rw (← e) (before-not-same (zeros n) x q.2)) later))
         | behind l ↦ let d = before-less u (zeros n) (r.long ∙ sym (length-zeros n)) l in absurd (omega (arith, d.less, zeros-at n d.at))
       ]
 

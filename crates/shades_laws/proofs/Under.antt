@@ -45,6 +45,7 @@ under-behind (a ∷ u) r = later refl (under-behind u r)
 pub not-under-beginning : (v u : List ℕ) → (v ++ u) ≪ v → ⊥
 not-under-beginning (a ∷ v) u (here p) = omega arith
 not-under-beginning (a ∷ v) u (later p r) = not-under-beginning v u r
+not-under-beginning [] u x' = elim x' [ ]
 
 -- the same of ≼
 pub upto-behind : (u : List ℕ) {v w : List ℕ} → v ≼ w → (u ++ v) ≼ (u ++ w)

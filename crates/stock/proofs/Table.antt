@@ -41,5 +41,5 @@ unfolding right
 entry b h = eqb-true (get_or homes b 0) (home_byte b) (all-at 256 right all_right b h)
 
 -- entry D0 is 0D (hexadecimal)
-pub entry-d0 : get_or homes 0x_d0 0 ≡ 0x0_d
-entry-d0 = entry 0x_d0 (omega arith) ∙ home-d0
+pub entry-d0 : get_or homes 0xD0 0 ≡ 0x0D
+entry-d0 = entry 0xD0 (omega arith) ∙ home-d0

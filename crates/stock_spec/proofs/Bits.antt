@@ -101,6 +101,6 @@ home-kept b =
     rw l at (bits-of-byte w (turn-bitwise (shift (bits_of b)) (bits_of b) (bits-bitwise 8 b)))
 
 -- the home reading of D0 is 0D (hexadecimal)
-pub home-d0 : home_byte 0x_d0 ≡ 0x0_d
+pub home-d0 : home_byte 0xD0 ≡ 0x0D
 unfolding home_byte bits byte_of_sectors open-all
 home-d0 = refl

@@ -18,10 +18,12 @@ pub data In (v : List ℕ) : List (List ℕ) → Type 0 where
 pub in_all : {P : List ℕ → Type 0} {v : List ℕ} {ws : List (List ℕ)} → All P ws → In v ws → P v
 in_all (also p ps) (here e) = rw e p
 in_all (also p ps) (there i) = in_all ps i
+in_all {P = P} {v = v} nothing x3 = elim x3 [ ]
 
 pub in_left : (v : List ℕ) (us ws : List (List ℕ)) → In v us → In v (us ++ ws)
 in_left v (u ∷ us) ws (here e) = here e
 in_left v (u ∷ us) ws (there i) = there (in_left v us ws i)
+in_left v [] ws x' = elim x' [ ]
 
 pub in_right : (v : List ℕ) (us ws : List (List ℕ)) → In v ws → In v (us ++ ws)
 in_right v [] ws i = i
@@ -30,6 +32,7 @@ in_right v (u ∷ us) ws i = there (in_right v us ws i)
 pub in_map : (g : List ℕ → List ℕ) (v : List ℕ) (ws : List (List ℕ)) → In v ws → In (g v) (map g ws)
 in_map g v (w ∷ ws) (here e) = here (ap g e)
 in_map g v (w ∷ ws) (there i) = there (in_map g v ws i)
+in_map g v [] x' = elim x' [ ]
 
 -- what is counted is in the list
 pub in_count : (v : List ℕ) (ws : List (List ℕ)) → 0 < count (same v) ws → In v ws

@@ -58,6 +58,7 @@ kept_in : (f : List ℕ → Bool) (v : List ℕ) (ws : List (List ℕ)) → In v
 unfolding kept
 kept_in f v (w ∷ ws) (here q) h = rw (ap f (sym q) ∙ h, kept) (here q)
 kept_in f v (w ∷ ws) (there i) h = elim (test (f w)) [ passes e ↦ rw (e, kept) (there (kept_in f v ws i h)) | fails e ↦ rw (e, kept) (kept_in f v ws i h) ]
+kept_in f v [] x'' h = elim x'' [ ]
 
 -- ---- the strip's words
 
