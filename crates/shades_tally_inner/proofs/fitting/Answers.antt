@@ -12,39 +12,32 @@ loop-i-init c = (omega arith, c.untouched-rem.ensures)
 pub overflow_cast-x : goal.overflow_cast-x
 overflow_cast-x c = omega (arith, c.type_inv.s c.loop-i.i)
 
--- inside the loop the sector at i is a shade that has a count
-inside : (c : goal.In-loop-i) →
-    (get_or c.args.s.now c.loop-i.i 0 < length c.args.counts.now) × (length c.args.counts.now ≤ 16) × (length c.loop-i.rem ≡ 16)
-inside (goal.at.overflow_cast-x c).In-loop-i = (c.requires.known _ c.loop-i-test.true, c.requires.few, c.loop-i.invariant.1.size)
-
 pub offset_bounds-rem-x : goal.offset_bounds-rem-x
-offset_bounds-rem-x c = omega (arith, inside (goal.at.offset_bounds-rem-x c).In-loop-i)
+offset_bounds-rem-x c = omega (arith, c.requires.known _ c.loop-i-test.true, c.requires.few, c.loop-i.invariant.1.size)
 
 pub bounds-rem-x : goal.bounds-rem-x
-bounds-rem-x c = omega (arith, inside (goal.at.bounds-rem-x c).In-loop-i)
+bounds-rem-x c = omega (arith, c.requires.known _ c.loop-i-test.true, c.requires.few, c.loop-i.invariant.1.size)
 
 pub returns-then-rem-x-eq0 : goal.returns-then-rem-x-eq0
 returns-then-rem-x-eq0 c =
-    let t = inside (goal.at.returns-then-rem-x-eq0 c).In-loop-i in
     record {
       within = c.loop-i.invariant.0;
       remains = c.loop-i.invariant.1;
-      exceeds = λ h. exceeds-one c.args.counts.now c.args.s.now c.loop-i.rem c.loop-i.i c.loop-i-test.true t.0 t.1 c.loop-i.invariant.1 c.if-rem-x-eq0.true;
+      exceeds = λ h. exceeds-one c.args.counts.now c.args.s.now c.loop-i.rem c.loop-i.i c.loop-i-test.true (c.requires.known _ c.loop-i-test.true) c.requires.few c.loop-i.invariant.1 c.if-rem-x-eq0.true;
     }
 
 pub offset_bounds-rem-x-in-loop-i : goal.offset_bounds-rem-x-in-loop-i
-offset_bounds-rem-x-in-loop-i c = omega (arith, inside (goal.at.offset_bounds-rem-x-in-loop-i c).In-loop-i)
+offset_bounds-rem-x-in-loop-i c = omega (arith, c.requires.known _ c.loop-i-test.true, c.requires.few, c.loop-i.invariant.1.size)
 
 pub bounds-rem-x-in-loop-i : goal.bounds-rem-x-in-loop-i
-bounds-rem-x-in-loop-i c = omega (arith, inside (goal.at.bounds-rem-x-in-loop-i c).In-loop-i)
+bounds-rem-x-in-loop-i c = omega (arith, c.requires.known _ c.loop-i-test.true, c.requires.few, c.loop-i.invariant.1.size)
 
 pub bounds-rem-x-in-loop-i-2 : goal.bounds-rem-x-in-loop-i-2
-bounds-rem-x-in-loop-i-2 c = omega (arith, inside (goal.at.bounds-rem-x-in-loop-i-2 c).In-loop-i)
+bounds-rem-x-in-loop-i-2 c = omega (arith, c.requires.known _ c.loop-i-test.true, c.requires.few, c.loop-i.invariant.1.size)
 
 pub loop-i-preserved : goal.loop-i-preserved
 loop-i-preserved c =
-    let t = inside (goal.at.loop-i-preserved c).In-loop-i in
-    (omega arith, remains-more c.args.counts.now c.args.s.now c.loop-i.rem c.loop-i.i c.loop-i-test.true t.0 t.1 c.loop-i.invariant.1 c.if-rem-x-eq0.false)
+    (omega arith, remains-more c.args.counts.now c.args.s.now c.loop-i.rem c.loop-i.i c.loop-i-test.true (c.requires.known _ c.loop-i-test.true) c.requires.few c.loop-i.invariant.1 c.if-rem-x-eq0.false)
 
 pub returns : goal.returns
 returns c = record { within = c.loop-i.invariant.0; remains = c.loop-i.invariant.1; exceeds = λ h. absurd (omega (arith, c.loop-i-test.false)) }
