@@ -2,18 +2,18 @@
 --     front-reversed, rest-reversed    a beginning reversed, and the rest of a list
 --     turned-there                     the first i reversed, the others reversed, and then the whole: turned by i
 use Rattle.words.proofs.Plain.{ℕ, ◌≤◌, arith, ◌≡◌, refl, ◌∙◌, List, [], ◌++◌, append-nil, reverse, reverse-append, reverse-reverse, length, take, drop}
-use Rattle.words.proofs.Plain.{length-append, length-drop, length-reverse, length-take-le, take-length, drop-length, take_at, drop_at}
+use Rattle.words.proofs.Plain.{◌-◌, take_all, length-append, length-drop, length-reverse, length-take-le, take-length, drop-length, take_at, drop_at}
 use Rattle.std.specs.Prelude.{slice_range}
 use Rattle.words.specs.Turn.{turn}
 
 -- the first i reversed
 front-reversed : (i : ℕ) (w u : List ℕ) → u ≡ take 0 w ++ (reverse (slice_range w 0 i) ++ drop i w) → u ≡ reverse (take i w) ++ drop i w
-front-reversed i w u e = e
+front-reversed i w u e = let z : i - 0 ≡ i = omega arith in rw z at e
 
 -- what stands behind a beginning p, up to the end n, reversed
 rest-reversed : (p q u : List ℕ) (i n : ℕ) → length p ≡ i → n ≡ length (p ++ q) → u ≡ take i (p ++ q) ++ (reverse (slice_range (p ++ q) i n) ++ drop n (p ++ q)) → u ≡ p ++ reverse q
 rest-reversed p q u i n l m e =
-    e ∙ rw (m, take-length (p ++ q), drop-length (p ++ q), take_at p q i l, drop_at p q i l, append-nil (reverse q))
+    e ∙ rw (m, take_at p q i l, drop_at p q i l, drop-length (p ++ q), take_all (length (p ++ q) - i) q (omega (arith, length-append p q)), append-nil (reverse q))
 
 -- the three reversals together
 pub turned-there : (i n : ℕ) (w u v x : List ℕ) → i ≤ length w → n ≡ length w → u ≡ take 0 w ++ (reverse (slice_range w 0 i) ++ drop i w) →

@@ -1,17 +1,15 @@
 -- What a sector's answer says to the loops over a ring's values.
 --     has-none      an answer that is no shade: the value has none
 --     has_one       an answer that is a shade: the value has one, and it is that
-use Rattle.words.proofs.Plain.{ℕ, arith, ◌≡◌, ⊎_elim, [], ◌∷◌}
+use Rattle.words.proofs.Plain.{ℕ, arith, ◌≡◌, refl, [], ◌∷◌}
 use lib.Ieee.{Float, ne}
-use denote.Enum.Declared.{tag_of}
-use types.Run.{OneOf}
 use Rattle.words.proofs.Split.{clash}
 use Rattle.density_spec.specs.{declared.Card.Card, declared.Sector.Sector, Cuts.In, Cuts.shade_of, Says.ShadeSays}
 use Rattle.density_spec.specs.declared.Sector.TheVariants.{Shade, Outside, NotANumber}
-use Rattle.density_spec.proofs.{Sector.the_type, Unique.in-out}
+use Rattle.density_spec.proofs.Unique.{in-out}
 
-pub has-none : (c : Card) (k : ℕ) (x : Float) (s : Sector) → OneOf (1 ∷ 2 ∷ []) (tag_of the_type s) → ShadeSays c k x s → In x → ⊥
-has-none c k x (Shade v) t w p = ⊎_elim (λ e. absurd (omega arith)) (λ e. absurd (omega arith)) t
+pub has-none : (c : Card) (k : ℕ) (x : Float) (s : Sector) → ((v : ℕ) → s ≡ Shade v → ⊥) → ShadeSays c k x s → In x → ⊥
+has-none c k x (Shade v) t w p = t v refl
 has-none c k x (Outside y) t w p = in-out x p w.0
 has-none c k x NotANumber t w p = clash (ne x x) w p.0
 

@@ -1,6 +1,6 @@
 // What the answers of the calls by reflectances print, a value outside of 0 to 1 by its bits. No public calls.
 
-#![tactic(auto)]
+#![tactic(auto, unfolding(text_fill_spec::specs::Filled::longest, text_fill_spec::specs::Filled::slots))]
 
 ghost use Rattle.std.specs.Prelude.{◌+◌, ◌/◌, ◌%◌, ◌<◌, ◌≤◌, ◌≡◌, false, length};
 ghost use Rattle.std.specs.Float.Ieee.{ne};

@@ -32,6 +32,10 @@ use Rattle.desk_spec.specs.Answers.{AnswerShows, KindPrints, StepPrints, AboutSa
 use Rattle.desk_spec.specs.Answers.{DeskAnswers, blank, ShadesSays, one_value, several_values}
 use Rattle.desk_spec.proofs.Questions.{one-reading, one-pair, one-numbers, one_byte, one-sight, one-counts, one-after, one_line, one-shade}
 use Rattle.desk_spec.proofs.Sights.{one-sighted}
+use Rattle.refusal.specs.Calls.{one_reading}
+use Rattle.refusal.specs.Calls.{two_readings}
+use Rattle.rings.specs.Alike.{even_handed}
+use Rattle.rings.specs.Alike.{same_ring}
 
 -- an answer that is promised once
 pub one-shows : {A : Type 0} (P : A → Type 0) (f : A → List ℕ) → ((a b : A) → P a → P b → a ≡ b) → (t u : List ℕ) → AnswerShows P f t → AnswerShows P f u → t ≡ u
@@ -62,12 +66,12 @@ pub one-about : (v : About) (k : ℕ) (w t u : List ℕ) → AboutSays v k w t �
 one-about Class k w t u x y = one-shows _ _ (one_class w k) t u x y
 one-about Home k w t u x y =
     one-shows {A = Homed × List ℕ} _ _ (λ a b p q. let e = one-homed w k (blank (length w)) a.0 b.0 a.1 b.1 p q in λ i. (e.0 i, e.1 i)) t u x y
-one-about Even k w t u x y = one-shows _ _ (one_told _ _) t u x y
+one-about Even k w t u x y = one-shows _ _ (one_told (one_reading w k) (even_handed w)) t u x y
 one-about Place k w t u x y = one-shows _ _ (one-telling w k) t u x y
 one-about (OfOne.Step v) k w t u x y = one-step v k w t u x y
 
 pub one-both : (v : Both) (k : ℕ) (a b t u : List ℕ) → BothSays v k a b t → BothSays v k a b u → t ≡ u
-one-both Same k a b t u x y = one-shows _ _ (one_told _ _) t u x y
+one-both Same k a b t u x y = one-shows _ _ (one_told (two_readings a b k) (same_ring a b)) t u x y
 one-both Apart k a b t u x y = one-shows _ _ (one-distance a b k) t u x y
 
 -- ---- numbers

@@ -1,6 +1,6 @@
 // What the desk prints of a step from a reading, placed into a lent buffer. No public calls.
 
-#![tactic(auto)]
+#![tactic(auto, unfolding(text_fill_spec::specs::Filled::longest, text_fill_spec::specs::Filled::slots))]
 
 ghost use Rattle.std.specs.Prelude.{◌+◌, ◌≤◌, length};
 ghost use Rattle.desk_spec.specs.Texts.{step_text, arrival_text};

@@ -15,9 +15,6 @@ use Rattle.rings.specs.Necklace.{necklace, period, repeats_by}
 use Rattle.rings.specs.Steps.{next_of, moves}
 use Rattle.ring_laws.proofs.{Words.necklace-prenecklace, FullWalk.next-facts}
 use Rattle.walk_kind_laws.specs.Kinds.{ReadyToStep}
-use types.Run.{OneOf}
-use denote.Enum.Declared.{tag_of}
-use Rattle.walk_spec.specs.contracts.Outcome.{the_type}
 use Rattle.walk_spec.specs.{declared.Outcome.Outcome, Says.WentSays}
 use Rattle.walk_spec.specs.declared.Outcome.TheVariants.{Moved, Done, Refused}
 use Rattle.text_spec.specs.{Text.ring_line, Text.last_line, Put.Placed}
@@ -123,8 +120,8 @@ module _ {n k : ℕ} {v tail : List ℕ} {rings₀ sum₀ : ℕ} {b : List ℕ} 
   came v' m p' w = record { next = rw taken at w.0; counted = rw taken at w.1; repeats = w.2 }
 
   -- a step that does not move says that there is no ring more, and leaves the ring as it was
-  pub stops : (v' : List ℕ) (o : Outcome) (p' : ℕ) → OneOf (1 ∷ 2 ∷ []) (tag_of the_type o) → WentSays k (take n ring) v' o p' → (next_of necklace k a.last ≡ none) × (v' ++ drop n ring ≡ ring)
-  stops v' (Moved m) p' t w = ⊎_elim (λ e. absurd (omega arith)) (λ e. absurd (omega arith)) t
+  pub stops : (v' : List ℕ) (o : Outcome) (p' : ℕ) → ((m : ℕ) → o ≡ Moved m → ⊥) → WentSays k (take n ring) v' o p' → (next_of necklace k a.last ≡ none) × (v' ++ drop n ring ≡ ring)
+  stops v' (Moved m) p' t w = absurd (t m refl)
   stops v' (Done m) p' t w = (rw taken at w.0, ap (λ (x : List ℕ). x ++ drop n ring) w.2 ∙ take-append-drop n ring)
   stops v' (Refused r) p' t w = absurd w
 

@@ -22,10 +22,10 @@ one-shade = refl
 
 -- two sectors, the right one black, the left one the middle of three shades
 pub two-sectors : picture_text Managed 3 (0 ∷ 1 ∷ []) ≡
-    ascii "<svg xmlns=\"http://www.w3.org/2000/svg\" width=\"24mm\" height=\"24mm\" view_box=\"-276 -276 552 552\">\n"
+    ascii "<svg xmlns=\"http://www.w3.org/2000/svg\" width=\"24mm\" height=\"24mm\" viewBox=\"-276 -276 552 552\">\n"
     ++ ascii "<g fill=\"none\" stroke-width=\"100\" transform=\"rotate(-90)\">\n"
-    ++ ascii "<circle r=\"226\" path_length=\"1420\" stroke-dasharray=\"710 710\" stroke-dashoffset=\"-710\" stroke=\"rgb(188,188,188)\"/>\n"
-    ++ ascii "<circle r=\"226\" path_length=\"1420\" stroke-dasharray=\"710 710\" stroke-dashoffset=\"-0\" stroke=\"rgb(0,0,0)\"/>\n"
+    ++ ascii "<circle r=\"226\" pathLength=\"1420\" stroke-dasharray=\"710 710\" stroke-dashoffset=\"-710\" stroke=\"rgb(188,188,188)\"/>\n"
+    ++ ascii "<circle r=\"226\" pathLength=\"1420\" stroke-dasharray=\"710 710\" stroke-dashoffset=\"-0\" stroke=\"rgb(0,0,0)\"/>\n"
     ++ ascii "</g>\n"
     ++ ascii "<circle r=\"76\"/>\n"
     ++ ascii "</svg>\n"

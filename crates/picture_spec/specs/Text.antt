@@ -23,7 +23,7 @@ with_numbers t xs = filled_text t xs 0 []
 -- ---- the ring
 
 abbrev pub arc_form : List ℕ
-arc_form = ascii "<circle r=\"%\" path_length=\"%\" stroke-dasharray=\"% %\" stroke-dashoffset=\"-%\" stroke=\"rgb(%,%,%)\"/>\n"
+arc_form = ascii "<circle r=\"%\" pathLength=\"%\" stroke-dasharray=\"% %\" stroke-dashoffset=\"-%\" stroke=\"rgb(%,%,%)\"/>\n"
 
 abbrev pub arc_numbers : ℕ → ℕ → ℕ → ℕ → List ℕ
 arc_numbers n i d g = 113 * n ∷ 710 * n ∷ 710 * d ∷ 710 * (n - d) ∷ 710 * (i % n) ∷ g ∷ g ∷ g ∷ []
@@ -42,7 +42,7 @@ ring_picture tone k w = arc_texts tone (length w) k (arcs w)
 
 abbrev pub head_form : List ℕ
 head_form =
-    ascii "<svg xmlns=\"http://www.w3.org/2000/svg\" width=\"24mm\" height=\"24mm\" view_box=\"-% -% % %\">\n"
+    ascii "<svg xmlns=\"http://www.w3.org/2000/svg\" width=\"24mm\" height=\"24mm\" viewBox=\"-% -% % %\">\n"
     ++ ascii "<g fill=\"none\" stroke-width=\"%\" transform=\"rotate(-90)\">\n"
 
 -- the ring reaches from 88 n to 138 n

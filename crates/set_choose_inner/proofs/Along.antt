@@ -6,9 +6,7 @@
 --     along-full                    there are enough
 use Rattle.words.proofs.Plain.{ℕ, zero, suc, ◌-◌, ◌<◌, ◌≤◌, arith, ◌≡◌, refl, sym, ap, subst, ◌∙◌, ⊎_elim, true, false, none, some, List, [], ◌∷◌, eqb, length}
 use Rattle.words.proofs.Plain.{get_or, take, length-append, length-set, ext_get_or, get_or-take, length-take-le, lt-ltb, eq-eqb, ne_eqb}
-use types.Run.{OneOf}
-use denote.Enum.Declared.{tag_of}
-use Rattle.walk_spec.proofs.{Outcome.the_type, Unique.one-start}
+use Rattle.walk_spec.proofs.Unique.{one-start}
 use Rattle.words.specs.{Order.before, Search.tab}
 use Rattle.words.specs.Readings.{Sized, Reading, readings, count}
 use Rattle.words.proofs.Split.{passes, fails, test, lt, eq, gt, tri}
@@ -185,13 +183,13 @@ module _ {rule : Rule} {n k d want : ℕ} (ask : Askable n k d want) {w : Walk} 
   good : Passed (walk_asked w)
   good = rw a.walk (walk-good n k a.last sized ask.numbers.shaded a.reading a.pre)
 
-  stops : (w' : Walk) (o : Outcome) → OneOf (1 ∷ 2 ∷ []) (tag_of the_type o) → StepSays lyndon w w' o → next_of lyndon k a.last ≡ none
-  stops w' (Moved m) t s = ⊎_elim (λ e. absurd (omega arith)) (λ e. absurd (omega arith)) t
+  stops : (w' : Walk) (o : Outcome) → ((m : ℕ) → o ≡ Moved m → ⊥) → StepSays lyndon w w' o → next_of lyndon k a.last ≡ none
+  stops w' (Moved m) t s = absurd (t m refl)
   stops w' (Done m) t s = let o : Ended lyndon (walk_of k a.last) w' m = rw a.walk at s in rw (ring_of_lem k a.last) at o.next
   stops w' (Refused r) t s = absurd (never_both (walk_asked w) r s.0 good)
 
   -- none is left
-  pub along-ended : (w' : Walk) (o : Outcome) → OneOf (1 ∷ 2 ∷ []) (tag_of the_type o) → StepSays lyndon w w' o → t < want → SetChosen n k d want (chosen_by rule n k d want) p t false
+  pub along-ended : (w' : Walk) (o : Outcome) → ((m : ℕ) → o ≡ Moved m → ⊥) → StepSays lyndon w w' o → t < want → SetChosen n k d want (chosen_by rule n k d want) p t false
   along-ended w' o b s h =
       let e = stops w' o b s in
       let f : a.set ≡ chosen_by rule n k d want = sym (greedy-none (may_join rule d) (want - length a.set) a.set) ∙ ap

@@ -26,7 +26,7 @@ use Rattle.sheet_spec.specs.Layout.{pitch, per_page, across, down}
 
 abbrev pub cell_form : List ℕ
 cell_form =
-    ascii "<g transform=\"translate(% %)\">\n<svg x=\"-%\" y=\"-%\" width=\"%\" height=\"%\" overflow=\"visible\" view_box=\"-% -% % %\">\n"
+    ascii "<g transform=\"translate(% %)\">\n<svg x=\"-%\" y=\"-%\" width=\"%\" height=\"%\" overflow=\"visible\" viewBox=\"-% -% % %\">\n"
     ++ ascii "<g fill=\"none\" stroke-width=\"%\" transform=\"rotate(-90)\">\n"
 
 unfoldable pub cell_head : ℕ → ℕ → ℕ → ℕ → List ℕ
@@ -57,7 +57,7 @@ cell_text o i w =
 -- the paper is said too, so that a browser prints a page on one sheet of A4
 abbrev pub leaf_head : List ℕ
 leaf_head =
-    ascii "<svg xmlns=\"http://www.w3.org/2000/svg\" width=\"210mm\" height=\"297mm\" view_box=\"0 0 2100 2970\" font-family=\"monospace\" text-anchor=\"middle\" style=\"display:block\">\n"
+    ascii "<svg xmlns=\"http://www.w3.org/2000/svg\" width=\"210mm\" height=\"297mm\" viewBox=\"0 0 2100 2970\" font-family=\"monospace\" text-anchor=\"middle\" style=\"display:block\">\n"
     ++ ascii "<style>@page{size:210mm 297mm;margin:0}body{margin:0}</style>\n"
     ++ ascii "<rect width=\"2100\" height=\"2970\" fill=\"white\"/>\n"
 

@@ -31,3 +31,4 @@ pub fn block_length(kind: Kind) -> usize
         Kind::Desk => 252,
     }
 }
+

@@ -11,7 +11,7 @@ use Rattle.ring_laws.proofs.FullWalk.{next-facts, walk-exists, zeros, length-zer
 use Rattle.refusal.specs.declared.Checked.TheVariants as C
 use Rattle.walk_spec.specs.{declared.Walk.Walk, Record.ring_of, Record.walk_of}
 use Rattle.walk_spec.specs.Says.{StartSays, Steps, ends, goes}
-use Rattle.walk_record_laws.proofs.{Good.ring_of, Good.walk-good, Sums.steps-walk}
+use Rattle.walk_record_laws.proofs.{Good.ring_of_lem, Good.walk-good, Sums.steps-walk}
 
 -- ---- the steps are a full walk
 

@@ -19,27 +19,21 @@ raise-requires c =
     let q = stands-low c.requires c.loop-kind.invariant c.last_low-i.ensures z in
     (z, q.0, q.1)
 
--- behind a place that was raised
-raised-there : (c : tie.After-raise invariant-loop decreases-loop) →
-    (next : List ℕ) → next ≡ repeated (length c.loop-kind.ring) (raised c.last_low-i.result c.loop-kind.ring) → Risen c.args.kind c.args.k c.args.ring.now c.loop-kind.lyn c.loop-kind.moves c.last_low-i.result next
-raised-there c next moved =
-    risen c.requires c.loop-kind.invariant c.last_low-i.ensures (omega (arith, c.if-i-eq0.false)) moved
-
 pub overflow_add-moves : goal.overflow_add-moves
 overflow_add-moves c =
     omega (arith, c.loop-kind.invariant.few, c.loop-kind.invariant.short, c.requires.fits)
 
 pub of_kind-requires : goal.of_kind-requires
-of_kind-requires c = omega (arith, raised-there c _ c.raise.ensures)
+of_kind-requires c = omega (arith, risen c.requires c.loop-kind.invariant c.last_low-i.ensures (omega (arith, c.if-i-eq0.false)) c.raise.ensures)
 
 pub shape_of-ring-then-of_kind : goal.shape_of-ring-then-of_kind
-shape_of-ring-then-of_kind c = (raised-there c _ c.raise.ensures).long
+shape_of-ring-then-of_kind c = (risen c.requires c.loop-kind.invariant c.last_low-i.ensures (omega (arith, c.if-i-eq0.false)) c.raise.ensures).long
 
 pub returns-then-of_kind : goal.returns-then-of_kind
-returns-then-of_kind c = (raised-there c _ c.raise.ensures).found (sym c.of_kind.ensures ∙ c.if-of_kind.true)
+returns-then-of_kind c = (risen c.requires c.loop-kind.invariant c.last_low-i.ensures (omega (arith, c.if-i-eq0.false)) c.raise.ensures).found (sym c.of_kind.ensures ∙ c.if-of_kind.true)
 
 pub loop-kind-smaller : goal.loop-kind-smaller
-loop-kind-smaller c = omega (arith, raised-there c _ c.raise.ensures)
+loop-kind-smaller c = omega (arith, risen c.requires c.loop-kind.invariant c.last_low-i.ensures (omega (arith, c.if-i-eq0.false)) c.raise.ensures)
 
 pub loop-kind-preserved : goal.loop-kind-preserved
-loop-kind-preserved c = (raised-there c _ c.raise.ensures).on (sym c.of_kind.ensures ∙ c.if-of_kind.false)
+loop-kind-preserved c = (risen c.requires c.loop-kind.invariant c.last_low-i.ensures (omega (arith, c.if-i-eq0.false)) c.raise.ensures).on (sym c.of_kind.ensures ∙ c.if-of_kind.false)

@@ -1,0 +1,7 @@
+-- `walk::next_lyndon` meets its contract.
+use Rattle.walk_kind_laws.specs.Kinds.{kind_of}
+use Rattle.walk.proofs.next_lyndon.Goals as goal
+
+pub returns : goal.returns
+unfolding kind_of
+returns c = c.step.ensures

@@ -1,0 +1,7 @@
+-- `walk_reading::next_lyndon` meets its contract.
+use Rattle.walk_kind_laws.specs.Kinds.{kind_of}
+use Rattle.walk_reading.proofs.next_lyndon.Goals as goal
+
+pub returns : goal.returns
+unfolding kind_of
+returns c = c.step.ensures
