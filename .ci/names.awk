@@ -3,6 +3,9 @@
 # words with a capital that are no names of ours
 BEGIN { split("Lyndon Moebius Figure Theorem Too Off Not", words, " "); for (i in words) plain[words[i]] = 1 }
 
+# the crates of the repository: what the toolchain's libraries define is not looked into
+BEGIN { while (("ls crates" | getline name) > 0) ours[name] = 1 }
+
 # ---- the tree
 
 # crate, part (specs, proofs or src) and file of what is being read
@@ -21,17 +24,25 @@ FILENAME == list {
     next
 }
 
-!table && (part == "specs" || part == "src") && /Rattle·[a-z0-9_]+\.proofs/ {
-    printf "%s:%d: a definition is taken from another crate's proofs/\n", FILENAME, FNR; bad++
+!table && (part == "specs" || part == "src") && match($0, /Rattle\.[a-z0-9_]+\.proofs\./) {
+    cited = substr($0, RSTART + 7, RLENGTH - 15)
+    if (cited != crate && (cited in ours)) { printf "%s:%d: a definition is taken from another crate's proofs/\n", FILENAME, FNR; bad++ }
 }
 
 # functions, types and constants, and the cases of enums
 !table && part == "src" {
     line = $0
-    if (line ~ /^    [A-Z][A-Za-z]*(\(.*\)| \{.*\})?,$/) { sub(/^ +/, "", line); sub(/[^A-Za-z].*$/, "", line); cases[line] = 1; next }
+    if (line ~ /^    [A-Z][A-Za-z]*(\(.*\)| \{.*\})?,$/ || line ~ /^    [A-Z][A-Za-z]* \{$/) { sub(/^ +/, "", line); sub(/[^A-Za-z].*$/, "", line); cases[line] = 1; next }
     sub(/^[ \t]*(pub )?(extern "C" )?/, "", line)
-    if (line ~ /^(fn|struct|enum|const) / || line ~ /^use .*;/) {
-        if (line ~ /^use /) { sub(/;.*$/, "", line); sub(/^.*::/, "", line) } else { sub(/^[a-z]+ /, "", line); sub(/[^A-Za-z0-9_].*$/, "", line) }
+    # what is imported, in one line or in several
+    if (line ~ /^use / || importing) {
+        importing = line !~ /;/
+        n = split(line, w, /[^A-Za-z0-9_]+/)
+        for (i = 1; i <= n; i++) if (w[i] != "" && w[i] != "use") { code[crate, w[i]] = 1; anywhere[w[i]] = 1 }
+        next
+    }
+    if (line ~ /^(fn|struct|enum|const) /) {
+        sub(/^[a-z]+ /, "", line); sub(/[^A-Za-z0-9_].*$/, "", line)
         code[crate, line] = 1; anywhere[line] = 1
         if (line ~ /^check_/) code[crate, "check_*"] = 1
     }

@@ -3,8 +3,8 @@
 BEGIN {
     # the toolchain's crates and commands, words of the languages, of C and of the system, and what stands for any name
     split("std io bytes libc check os lib rings", w, " "); for (i in w) foreign[w[i]] = 1
-    split("check prove dev staticlib try must-fail ci goals mir fmt doc version selftest", w, " "); for (i in w) tool[w[i]] = 1
-    split("requires ensures fn f32 u8 usize stdin stdout rt float lseek read_full rgb memcpy memset valgrind python3 gcc clang flock sha256sum qemu-x86_64 rsvg-convert rattle-cases", w, " "); for (i in w) plain[w[i]] = 1
+    split("ci must-fail selftest doc version help new check verdict lib run test try fmt tidy plant all expand lemma seed names", w, " "); for (i in w) tool[w[i]] = 1
+    split("requires ensures fn f32 u8 usize stdin stdout rt float lseek read_full rgb memcpy memset valgrind python3 gcc clang flock sha256sum rsvg-convert", w, " "); for (i in w) plain[w[i]] = 1
     split("error old: new: faults pathLength stroke-dasharray RT_JOBS RINGS_EMULATOR LETTER PATH LIBRARY Lib.antt logic.lock", w, " "); for (i in w) plain[w[i]] = 1
     split("guides/FIRST_PROOFS.md SHORTER_PROOFS.md .git/gates x86-64 x86_64 float32 Proof search src Option incremental=trusted crate File librings.so.1", w, " "); for (i in w) plain[w[i]] = 1
 }
@@ -41,10 +41,16 @@ FNR == 1 { page = FILENAME !~ /^(crates|include|c)\//; split(FILENAME, at, "/");
 # functions, types, constants, and types of other crates that are to be had here; the cases of enums and the fields; of the header and the Python module any word
 !page && FILENAME ~ /\.rt$/ {
     line = $0
-    if (line ~ /^ +([A-Z][A-Za-z]*(\(.*\)| \{.*)?,?|(pub )?[a-z_]+: [^=]*,)$/) { sub(/^ +(pub )?/, "", line); sub(/[^A-Za-z_].*$/, "", line); known[line] = 1; within[here, line] = 1; next }
+    if (line ~ /^ +([A-Z][A-Za-z]*(\(.*\)| \{.*)?,?|(pub )?[a-z_]+: [^=]*,)$/ && !importing) { sub(/^ +(pub )?/, "", line); sub(/[^A-Za-z_].*$/, "", line); known[line] = 1; within[here, line] = 1; next }
     sub(/^ *(pub )?(extern "C" )?/, "", line)
-    if (line ~ /^use .*;/) { sub(/;.*$/, "", line); sub(/^.*::/, "", line) }
-    else if (line ~ /^(fn|struct|enum|const) /) { sub(/^[a-z]+ /, "", line); sub(/[^A-Za-z0-9_].*$/, "", line) }
+    # what is imported, in one line or in several
+    if (line ~ /^use / || importing) {
+        importing = line !~ /;/
+        n = split(line, w, /[^A-Za-z0-9_]+/)
+        for (i = 1; i <= n; i++) if (w[i] != "" && w[i] != "use") { known[w[i]] = 1; within[here, w[i]] = 1 }
+        next
+    }
+    if (line ~ /^(fn|struct|enum|const) /) { sub(/^[a-z]+ /, "", line); sub(/[^A-Za-z0-9_].*$/, "", line) }
     else next
     known[line] = 1; within[here, line] = 1
     next

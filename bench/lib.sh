@@ -1,27 +1,23 @@
 # What the scripts of this folder share, and those of c/, .ci/door, .ci/stack and .ci/c with them; they read it with '.', after setting `top` to the repository's folder. It finds the
-# toolchain's parts and makes a room for what is built, which is removed at the end. Then: build_c, build_list and build_calls build, compile compiles without a proof,
-# own_kit is a toolchain for this processor, keep_objects, frames and deepest tell the stack, run runs, count counts instructions.
-# Nothing but the toolchain is needed. Every path may have spaces.
+# toolchain's parts and makes a room for what is built, which is removed at the end. Then: build_programs, build_libraries, static_library and build_calls build, by a proof each, since the
+# toolchain compiles nothing that is not proved; build_c compiles C; keep_objects, frames and deepest tell the stack, run runs, count counts instructions.
+# Nothing but the toolchain is needed, on x86-64. Every path may have spaces.
+# Where RINGS_PROVED is set, as .ci/run sets it behind `rt ci`, what stands in the crates' out/ was proved and built from the sources as they stand, and is taken as it is.
 
 say() { printf '%s: %s\n' "$(basename "$0")" "$*" >&2; }
 die() { say "$*"; exit 2; }
 
 command -v rt >/dev/null 2>&1 || die "the command rt is missing: put the Rattle toolchain's bin folder on PATH"
-kit=$(dirname "$(dirname "$(rt doc)")")
-machine=$(uname -m)
-case $machine in arm64) machine=aarch64 ;; amd64) machine=x86_64 ;; esac
-bin=$kit/on/$machine/toolchain/bin lib=$kit/on/$machine/toolchain/lib
-[ -e "$lib/Scrt1.o" ] || lib=$kit/toolchain/lib
+case $(uname -m) in x86_64 | amd64) ;; *) die "the toolchain is for x86-64, and this machine is $(uname -m)" ;; esac
+kit=$(dirname "$(rt doc)")
+bin=$kit/toolchain/bin lib=$kit/toolchain/lib
 loader=$lib/ld-linux-x86-64.so.2
-# programs are for x86-64; for another processor the toolchain has an emulator
-emulator=$bin/qemu-x86_64
-[ -x "$emulator" ] || emulator=''
 
 room=$(mktemp -d)
 trap 'rm -rf "$room"' EXIT
 trap 'exit 1' HUP INT TERM
 
-# ---- building
+# ---- building C
 
 # link OUT FILE..: a program of objects and archives, by the toolchain's own linker and C library.
 link() {
@@ -47,8 +43,88 @@ build_c() {
     link "$room/$program" "$room/$program.o" "$@"
 }
 
+# ---- building what is proved
+
+# told FILE WHAT: shows what the toolchain said, and that it did not build
+told() {
+    cat "$1" >&2
+    say "$2 was not built (see above)"
+    return 2
+}
+
+# build_program PROGRAM: crates/PROGRAM/out/PROGRAM. What is not proved yet of it and of what it stands on is proved first, which may take minutes.
+build_program() {
+    made=$top/crates/$1/out/$1
+    if [ -n "${RINGS_PROVED-}" ] && [ -s "$made" ]; then return; fi
+    # rt also runs it, on no input
+    (cd "$top/crates/$1" && rt run </dev/null) >/dev/null 2>"$room/said" && [ -s "$made" ] || told "$room/said" "'$1'"
+}
+
+# build_programs DIR PROGRAM..: the programs, each under its name in DIR.
+build_programs() {
+    into=$1
+    shift
+    for program; do
+        build_program "$program" && cp "$top/crates/$program/out/$program" "$into/$program" || return 2
+    done
+}
+
 # build_list: the listing program, where it is not built yet.
 build_list() { "$top/rings" list 2 1 >/dev/null; }
+
+# below CRATE..: the crates of the repository that these stand on, these with them, a line each.
+below() {
+    awk -F: -v from="$*" '
+        function visit(crate,    i, m, on) {
+            if (!(crate in needs) || crate in seen) return
+            seen[crate] = 1
+            print crate
+            m = split(needs[crate], on, " ")
+            for (i = 1; i <= m; i++) visit(on[i])
+        }
+        { sub(/#.*/, "") }
+        NF > 1 { sub(/ .*/, "", $1); needs[$1] = $2 }
+        END { m = split(from, first, " "); for (i = 1; i <= m; i++) visit(first[i]) }' "$top/crates.txt"
+}
+
+# stands_on CRATE: what crates.txt says that it stands on.
+stands_on() { sed -n "s/^$1\( staticlib\)\{0,1\}: *//p" "$top/crates.txt"; }
+
+# build_libraries CRATE..: of each crate of the repository what the crates above it are built over, crates/CRATE/out/rlib.
+build_libraries() {
+    for crate; do
+        if [ -n "${RINGS_PROVED-}" ] && [ -d "$top/crates/$crate/out/rlib/$crate.rlib" ]; then continue; fi
+        (cd "$top/crates/$crate" && rt lib) >"$room/said" 2>&1 || told "$room/said" "the library $crate" || return 2
+    done
+}
+
+# static_library FOLDER NAME TO TOOLCHAIN CRATE..: the file TO, the static library of the crate NAME in FOLDER, which is proved here and now, from nothing, over these crates of the
+# repository, whose libraries are built. TOOLCHAIN has the compiler.
+static_library() {
+    folder=$1 name=$2 to=$3 by=$4
+    shift 4
+    crates=$* under=$(below "$@")
+    set -- --crate-name "$name" src/lib.rt --crate-type staticlib --extern "std=$kit/rlibs/std.rlib" -L "dependency=$kit/rlibs"
+    for crate in $crates; do
+        if [ -d "$top/crates/$crate" ]; then set -- "$@" --extern "$crate=$top/crates/$crate/out/rlib/$crate.rlib"; else set -- "$@" --extern "$crate=$kit/rlibs/$crate.rlib"; fi
+    done
+    for crate in $under; do set -- "$@" -L "dependency=$top/crates/$crate/out/rlib"; done
+    set -- "$@" --antt-project "$kit/rattle/logic/antt-project.json" --logic-built "$kit/logic_built" --links "$name=" --backend llvm
+    (cd "$folder" && "$kit/bin/rattle" build "$@" --toolchain "$by" -o "$to") >"$room/said" 2>&1
+}
+
+# build_door CRATE: crates/CRATE/out/libCRATE.a, the static library of a crate of the repository.
+build_door() {
+    made=$top/crates/$1/out/lib$1.a
+    if [ -n "${RINGS_PROVED-}" ]; then
+        [ ! -s "$made" ] || return 0
+        # `rt ci` proves such a crate and builds what it stands on, but not its library
+        mkdir -p "$top/crates/$1/out"
+        # shellcheck disable=SC2046
+        static_library "$top/crates/$1" "$1" "$made" "$kit/toolchain" $(stands_on "$1") && return
+    fi
+    (cd "$top/crates/$1" && rt lib) >"$room/said" 2>&1 && [ -s "$made" ] || told "$room/said" "$1"
+}
 
 # The calls that are measured, under names that C can call. A refusal answers 255.
 calls_source() {
@@ -60,7 +136,7 @@ use walk::Outcome;
 use walk::Stepped;
 use walk::Walk;
 
-#[no_mangle]
+#[unsafe(no_mangle)]
 pub extern "C" fn bring_home(s: &[u8], k: usize, out: &mut [u8]) -> usize {
     match home::bring_home(s, k, out) {
         Homed::Home { shift, period } => shift ^ period,
@@ -68,7 +144,7 @@ pub extern "C" fn bring_home(s: &[u8], k: usize, out: &mut [u8]) -> usize {
     }
 }
 
-#[no_mangle]
+#[unsafe(no_mangle)]
 pub extern "C" fn next_ring(s: &[u8], k: usize, counts: &[usize], out: &mut [u8]) -> usize {
     match shades::next_ring(s, k, counts, out) {
         NextAnswer::Ring => 1,
@@ -113,7 +189,7 @@ fn next_bracelet(w: Walk, out: &mut [u8; 64]) -> usize {
 }
 
 // A start, and where the kind is not 0 a step behind it.
-#[no_mangle]
+#[unsafe(no_mangle)]
 pub extern "C" fn walk_on(s: &[u8], k: usize, kind: usize, out: &mut [u8; 64]) -> usize {
     let started = walk::start(s, k);
     let w = started.walk;
@@ -150,7 +226,7 @@ fn taken(p: Picked) -> usize {
     }
 }
 
-#[no_mangle]
+#[unsafe(no_mangle)]
 pub extern "C" fn pick(guarded: usize, n: usize, k: usize, d: usize, wanted: usize) -> usize {
     if guarded == 0 {
         return taken(sets::pick(n, k, d, wanted));
@@ -158,7 +234,7 @@ pub extern "C" fn pick(guarded: usize, n: usize, k: usize, d: usize, wanted: usi
     taken(sets::pick_guarded(n, k, d, wanted))
 }
 
-#[no_mangle]
+#[unsafe(no_mangle)]
 pub extern "C" fn sight(rings: &[u8], reading: &[u8], k: usize, most: usize) -> usize {
     match sight::sight(rings, reading, k, most) {
         Sighting::Front { target, .. } => target,
@@ -171,102 +247,40 @@ pub extern "C" fn sight(rings: &[u8], reading: &[u8], k: usize, most: usize) -> 
 RATTLE
 }
 
-# build_calls [KIT]: room/libcalls.a, the library of those calls for C. It is a crate that only stands here, in a repository of links to the proved crates, so that
-# neither the repository nor its gate has it. The crates are proved first where they are not yet. KIT is another toolchain's folder to build it by.
+# build_measured NAME TOOLCHAIN CRATE..: room/NAME.a, the static library of the Rattle source on standard input. It is a crate that only stands in the room, so that neither the repository nor
+# its gate has it.
+build_measured() {
+    of=$1 with=$2
+    shift 2
+    mkdir -p "$room/$of/src"
+    { printf '#![tactic(auto)]\n\n'; cat; } >"$room/$of/src/lib.rt"
+    build_libraries "$@" || return 2
+    static_library "$room/$of" "$of" "$room/$of.a" "$with" "$@" || told "$room/said" "the library for C"
+}
+
+# build_calls [TOOLCHAIN]: room/calls.a, the library of those calls for C.
 build_calls() {
-    crates='rings refusal home_spec home walk_spec walk_bracelet_spec walk shades_spec shades'
     say "what is not proved yet is proved first, which may take minutes"
-    # shellcheck disable=SC2086
-    if ! said=$(cd "$top" && rt check $crates 2>&1); then
-        printf '%s\n' "$said" >&2
-        die "the crates to be measured were not proved (see above)"
-    fi
-    mkdir -p "$room/repository/crates/calls/src" "$room/repository/target/rlib"
-    ln -s "$top/crates"/* "$room/repository/crates/"
-    ln -s "$top/target/rlib"/* "$room/repository/target/rlib/"
-    cp -R "$top/target/stamp" "$room/repository/target/stamp"
-    cp "$top/crates.txt" "$room/repository/crates.txt"
-    echo "calls: $crates" >>"$room/repository/crates.txt"
-    calls_source >"$room/repository/crates/calls/src/lib.rt"
-    if ! said=$(cd "$room/repository" && RATTLE_HOME=${1:-$kit} rt staticlib calls 2>&1); then
-        printf '%s\n' "$said" >&2
-        die "the library for C was not built (see above)"
-    fi
-    mv "$room/repository/target/staticlib/libcalls.a" "$room/libcalls.a"
-}
-
-# compile NAME [KIT]: room/NAME.a, the static library of the Rattle source on standard input, over every library of the toolchain and of the repository as source,
-# and without a proof, in seconds: for those who look at how compiled code behaves, where another run proves the same sources. KIT is as above.
-compile() {
-    name=$1 by=${2:-$kit}
-    mkdir "$room/$name"
-    cat >"$room/$name/lib.rt"
-    set -- "$room/$name/lib.rt" --crate-name "$name"
-    for source in "$kit"/libs/*/src/lib.rt "$top"/crates/*/src/lib.rt; do
-        of=${source%/src/lib.rt}
-        set -- "$@" --lib "${of##*/}=$source"
-    done
-    "$kit/on/$machine/bin/rattle-cases" --toolchain "$by/on/$machine/toolchain" --staticlib "$room/$name.a" "$@"
-}
-
-# build_programs DIR PROGRAM..: the programs in DIR, each by its own main.rt under its own name, from one static library; without a proof, as compile does.
-build_programs() {
-    into=$1
-    shift
-    {
-        for program; do grep '^use ' "$top/crates/$program/src/main.rt"; done | sort -u
-        for program; do
-            sed -e '/^use /d' -e "s/^fn main() {/#[no_mangle]\npub extern \"C\" fn program_$program() {/" "$top/crates/$program/src/main.rt"
-        done
-    } | compile joined || return 2
-    for program; do
-        echo "void program_$program(void); int main(void) { program_$program(); return 0; }" | object "main_$program" -O2 -fPIE || return 2
-        link "$into/$program" "$room/main_$program.o" "$room/joined.a" || return 2
-    done
-}
-
-# own_kit DIR: the toolchain once more, in links, but for a compiler that is told this processor as its target: what is compiled by it runs here without an emulator.
-own_kit() {
-    own=on/$machine
-    mkdir -p "$1/$own/toolchain/bin"
-    for part in "$kit"/* "$kit/$own"/* "$kit/$own/toolchain"/* "$kit/$own/toolchain/bin"/*; do
-        [ -e "$1${part#"$kit"}" ] || ln -s "$part" "$1${part#"$kit"}"
-    done
-    mv "$1/$own/toolchain/bin/clang" "$1/$own/toolchain/bin/own-clang"
-    cat >"$1/$own/toolchain/bin/clang" <<COMPILER
-#!/bin/sh
-for word do
-    shift
-    case \$word in
-    --target=*) set -- "\$@" --target=$machine-unknown-linux-gnu -Wno-override-module ;;
-    -march=*) ;;
-    *) set -- "\$@" "\$word" ;;
-    esac
-done
-exec "\$(dirname "\$0")/own-clang" "\$@" 2>/dev/null
-COMPILER
-    chmod +x "$1/$own/toolchain/bin/clang"
+    calls_source | build_measured calls "${1:-$kit/toolchain}" home walk shades
 }
 
 # ---- the stack
 
-# keep_objects: room/kit, the toolchain once more, in links, but for the compiler, which also leaves two objects in room/kit: built.o as the code is built, and apart.o
-# with no function laid into another. Both carry the compiler's own record of each function's frame.
+# keep_objects: room/kit, the toolchain's compiler and linker once more, in links, but for the compiler, which also leaves two objects in room/kit: built.o as the code is built, and
+# apart.o with no function laid into another. Both carry the compiler's own record of each function's frame.
 keep_objects() {
-    own=on/$machine
-    mkdir -p "$room/kit/$own/toolchain/bin"
-    for part in "$kit"/* "$kit/$own"/* "$kit/$own/toolchain"/* "$kit/$own/toolchain/bin"/*; do
-        [ -e "$room/kit${part#"$kit"}" ] || ln -s "$part" "$room/kit${part#"$kit"}"
-    done
-    mv "$room/kit/$own/toolchain/bin/clang" "$room/kit/$own/toolchain/bin/own-clang"
-    cat >"$room/kit/$own/toolchain/bin/clang" <<'COMPILER'
+    mkdir -p "$room/kit/bin"
+    ln -s "$lib" "$room/kit/lib"
+    for part in "$bin"/*; do ln -s "$part" "$room/kit/bin/"; done
+    mv "$room/kit/bin/clang" "$room/kit/bin/own-clang"
+    cat >"$room/kit/bin/clang" <<'COMPILER'
 #!/bin/sh
-here=$(dirname "$0") to=$(dirname "$0")/../../../..
+here=$(dirname "$0") to=$(dirname "$0")/..
 "$here/own-clang" "$@" -fstack-size-section -o "$to/built.o" || exit
 "$here/own-clang" "$@" -fstack-size-section -mllvm -inline-threshold=-1000000 -o "$to/apart.o" || exit
 exec "$here/own-clang" "$@"
 COMPILER
-    chmod +x "$room/kit/$own/toolchain/bin/clang"
+    chmod +x "$room/kit/bin/clang"
     ln -s "$bin/clang" "$room/llvm-readelf"
     ln -s "$bin/clang" "$room/llvm-objdump"
 }
@@ -297,21 +311,17 @@ deepest() {
 
 # ---- running and counting
 
-# run PROGRAM [WORD..]: by the toolchain's own loader and C library, under its emulator where the machine needs one.
-run() { ${emulator:+"$emulator"} "$loader" --library-path "$lib" "$@"; }
+# run PROGRAM [WORD..]: by the toolchain's own loader and C library.
+run() { "$loader" --library-path "$lib" "$@"; }
 
-# The way of counting: the toolchain's emulator where programs run under it; else valgrind where it is installed; else single steps of the processor, which is as
-# exact and much slower. COUNTER=steps or COUNTER=valgrind chooses among the last two.
+# The way of counting: valgrind where it is installed; else single steps of the processor, which is as exact and much slower. COUNTER=steps or COUNTER=valgrind chooses.
 choose_counter() {
     counter=${COUNTER:-}
-    if [ -n "$emulator" ]; then
-        counter=emulator
-    elif [ -z "$counter" ]; then
+    if [ -z "$counter" ]; then
         counter=steps
         ! command -v valgrind >/dev/null 2>&1 || counter=valgrind
     fi
     case $counter in
-    emulator) counted_by="the toolchain's emulator, an instruction at a time" ;;
     valgrind) counted_by=valgrind ;;
     steps) counted_by='single steps of the processor' && build_c steps ;;
     *) die "COUNTER is steps or valgrind" ;;
@@ -323,7 +333,6 @@ count() {
     counted=$(
         set -- "$loader" --library-path "$lib" "$@"
         case $counter in
-        emulator) "$emulator" -one-insn-per-tb -d exec,nochain "$@" 2>&1 >/dev/null | grep -c '^Trace' ;;
         valgrind) valgrind --vgdb=no --tool=callgrind --callgrind-out-file=/dev/null "$@" 2>&1 >/dev/null | sed -n 's/.*Collected : //p' ;;
         steps) { run "$room/steps" "$@" >/dev/null; } 2>&1 ;;
         esac
