@@ -5,8 +5,8 @@ BEGIN {
     split("std io bytes libc check os lib rings", w, " "); for (i in w) foreign[w[i]] = 1
     split("ci must-fail selftest doc version help new check verdict lib run test try fmt tidy plant all expand lemma seed names", w, " "); for (i in w) tool[w[i]] = 1
     split("requires ensures fn f32 u8 usize stdin stdout rt float lseek read_full rgb memcpy memset valgrind python3 gcc clang flock sha256sum rsvg-convert", w, " "); for (i in w) plain[w[i]] = 1
-    split("error old: new: faults pathLength stroke-dasharray RT_JOBS RINGS_EMULATOR LETTER PATH LIBRARY Lib.antt logic.lock", w, " "); for (i in w) plain[w[i]] = 1
-    split("guides/FIRST_PROOFS.md SHORTER_PROOFS.md .git/gates x86-64 x86_64 float32 Proof search src Option incremental=trusted crate File librings.so.1", w, " "); for (i in w) plain[w[i]] = 1
+    split("error old: new: faults pathLength stroke-dasharray RINGS_PROVED RINGS_EMULATOR LETTER PATH LIBRARY Lib.antt logic.lock", w, " "); for (i in w) plain[w[i]] = 1
+    split("FIRST_PROOFS.md SHORTER_PROOFS.md Invariants.antt Answers.antt rules .git/gates x86-64 x86_64 float32 Proof search src Option incremental=trusted crate File librings.so.1", w, " "); for (i in w) plain[w[i]] = 1
 }
 
 # ---- files and commands
@@ -81,6 +81,7 @@ function anywhere(word) {
 function placed(word,    c, rest, n, w, i) {
     sub(/^\.\//, "", word)
     if (word in path || ("docs/" word) in path || ("crates/" word) in path || word in part || (word ~ /\/$/)) { resolved++; return }
+    if (word ~ /^crates\/[a-z_0-9]+\/./ && word !~ /(LETTER|NAME|CRATE|FUNCTION|FILE|EDIT|[*])/ && word !~ /^crates\/crate\//) { stale("file " word); return }
     if (word in plain || word ~ /(LETTER|NAME|DIR|CRATE|FUNCTION|FILE|EDIT)/ || word ~ /^(lib|target|crate|crates\/crate)\// || word ~ /[*]/) { passed++; return }
     c = word; sub(/\/.*$/, "", c); rest = word; sub(/^[^\/]*\//, "", rest)
     if (!(c in crate)) { if (word ~ /^[0-9a-z]+ ?\/ ?[0-9a-z(]/) passed++; else stale("file " word); return }
@@ -101,7 +102,8 @@ function token(text,    word, rest, n, w, i) {
     }
     if (word ~ /^[a-z_]+\(/) { sub(/\(.*$/, "", word); anywhere(word); return }
     if (word ~ /^[^ ({]+\// && text !~ /[<>]/) { placed(word); return }
-    if (word ~ /^(lib|rings)\./ || word in plain) { passed++; return }
+    # a library's file, or a fact of a proof by its path
+    if (word ~ /^(lib|rings|c)\./ || word in plain) { passed++; return }
     if (word ~ /^[A-Z][A-Za-z0-9]*\.[A-Za-z]/) { n = split(word, w, "."); for (i = 1; i <= n; i++) anywhere(w[i]); return }
     if (text ~ / / && word !~ /^[A-Z][a-z]/) { passed++; return }
     if (word ~ /^[A-Za-z_][^({]*$/) { anywhere(word); return }
