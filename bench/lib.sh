@@ -252,10 +252,10 @@ RATTLE
 build_measured() {
     of=$1 with=$2
     shift 2
-    mkdir -p "$room/$of/src"
-    { printf '#![tactic(auto)]\n\n'; cat; } >"$room/$of/src/lib.rt"
+    mkdir -p "$room/crate-$of/src"
+    { printf '#![tactic(auto)]\n\n'; cat; } >"$room/crate-$of/src/lib.rt"
     build_libraries "$@" || return 2
-    static_library "$room/$of" "$of" "$room/$of.a" "$with" "$@" || told "$room/said" "the library for C"
+    static_library "$room/crate-$of" "$of" "$room/$of.a" "$with" "$@" || told "$room/said" "the library for C"
 }
 
 # build_calls [TOOLCHAIN]: room/calls.a, the library of those calls for C.
