@@ -12,7 +12,7 @@ use Rattle.converter_spec.specs.Converts.Sound.{ended as none}
 use Rattle.converter_blocks_spec.specs.Passes.{moved}
 use Rattle.converter_blocks_spec.proofs.Joined.{sound-joined, damage-joined, turned-joined}
 use Rattle.converter_blocks_spec.proofs.Places.{number-moved, damage-moved, damage-placed}
-use Rattle.converter_blocks_spec.proofs.Through.{goes_on_lem}
+use Rattle.converter_blocks_spec.proofs.Through.{goes_on}
 use Rattle.program_ending_inner.specs.declared.Ending.{Ending}
 use Rattle.program_ending_inner.specs.declared.Ending.TheVariants as E
 use Rattle.program_passes_inner.specs.Passes.{limit, failed_of, same_end, Course, goes_further, EndWithin, finish_at}
@@ -73,7 +73,7 @@ module _ (w : Bool) (p : ℕ) (b d : List ℕ) (v : Course) (q : Reached w p) wh
   at_on m e l (read false n i k) =
       let h : BlockBecomes w p (take n b) false (take n d) (On m) = rw e at k in
       let j : length (take n b) ≡ length b = omega (arith, i, length-take n b) in
-      (goes_on_lem (take n b) m h.1 (omega (arith, j, l)), omega (arith, j, h.1.0), on-reached w p (take n b) (take n d) m h q)
+      (goes_on (take n b) m h.1 (omega (arith, j, l)), omega (arith, j, h.1.0), on-reached w p (take n b) (take n d) m h q)
 
   at_done : (m : ℕ) → v ≡ Done m → AtSays w p b d v → (m ≤ length b) × Reached w (p + m)
   at_done m e (unread f) = absurd (let z : ◌≡◌ {A = ℕ} 1 2 = ap which (sym e ∙ f) in omega arith)

@@ -31,4 +31,3 @@ pub fn block_length(kind: Kind) -> usize
         Kind::Desk => 252,
     }
 }
-
