@@ -1,9 +1,0 @@
--- `stream_program_inner::wide_buffer` meets its contract, by the law of so many zeros: they are not counted.
-use Rattle.words.proofs.Plain.{ℕ, sym, length-replicate}
-use Rattle.stream_program_inner.proofs.wide_buffer.Tie as tie
-
-returns : tie.Need-returns
-returns c = sym (length-replicate {A = ℕ} 1048576 0)
-
-pub wide-buffer-spec : {M : Type 1} → Rattle.stream_program_inner.proofs.wide_buffer.Statement.statement M
-wide-buffer-spec = tie.close (tie.spec returns)
