@@ -10,7 +10,7 @@ ghost use Rattle.program_passes_inner.specs.Passes.{limit, failed_of, same_end, 
 use program_ending_inner::Ending;
 use program_reading_inner::Most;
 use std::fs;
-use std::fs::File;
+use std::fs::{File, OpenOptions};
 use std::io::{Read, Seek, SeekFrom};
 use std::os::unix::fs::FileTypeExt;
 use std::rt::HostRuntime;
@@ -148,10 +148,24 @@ fn is_pipe(rt: &HostRuntime) -> bool {
     }
 }
 
-// Standard input as a file with a place of its own, where it is a file that stands at its beginning.
+// Whether standard input is open for reading: where it is not, a read fails even of no byte.
+fn is_readable(rt: &HostRuntime) -> bool {
+    let mut nothing = [0u8; 0];
+    rt.stdin().read(&mut nothing).is_ok()
+}
+
+// A file that is open for writing alone, of which each read fails.
+fn open_unreadable(rt: &HostRuntime) -> Option<File> {
+    OpenOptions::new().write(true).open(rt, "/dev/null").ok()
+}
+
+// Standard input as a file with a place of its own, where it is a file that stands at its beginning. Where it is not open for reading, neither is what stands for it.
 pub fn open_input(rt: &HostRuntime) -> Option<File> {
     if is_pipe(rt) || !at_beginning(rt) {
         return None;
+    }
+    if !is_readable(rt) {
+        return open_unreadable(rt);
     }
     match File::open(rt, "/dev/stdin") {
         Ok(mut file) => {

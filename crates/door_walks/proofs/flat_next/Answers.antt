@@ -1,0 +1,12 @@
+-- `door_walks::flat_next` meets its contract.
+use Rattle.words.proofs.Needs.{refl}
+use Rattle.door_walks.proofs.flat_next.Goals as goal
+
+pub returns-in-Ring : goal.returns-in-Ring
+returns-in-Ring c = rw (c.in-Ring.is, c.value.ensures) refl
+
+pub returns-in-Done : goal.returns-in-Done
+returns-in-Done c = rw (c.in-Done.is, c.value-in-Done.ensures) refl
+
+pub returns-in-Refused : goal.returns-in-Refused
+returns-in-Refused c = rw (c.in-Refused.is, c.refused.ensures) refl
