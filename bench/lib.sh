@@ -2,7 +2,7 @@
 # toolchain's parts and makes a room for what is built, which is removed at the end. Then: build_programs, build_libraries, static_library and build_calls build, by a proof each, since the
 # toolchain compiles nothing that is not proved; build_c compiles C; keep_objects, frames and deepest tell the stack, run runs, count counts instructions.
 # Nothing but the toolchain is needed, on x86-64. Every path may have spaces.
-# Where RINGS_PROVED is set, as .ci/run sets it behind `rt ci`, what stands in the crates' out/ was proved and built from the sources as they stand, and is taken as it is.
+# Where RINGS_PROVED names a file, as .ci/run has it behind `rt ci`, what stands in the crates' out/ and is newer was proved and built by that, and is taken as it is.
 
 say() { printf '%s: %s\n' "$(basename "$0")" "$*" >&2; }
 die() { say "$*"; exit 2; }
@@ -52,10 +52,13 @@ told() {
     return 2
 }
 
+# by_gate PATH: was it made by the `rt ci` before?
+by_gate() { [ -n "${RINGS_PROVED-}" ] && [ -n "$(find "$1" -prune -newer "$RINGS_PROVED" 2>/dev/null)" ]; }
+
 # build_program PROGRAM: crates/PROGRAM/out/PROGRAM. What is not proved yet of it and of what it stands on is proved first, which may take minutes.
 build_program() {
     made=$top/crates/$1/out/$1
-    if [ -n "${RINGS_PROVED-}" ] && [ -s "$made" ]; then return; fi
+    ! by_gate "$made" || return 0
     # rt also runs it, on no input
     (cd "$top/crates/$1" && rt run </dev/null) >/dev/null 2>"$room/said" && [ -s "$made" ] || told "$room/said" "'$1'"
 }
@@ -90,10 +93,17 @@ below() {
 # stands_on CRATE: what crates.txt says that it stands on.
 stands_on() { sed -n "s/^$1\( staticlib\)\{0,1\}: *//p" "$top/crates.txt"; }
 
+# libraries_by_gate CRATE..: what a crate above these is built over, all of it made by the `rt ci` before. (Behind its run it gives a checkout back what earlier checks had left there.)
+libraries_by_gate() {
+    for crate in $(below "$@"); do
+        by_gate "$top/crates/$crate/out/rlib/$crate.rlib" || return 1
+    done
+}
+
 # build_libraries CRATE..: of each crate of the repository what the crates above it are built over, crates/CRATE/out/rlib.
 build_libraries() {
+    ! libraries_by_gate "$@" || return 0
     for crate; do
-        if [ -n "${RINGS_PROVED-}" ] && [ -d "$top/crates/$crate/out/rlib/$crate.rlib" ]; then continue; fi
         (cd "$top/crates/$crate" && rt lib) >"$room/said" 2>&1 || told "$room/said" "the library $crate" || return 2
     done
 }
@@ -115,14 +125,11 @@ static_library() {
 
 # build_door CRATE: crates/CRATE/out/libCRATE.a, the static library of a crate of the repository.
 build_door() {
-    made=$top/crates/$1/out/lib$1.a
-    if [ -n "${RINGS_PROVED-}" ]; then
-        [ ! -s "$made" ] || return 0
-        # `rt ci` proves such a crate and builds what it stands on, but not its library
-        mkdir -p "$top/crates/$1/out"
-        # shellcheck disable=SC2046
-        static_library "$top/crates/$1" "$1" "$made" "$kit/toolchain" $(stands_on "$1") && return
-    fi
+    made=$top/crates/$1/out/lib$1.a on=$(stands_on "$1")
+    ! by_gate "$made" || return 0
+    # `rt ci` proves such a crate and builds what it stands on, but not its library
+    # shellcheck disable=SC2086
+    if libraries_by_gate $on && mkdir -p "$top/crates/$1/out" && static_library "$top/crates/$1" "$1" "$made" "$kit/toolchain" $on; then return; fi
     (cd "$top/crates/$1" && rt lib) >"$room/said" 2>&1 && [ -s "$made" ] || told "$room/said" "$1"
 }
 
