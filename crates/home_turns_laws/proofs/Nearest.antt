@@ -6,9 +6,9 @@ use Rattle.words.specs.Turn.{turn}
 use Rattle.words.proofs.Split.{lt, eq, gt, tri}
 use Rattle.words.proofs.Search.{least_lt, least_at}
 use Rattle.rings.specs.Alike.{differing, apart}
-use Rattle.ring_home_laws.proofs.Alike.{apart-at, apart-turn-le}
+use Rattle.ring_home_laws.proofs.Alike.{apart-at}
 use Rattle.home_spec.specs.Turns.{as_near, nearest_turn, Steady}
-use Rattle.home_turns_laws.proofs.Steady.{one-turn}
+use Rattle.home_turns_laws.proofs.OneTurn.{one-turn}
 
 module _ (v w : List ℕ) (z : 0 < length v) where
   -- it is one by less than n

@@ -3,13 +3,13 @@
 --     not-steady                   one that is not has a turn that comes near
 --     turn-other-way               turned by i and by n - i, a reading differs from itself at as many places
 --     half-steady                  so half of the turns tell
---     one-turn                     at most one turn of r differs from a steady v at no more than e places, where 2 e is below d
-use Rattle.words.proofs.Plain.{ℕ, zero, suc, ◌+◌, ◌-◌, ◌*◌, ◌<◌, ◌≤◌, arith, ◌≡◌, refl, sym, ap, ◌∙◌, true, false, not, List, ltb, length, ltb-true, ltb-false}
+--     further                      a reading r that differs from a steady v at no more than x places differs from it, turned further on, at more than e, where x and e are together below d
+use Rattle.words.proofs.Plain.{ℕ, zero, suc, ◌+◌, ◌-◌, ◌<◌, ◌≤◌, arith, ◌≡◌, refl, sym, ap, ◌∙◌, true, false, not, List, ltb, length, ltb-true, ltb-false}
 use Rattle.words.proofs.Plain.{le-ltb}
 use Rattle.words.specs.Turn.{turn}
 use Rattle.words.proofs.Split.{passes, fails, test, lt, eq, gt, tri, clash}
 use Rattle.words.proofs.Search.{all-at, all_of, not-all}
-use Rattle.words.proofs.Turn.{length-turn, turn-back, turn-turn, turn-turn-past}
+use Rattle.words.proofs.Turn.{length-turn, turn-back}
 use Rattle.rings.specs.Alike.{differing}
 use Rattle.ring_home_laws.proofs.Alike.{differing-sym, differing-turn, differing-triangle}
 use Rattle.home_spec.specs.Turns.{turn_far, steady, Steady}
@@ -62,18 +62,10 @@ half-steady d w m b f j z h =
 -- a reading r, and a ring v that none of its own turns comes near
 module _ (d x e : ℕ) (r v : List ℕ) (size : length r ≡ length v) (steady : Steady d v) (small : x + e < d) where
   -- turned on by m from there
-  further : (i j m : ℕ) → i ≤ length r → 0 < m → m < length r → turn m (turn i r) ≡ turn j r → differing (turn i r) v ≤ x → e < differing (turn j r) v
+  pub further : (i j m : ℕ) → i ≤ length r → 0 < m → m < length r → turn m (turn i r) ≡ turn j r → differing (turn i r) v ≤ x → e < differing (turn j r) v
   further i j m h z l t near =
       let long = length-turn i r h in
       let a = differing-turn m v (turn i r) (sym size ∙ sym long) (omega arith) in
       let b = differing-triangle (turn m v) (turn m (turn i r)) v (length-turn m v (omega arith) ∙ sym size ∙ sym (length-turn m (turn i r) (omega arith) ∙ long)) in
       let c : differing (turn m (turn i r)) v ≡ differing (turn j r) v = ap (λ (y : List ℕ). differing y v) t in
       omega (arith, steady m z (omega arith), differing-sym v (turn i r))
-
-  pub one-turn : (i j : ℕ) → i < length r → j < length r → (i ≡ j → ⊥) → differing (turn i r) v ≤ x → e < differing (turn j r) v
-  one-turn i j h l other near =
-      elim (tri i j) [
-        | lt q ↦ further i j (j - i) (omega arith) (omega arith) (omega arith) (turn-turn i (j - i) r (omega arith) ∙ ap (λ (y : ℕ). turn y r) (omega arith)) near
-        | eq q ↦ absurd (other q)
-        | gt q ↦ further i j (length r - i + j) (omega arith) (omega arith) (omega arith) (turn-turn-past i (length r - i + j) j r (omega arith) (omega arith) (omega arith)) near
-      ]
