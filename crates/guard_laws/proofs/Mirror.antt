@@ -3,7 +3,7 @@
 --     apart-reverse                     and are as far apart
 --     apart-home, apart-home-right      bringing a reading home does not change how far apart it is from another
 --     apart-mirrored                    seen from the other side two rings are as far apart
---     other-side, other-front           which of the two is seen from the other side does not matter
+--     other-side                        a reading is as far from the other side of a ring as its reversal is from the ring
 --     turn_near                         a reading that, turned, differs from w at no more than e places is at most e apart from it
 use Rattle.words.proofs.Plain.{ℕ, ◌-◌, ◌<◌, ◌≤◌, arith, ◌≡◌, refl, sym, ap, ◌∙◌, List, [], ◌∷◌, reverse, reverse-cons, reverse-reverse, length, length-reverse}
 use Rattle.words.specs.Turn.{turn}
@@ -75,11 +75,6 @@ module _ (v w : List ℕ) (z : 0 < length v) (e : length v ≡ length w) where
   other-side =
       apart-home-right v (reverse w) right-long (e ∙ sym (length-reverse w))
       ∙ ap (λ (x : List ℕ). apart x (reverse w)) (sym (reverse-reverse v)) ∙ apart-reverse (reverse v) w (length-reverse v ∙ e)
-
-  -- which of two rings is seen from the other side does not matter
-  pub other-front : apart (mirrored v) w ≡ apart v (mirrored w)
-  unfolding mirrored
-  other-front = apart-home (reverse v) w left-long (length-reverse v ∙ e) ∙ sym other-side
 
 -- a reading that, turned, differs from w at no more than x places is at most x apart from it
 pub turn_near : (r w : List ℕ) (i x : ℕ) → i < length r → differing (turn i r) w ≤ x → apart r w ≤ x

@@ -1,13 +1,13 @@
 -- The guarded choice is worth what is asked of a guarded set.
 --     guarded-most      it takes at most the wanted number
 --     guarded-worth     every sentence of `GuardedWorth`, where `full` says whether the wanted number was taken
-use Rattle.words.proofs.Plain.{ℕ, ◌<◌, ◌≤◌, arith, ◌≡◌, sym, ◌∙◌, Bool, true, List, [], eqb, length, eqb-true}
+use Rattle.words.proofs.Plain.{ℕ, ◌<◌, ◌≤◌, arith, ◌≡◌, sym, ◌∙◌, Bool, List, [], eqb, length, eqb-true}
 use Rattle.set_spec.specs.Worth.{Spread}
 use Rattle.set_laws.proofs.{Choice.Extends, Choice.Settling, Worth.near-stays}
 use Rattle.set_laws.proofs.Chosen.{chosen-most, chosen-members, chosen-rising, chosen-looked, chosen_last, chosen-keeps, chosen-fewer, chosen-settled, chosen-all}
 use Rattle.guard_spec.specs.Sides.{sides, Guarded}
 use Rattle.guard_spec.specs.Choice.{joins, guarded, guarded_looked}
-use Rattle.guard_spec.specs.Worth.{Crossed, near, behind, sided, unsteady, Decided, took, left_out, GuardedWorth}
+use Rattle.guard_spec.specs.Worth.{near, behind, sided, unsteady, Decided, took, left_out, GuardedWorth}
 use Rattle.guard_laws.proofs.{Sides.Long, Joins.joins-more, Joins.joins-not}
 
 -- taken, or there is a reason against it
