@@ -3,7 +3,7 @@
 --     laid-below                each sector is one of a ring
 --     rings-laid                cut into rings they are the rings
 --     laid-passed               a reading of as many sectors and they pass the checks
-use Rattle.words.proofs.Plain.{ℕ, zero, suc, ◌+◌, ◌-◌, ◌*◌, ◌/◌, ◌%◌, ◌<◌, arith, ◌≡◌, refl, ap, ◌∙◌, List, [], ◌∷◌, ◌++◌, length, get_or, length-append}
+use Rattle.words.proofs.Plain.{ℕ, zero, suc, ◌+◌, ◌-◌, ◌*◌, ◌/◌, ◌%◌, ◌<◌, arith, ◌≡◌, ap, ◌∙◌, List, [], ◌∷◌, ◌++◌, length, get_or, length-append}
 use Rattle.words.proofs.Plain.{List·get_d-append, ext_get_or, take_at, drop-append-add, get_or-append-add}
 use native.Mathlib.Nat.{mul-suc, mul-div_right, mul-mod_right}
 use Rattle.words.specs.Readings.{Sized, Shaded, Reading}

@@ -1,7 +1,7 @@
 -- A set that was picked guarded, its rings laid end to end, and any reading of one of them: through the contracts of `sets::pick_guarded`, `sets::lay_out` and `sight::sight` alone, it
 -- is told for what it is. d is the distance of the set, and rings are looked for with up to e sectors misread.
---     sighted-front    a reading that, turned by i, differs from a ring at no more than e places, where 2 e is below d: that ring, from the front, turned by i, with as many misread
---     sighted-back     a reading whose reversal does: that ring, from behind, turned by i
+--     sighted-back     a reading whose reversal, turned by i, differs from a ring at no more than e places, where 2 e is below d: that ring, from behind, turned by i, with as many
+--                      misread (from the front: SightedFront)
 --     sighted-once     never several, where 2 e is below d
 --     front-missed     with x misread, where x and e together are below d, that ring, from the front, turned by i, or Unknown: never another and never the wrong side
 --     back-missed      the same from behind
@@ -17,12 +17,12 @@ use Rattle.guard_spec.specs.Sides.{sides}
 use Rattle.guard_laws.proofs.{Mirror.turn_near, Mirror.other-side, Sides.Long}
 use Rattle.set_pick_spec.specs.Says.{GuardChosen}
 use Rattle.set_pick_spec.proofs.Worth.{guard-worth}
-use Rattle.set_layout_spec.specs.Layout.{end_to_end, LayoutSays}
+use Rattle.set_layout_spec.specs.Layout.{LayoutSays}
 use Rattle.sight_spec.specs.{declared.Sighting.Sighting, Says.SightSays}
 use Rattle.sight_spec.specs.declared.Sighting.TheVariants.{Front, Back, Several, Unknown}
 use Rattle.sight_spec.specs.Rings.{ring_at, rings_in, sight_order}
 use Rattle.sight_laws.proofs.EndToEnd.{laid-at, rings-laid, laid-passed}
-use Rattle.sight_laws.proofs.Tells.{OrUnknown, told, missed, never-several, front-or-none, back-or-none, front-means, back-means, front-seen-not, back-seen-not}
+use Rattle.sight_laws.proofs.Tells.{OrUnknown, told, missed, never-several, front-or-none, back-or-none, front-means, back-means, back-seen-not}
 
 -- the answer p, t, f of `pick_guarded`, what `lay_out` left in the output, and the answer a of `sight` for a reading r
 module _
@@ -53,10 +53,10 @@ module _
   inside : (j : ℕ) → j < t → j < length ts
   inside j h = omega (arith, length-set-in n p t)
 
-  within : (j : ℕ) → j < t → j < length (rings_in (length r) rs)
+  pub within : (j : ℕ) → j < t → j < length (rings_in (length r) rs)
   within j h = rw cut (inside j h)
 
-  ring : (j : ℕ) → j < t → ring_at (length r) rs j ≡ place_at n p j
+  pub ring : (j : ℕ) → j < t → ring_at (length r) rs j ≡ place_at n p j
   ring j h = rw (o.1, read.long) (laid-at n ts long j (inside j h)) ∙ set-in-at n p t j h
 
   size : (j : ℕ) → j < t → length (place_at n p j) ≡ n
@@ -67,7 +67,7 @@ module _
 
   -- one ring v of the set, and u, the reading or its reversal, which differs from v at no more than x places after i turns: where it comes as near as e, it does so by i turns
   module _ (x : ℕ) (small : x + e < d) (u : List ℕ) (long-u : length u ≡ n) (j i : ℕ) (h : j < t) (l : i < n) (near : differing (turn i u) (place_at n p j) ≤ x) where
-    close : apart u (place_at n p j) ≤ x
+    pub close : apart u (place_at n p j) ≤ x
     close = turn_near u (place_at n p j) i x (omega arith) near
 
     turned_right : apart u (place_at n p j) ≤ e → (nearest_turn u (place_at n p j) ≡ i) × (apart u (place_at n p j) ≡ differing (turn i u) (place_at n p j))
@@ -111,19 +111,12 @@ module _
 
   -- ---- where no more are misread than are looked for, and 2 e is below d
 
+  -- it is not Unknown
+  pub seen : (b : Sighting) → (a ≡ Unknown → ⊥) → OrUnknown a b → a ≡ b
+  seen b no_one (told q) = q
+  seen b no_one (missed q) = absurd (no_one q)
+
   module _ (small : 2 * e < d) where
-    -- it is not Unknown
-    seen : (b : Sighting) → (a ≡ Unknown → ⊥) → OrUnknown a b → a ≡ b
-    seen b no_one (told q) = q
-    seen b no_one (missed q) = absurd (no_one q)
-
-    pub sighted-front : (j i : ℕ) → j < t → i < n → differing (turn i r) (place_at n p j) ≤ e → a ≡ Front j i (differing (turn i r) (place_at n p j))
-    sighted-front j i h l near =
-        seen (Front j i (differing (turn i r) (place_at n p j))) (λ q. not-unknown (subst (SightSays rs r k e) q s)) (front-missed e (omega arith) j i h l near)
-      where
-        not-unknown : SightSays rs r k e Unknown → ⊥
-        not-unknown u = front-seen-not rs r k e j u (within j h) (rw (ring j h) (close e (omega arith) r read.long j i h l near))
-
     pub sighted-back : (j i : ℕ) → j < t → i < n → differing (turn i (reverse r)) (place_at n p j) ≤ e → a ≡ Back j i (differing (turn i (reverse r)) (place_at n p j))
     sighted-back j i h l near =
         seen (Back j i (differing (turn i (reverse r)) (place_at n p j))) (λ q. not-unknown (subst (SightSays rs r k e) q s)) (back-missed e (omega arith) j i h l near)
