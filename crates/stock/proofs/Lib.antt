@@ -1,2 +1,3 @@
--- Bytes and their readings (Bits), and the rule of a table of bytes (Table).
+-- The table of bytes with its computed test (Table), and the rule that each of its entries follows (Entries).
 pub mod Table
+pub mod Entries

@@ -1,10 +1,11 @@
--- The table's 256 entries, and one computed test that carries the rule to each of them.
-use Rattle.words.proofs.Plain.{ℕ, ◌<◌, arith, ◌≡◌, refl, ◌∙◌, Bool, true, List, [], ◌∷◌, eqb, get_or, eqb-true}
+-- The table's 256 entries, and one computed test of all of them.
+--     homes        the table
+--     right        the test of an entry
+--     all_right    every entry passes it
+use Rattle.words.proofs.Plain.{ℕ, ◌≡◌, refl, Bool, true, List, [], ◌∷◌, eqb, get_or}
 use Rattle.words.specs.Search.{all_below}
-use Rattle.words.proofs.Search.{all-at}
 use Rattle.rings.specs.Open.{open-all}
 use Rattle.stock_spec.specs.Stock.{bits, byte_of_sectors, home_byte}
-use Rattle.stock_spec.proofs.Bits.{home-d0}
 
 -- the table of src/lib.rt
 unfoldable pub homes : List ℕ
@@ -27,19 +28,10 @@ homes =
     15 ∷ 31 ∷ 47 ∷ 63 ∷ 61 ∷ 95 ∷ 111 ∷ 127 ∷ 31 ∷ 63 ∷ 95 ∷ 127 ∷ 63 ∷ 127 ∷ 127 ∷ 255 ∷ []
 
 -- entry b is the home reading of the byte b
-right : ℕ → Bool
+unfoldable pub right : ℕ → Bool
 right b = eqb (get_or homes b 0) (home_byte b)
 
 -- the test passes at every byte
-all_right : all_below 256 right ≡ true
+pub all_right : all_below 256 right ≡ true
 unfolding homes right home_byte bits byte_of_sectors open-all
 all_right = refl
-
--- so each entry follows the rule
-pub entry : (b : ℕ) → b < 256 → get_or homes b 0 ≡ home_byte b
-unfolding right
-entry b h = eqb-true (get_or homes b 0) (home_byte b) (all-at 256 right all_right b h)
-
--- entry D0 is 0D (hexadecimal)
-pub entry-d0 : get_or homes 0xD0 0 ≡ 0x0D
-entry-d0 = entry 0xD0 (omega arith) ∙ home-d0

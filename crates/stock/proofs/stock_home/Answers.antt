@@ -1,6 +1,6 @@
 -- `stock::stock_home` meets its contract: each entry of the table follows the rule.
 use Rattle.words.proofs.Needs.{rules}
-use Rattle.stock.proofs.Table.{homes, entry}
+use Rattle.stock.proofs.{Table.homes, Entries.entry}
 use Rattle.stock.proofs.stock_home.Goals as goal
 
 pub returns : goal.returns
