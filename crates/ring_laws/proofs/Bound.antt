@@ -110,7 +110,8 @@ bound-lyn (suc f) k w reading pos pre h b =
         let e = next_here necklace necklace-prenecklace k w reading pre z q in
         rw e.0 (omega (arith, e.1))
 
-    on : 0 < last_low k w → necklace (next_prenecklace k w) ≡ false → moves k (next_prenecklace k w) (next_of necklace k (next_prenecklace k w)) ≤ length (next_prenecklace k w) - lyn (next_prenecklace k w) →
+    on : 0 < last_low k w → necklace (next_prenecklace k w) ≡ false → moves k (next_prenecklace k w) (next_of necklace k (next_prenecklace k w)) ≤ length
+        (next_prenecklace k w) - lyn (next_prenecklace k w) →
         moves k w (next_of necklace k w) ≤ length w - lyn w
     on z q l =
         omega (arith, moves-skip necklace necklace-prenecklace k w reading pre z q, length-next k w, next-lyn-low k w z pre, lyn-rises k w reading pos pre z h)

@@ -83,7 +83,8 @@ module _ (al rem : List ℕ) (c : Completing al rem) where
   -- there are no letters
   pub test-none : (b : ℕ) → Least rem b → b ≡ length rem → Decides al rem true
   unfolding sum_of
-  test-none b p e = completed-yes al rem (subst (Completed al) (sym (empty (letters rem) (length-letters 0 rem ∙ zero-sum rem (λ x h. p.none x (omega arith))))) (made_none al some-al lyn-al))
+  test-none b p e = completed-yes al rem (subst (Completed al) (sym (empty (letters rem) (length-letters 0 rem ∙ zero-sum rem (λ x h. p.none x (omega arith)))))
+      (made_none al some-al lyn-al))
     where
       zero-sum : (rem : List ℕ) → ((x : ℕ) → x < length rem → get_or rem x 0 ≡ 0) → sum_of rem ≡ 0
       zero-sum [] h = refl
@@ -137,7 +138,13 @@ module _ (al rem : List ℕ) (c : Completing al rem) where
 
     -- al begins with it and goes on
     pub test-opened : (b < get_or al 0 0 → ⊥) → (get_or al 0 0 < b → ⊥) → (length al ≡ 1 → ⊥) → Opened al rem b
-    test-opened h k e = record { completing = c; least = p; left = inside; begins = elim (tri (get_or al 0 0) b) [ lt q ↦ absurd (k q) | eq q ↦ q | gt q ↦ absurd (h q) ]; long = omega (arith, some-al) }
+    test-opened h k e = record {
+      completing = c;
+      least = p;
+      left = inside;
+      begins = elim (tri (get_or al 0 0) b) [ lt q ↦ absurd (k q) | eq q ↦ q | gt q ↦ absurd (h q) ];
+      long = omega (arith, some-al);
+    }
 
 -- ---- the loop
 
@@ -194,7 +201,13 @@ test-start al rem b num p size numbered = record {
   small = p.completing.small;
   word = λ i. (i - 64) ∷ [];
   spelled =
-      record { letter = λ i h k. refl; node = λ i h k. absurd (omega arith); onward = λ i h k. absurd (omega arith); inside = λ i h k. absurd (omega arith); short = λ i h k. absurd (omega arith) };
+      record {
+        letter = λ i h k. refl;
+        node = λ i h k. absurd (omega arith);
+        onward = λ i h k. absurd (omega arith);
+        inside = λ i h k. absurd (omega arith);
+        short = λ i h k. absurd (omega arith);
+      };
   groups = length rem - suc b;
   ends = omega (arith, p.left);
   grouped =
@@ -357,7 +370,8 @@ module _ {al rem : List ℕ} {first q a f e : ℕ} {num pre next : List ℕ} (t 
             group-pushed g (omega (arith, f-is, g-at))
             (subst (λ x. Grouped al (letters rem) (take a al) q t.word (sec num) x (suc c)) (sym f-is) more) (opens al a t.within)
             (positive (get_or num g 0) z) h word' (sec num') (word-here f' refl)
-            (get_or-set_same num f' (get_or num g 0) 0 (omega (arith, t.size, inside))) (λ i k l. word-other i (λ q. omega arith)) (λ i k l. get_or-set_other num f' i (get_or num g 0) 0 (λ q. omega arith));
+            (get_or-set_same num f' (get_or num g 0) 0 (omega (arith, t.size, inside))) (λ i k l. word-other i (λ q. omega arith))
+            (λ i k l. get_or-set_other num f' i (get_or num g 0) 0 (λ q. omega arith));
       }
 
     -- each copy of the least word takes one of its words behind it
@@ -454,7 +468,8 @@ pub record Bounds (al : List ℕ) (first q a f e x : ℕ) (num pre next : List �
   pub within : a < length al
   pub small : length al ≤ 64
 
-pub test-bounds : {al rem : List ℕ} {first q a f e : ℕ} {num pre next : List ℕ} → Testing al rem first q a f e num pre next → (e ≡ f → ⊥) → Bounds al first q a f e (get_or num (e - 1) 0) num pre next
+pub test-bounds : {al rem : List ℕ} {first q a f e : ℕ} {num pre next : List ℕ} → Testing al rem first q a f e num pre next → (e ≡ f → ⊥) → Bounds al first q a
+    f e (get_or num (e - 1) 0) num pre next
 test-bounds {f = f} {e = e} t other = record {
   size = t.size;
   slots = t.slots;

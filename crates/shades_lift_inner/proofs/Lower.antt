@@ -123,7 +123,8 @@ begins-lyn u b r h =
         ]
 
 -- a shade and a lesser one behind it change places
-pub lower-necklace : (u v w : List ℕ) (b c : ℕ) → b < c → lyndon (u ++ b ∷ []) ≡ true → lyndon (u ++ c ∷ []) ≡ true → necklace (u ++ c ∷ (v ++ b ∷ w)) ≡ true → necklace (u ++ b ∷ (v ++ c ∷ w)) ≡ true
+pub lower-necklace : (u v w : List ℕ) (b c : ℕ) → b < c → lyndon (u ++ b ∷ []) ≡ true → lyndon (u ++ c ∷ []) ≡ true → necklace (u ++ c ∷ (v ++ b ∷ w)) ≡ true →
+    necklace (u ++ b ∷ (v ++ c ∷ w)) ≡ true
 unfolding lyndon
 lower-necklace u v w b c less lb lc h = both_left (necklace new) (eqb (period new) (length new)) (lyndon-of new (omega (arith, many, long)) (subst (Lyn (sec new)) (sym many) lyn))
   where
@@ -169,7 +170,12 @@ lower-necklace u v w b c less lb lc h = both_left (necklace new) (eqb (period ne
     lyn =
         lower-lyn (sec old) (sec new) (length old) (length u) j (omega (arith, far)) (omega (arith, far, long)) keep
         (omega (arith, less, get_or_at u b (v ++ c ∷ w) 0 (length u) refl, get_or_at u c (v ++ b ∷ w) 0 (length u) refl))
-        (omega (arith, less, ap (λ x. sec x j) old-parts ∙ get_or_at (u ++ c ∷ v) b w 0 j refl, ap (λ x. sec x j) new-parts ∙ get_or_at (u ++ b ∷ v) c w 0 j (omega (arith, far, length-append u (b ∷ v)))))
+        (omega (
+          arith,
+          less,
+          ap (λ x. sec x j) old-parts ∙ get_or_at (u ++ c ∷ v) b w 0 j refl,
+          ap (λ x. sec x j) new-parts ∙ get_or_at (u ++ b ∷ v) c w 0 j (omega (arith, far, length-append u (b ∷ v))),
+        ))
         (λ i. sec (turn i old)) (λ i k. turned old i (omega arith)) (neck-of old h) (begins-lyn u c (v ++ b ∷ w) lc) (begins-lyn u b (v ++ c ∷ w) lb)
 
 -- a word cut at a letter that stands in it
@@ -191,7 +197,8 @@ cut_at b (a ∷ v) h =
     onward c = record { front = a ∷ c.front; back = c.back; whole = ap (λ x. a ∷ x) c.whole }
 
 -- what fits with a shade fits with each lesser one that is left
-pub lower-fitting : (u : List ℕ) (b c : ℕ) (rem : List ℕ) → b < c → lyndon (u ++ b ∷ []) ≡ true → lyndon (u ++ c ∷ []) ≡ true → (get_or rem b 0 ≡ 0 → ⊥) → Fitting u c rem → Fitting u b rem
+pub lower-fitting : (u : List ℕ) (b c : ℕ) (rem : List ℕ) → b < c → lyndon (u ++ b ∷ []) ≡ true → lyndon (u ++ c ∷ []) ≡ true → (get_or rem b 0 ≡ 0 → ⊥) →
+    Fitting u c rem → Fitting u b rem
 unfolding occurs
 lower-fitting u b c rem less lb lc z f = go (cut_at b f.rest (omega (arith, f.letters b, occurs-other c b f.rest (λ q. omega arith))))
   where
@@ -203,6 +210,7 @@ lower-fitting u b c rem less lb lc z f = go (cut_at b f.rest (omega (arith, f.le
     }
 
 -- what is barred to a shade that is left is barred to each greater one
-pub barred-above : (u : List ℕ) (b c : ℕ) (rem : List ℕ) → b < c → lyndon (u ++ b ∷ []) ≡ true → lyndon (u ++ c ∷ []) ≡ true → (get_or rem b 0 ≡ 0 → ⊥) → Barred u b rem → Barred u c rem
+pub barred-above : (u : List ℕ) (b c : ℕ) (rem : List ℕ) → b < c → lyndon (u ++ b ∷ []) ≡ true → lyndon (u ++ c ∷ []) ≡ true → (get_or rem b 0 ≡ 0 → ⊥) → Barred
+    u b rem → Barred u c rem
 barred-above u b c rem less lb lc z barred v letters whole =
     let f = lower-fitting u b c rem less lb lc z (record { rest = v; letters = letters; whole = whole }) in barred f.rest f.letters f.whole

@@ -24,7 +24,8 @@ module _ (s : List ℕ) (p : ℕ) (w : List ℕ) where
   agrees-all i b a =
       let long = length-tab (length w) (λ h. get_or s ((p + h) % length s) 0) in
       sym (true_same (tab (length w) (λ h. get_or s ((p + h) % length s) 0)) w
-      (ext_get_or 0 (tab (length w) (λ h. get_or s ((p + h) % length s) 0)) w long (λ j h. get_d-tab (length w) (λ h. get_or s ((p + h) % length s) 0) j 0 (omega (arith, long)) ∙ a j (omega (arith, long)))))
+      (ext_get_or 0 (tab (length w) (λ h. get_or s ((p + h) % length s) 0)) w long
+      (λ j h. get_d-tab (length w) (λ h. get_or s ((p + h) % length s) 0) j 0 (omega (arith, long)) ∙ a j (omega (arith, long)))))
 
   pub agrees-not : (i : ℕ) → i < length w → (get_or s ((p + i) % length s) 0 ≡ get_or w i 0 → ⊥) → false ≡ same (window (length w) s p) w
   unfolding window

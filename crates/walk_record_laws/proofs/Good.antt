@@ -50,7 +50,8 @@ module _ (v : List ℕ) (c found : Class) (is : found ≡ class_of v) where
   unfolding on_walk
   on-class h t u =
       sym (both (prenecklace v) (same_class c (class_of v)) (tight-class v (rw is at h))
-      (both (eqb (tag_of c) (tag_of (class_of v))) (eqb (value_of c) (value_of (class_of v))) (eq-eqb (tag_of c) (tag_of (class_of v)) (rw is at t)) (eq-eqb (value_of c) (value_of (class_of v)) (rw is at u))))
+      (both (eqb (tag_of c) (tag_of (class_of v))) (eqb (value_of c) (value_of (class_of v))) (eq-eqb (tag_of c) (tag_of (class_of v)) (rw is at t))
+      (eq-eqb (value_of c) (value_of (class_of v)) (rw is at u))))
 
 -- ---- a record that passed its checks
 
@@ -130,7 +131,8 @@ module _ (w : Walk) (good : Passed (walk_asked w)) (size : length w.ring ≡ 64)
       get_or-drop w.n w.ring i 0 ∙ z ∙ sym (get_or-replicate (64 - w.n) i 0 0 (omega (arith, length-drop w.n w.ring))))
 
 -- the record that a step makes is the record of its ring
-module _ (kind : K.Kind) (w : Walk) (v : List ℕ) (p : ℕ) (good : Passed (walk_asked w)) (size : length w.ring ≡ 64) (next : next_of (kind_of kind) w.k (ring_of w) ≡ some v) (is : lyn v ≡ p) where
+module _ (kind : K.Kind) (w : Walk) (v : List ℕ) (p : ℕ) (good : Passed (walk_asked w)) (size : length w.ring ≡ 64)
+    (next : next_of (kind_of kind) w.k (ring_of w) ≡ some v) (is : lyn v ≡ p) where
   pub moved-long : length v ≡ w.n
   moved-long = (next-facts (kind_of kind) w.k (ring_of w) v next).0.long ∙ good-long w good size
 
@@ -150,7 +152,8 @@ module _ (kind : K.Kind) (w : Walk) (v : List ℕ) (p : ℕ) (good : Passed (wal
       class : class_at w.n p ≡ class_of v
       class =
           sym
-          (class-at v (lyn v) (lyn-run v (omega (arith, moved-long, (good-ready w good size).pos, good-long w good size)) (kind-only kind v (next-facts (kind_of kind) w.k (ring_of w) v next).2))
+          (class-at v (lyn v) (lyn-run v (omega (arith, moved-long, (good-ready w good size).pos, good-long w good size))
+          (kind-only kind v (next-facts (kind_of kind) w.k (ring_of w) v next).2))
           ∙ ap (λ (x : ℕ). class_at x (lyn v)) moved-long
           ∙ ap (class_at w.n) is)
 
@@ -209,5 +212,6 @@ walk-good n k v sized shaded reading pre =
         past : (i : ℕ) → length v ≤ i → get_or (laid_out v) i 0 < ring_limit (length v) k i
         past i l =
             let q : length v + (i - length v) ≡ i = omega arith in
-            let z : get_or (laid_out v) i 0 ≡ 0 = ap (λ (x : ℕ). get_or (laid_out v) x 0) (sym q) ∙ get_or-append-add v (zeros (64 - length v)) (i - length v) 0 ∙ zeros-at (64 - length v) (i - length v) in
+            let z : get_or (laid_out v) i 0 ≡ 0 = ap (λ (x : ℕ). get_or (laid_out v) x 0) (sym q) ∙ get_or-append-add v (zeros (64 - length v)) (i - length v) 0
+            ∙ zeros-at (64 - length v) (i - length v) in
             omega (arith, z, limit-past (length v) k i l)

@@ -27,7 +27,12 @@ slice_bounds-take_block-end-4 c =
 
 pub take_block-requires : goal.take_block-requires
 take_block-requires c =
-    let s = part-within _ _ c.read_block-part.ensures c.if-part.false in record { at_lt_limit = c.requires.at_lt_limit; block_len_bound = simp length-take (omega (arith, s, c.requires.buffers_fit.short, c.block-1.given)); len = simp length-take (omega (arith, s, c.requires.buffers_fit.same, c.block-1.given)) }
+    let s = part-within _ _ c.read_block-part.ensures c.if-part.false in
+    record {
+      at_lt_limit = c.requires.at_lt_limit;
+      block_len_bound = simp length-take (omega (arith, s, c.requires.buffers_fit.short, c.block-1.given));
+      len = simp length-take (omega (arith, s, c.requires.buffers_fit.same, c.block-1.given));
+    }
 
 pub returns : goal.returns
 returns c =

@@ -16,7 +16,13 @@ pub returns-then-k-gt-MOST_SHADES : goal.returns-then-k-gt-MOST_SHADES
 returns-then-k-gt-MOST_SHADES c = (inl (inl (inr ((omega arith, omega arith), inl (refl, λ s. absurd (omega (arith, s.1)))))), refl)
 
 pub returns-then-not-is_good : goal.returns-then-not-is_good
-returns-then-not-is_good c = (inl (inl (inr ((omega arith, omega arith), inr ((omega arith, omega arith), (refl, λ g. clash _ (c.is_good.ensures ∙ g) (not-true _ c.if-not-is_good.true-raw)))))), refl)
+returns-then-not-is_good c = (
+  inl (inl (inr (
+    (omega arith, omega arith),
+    inr ((omega arith, omega arith), (refl, λ g. clash _ (c.is_good.ensures ∙ g) (not-true _ c.if-not-is_good.true-raw))),
+  ))),
+  refl,
+)
 
 pub returns-then-out-n : goal.returns-then-out-n
 returns-then-out-n c =
@@ -25,8 +31,13 @@ returns-then-out-n c =
 
 pub returns-then-at-n : goal.returns-then-at-n
 returns-then-at-n c =
-    let good : _ ≡ true = sym c.is_good.ensures ∙ not-false _ c.if-not-is_good.false-raw in
-    (inr ((((omega arith, omega arith), ((omega arith, omega arith), good)), omega arith), (_, refl, record { within = c.if-at-n.true; first = c.first_unreadable-at.ensures.before; here = c.first_unreadable-at.ensures.here c.if-at-n.true })), refl)
+    let good : _ ≡ true = sym c.is_good.ensures ∙ not-false _ c.if-not-is_good.false-raw in (
+      inr (
+        (((omega arith, omega arith), ((omega arith, omega arith), good)), omega arith),
+        (_, refl, record { within = c.if-at-n.true; first = c.first_unreadable-at.ensures.before; here = c.first_unreadable-at.ensures.here c.if-at-n.true }),
+      ),
+      refl,
+    )
 
 pub write_shades-requires : goal.write_shades-requires
 write_shades-requires c = ((omega arith, omega arith), (λ i h. c.first_unreadable-at.ensures.before i (omega arith)), omega arith)

@@ -11,7 +11,12 @@ returns-then-not-spell c =
 
 pub answer_about-requires : goal.answer_about-requires
 answer_about-requires c =
-    let l = c.spell.auto.out ∙ c.requires.w_len in record { w_len_bound = omega (arith, l, c.requires.t_len_bound); out_value = c.requires.out_value ∙ ap blank (sym l); desk_room_in_bounds = c.requires.desk_room_in_bounds }
+    let l = c.spell.auto.out ∙ c.requires.w_len in
+    record {
+      w_len_bound = omega (arith, l, c.requires.t_len_bound);
+      out_value = c.requires.out_value ∙ ap blank (sym l);
+      desk_room_in_bounds = c.requires.desk_room_in_bounds;
+    }
 
 pub returns : goal.returns
 returns c =

@@ -19,7 +19,12 @@ pub slice_bounds-ask_both-end-6 : goal.slice_bounds-ask_both-end-6
 slice_bounds-ask_both-end-6 c = simp length-take (omega (arith, c.requires.t_in_bounds_2))
 
 pub ask_both-requires : goal.ask_both-requires
-ask_both-requires c = record { a_len = simp length-take (omega (arith, c.requires.t_in_bounds, c.piece_end-e.ensures.within)); b_len = simp (length-take, length-drop) (omega (arith, c.requires.t_in_bounds_2)); desk_room_in_bounds = c.requires.desk_room_in_bounds }
+ask_both-requires c =
+    record {
+      a_len = simp length-take (omega (arith, c.requires.t_in_bounds, c.piece_end-e.ensures.within));
+      b_len = simp (length-take, length-drop) (omega (arith, c.requires.t_in_bounds_2));
+      desk_room_in_bounds = c.requires.desk_room_in_bounds;
+    }
 
 pub returns : goal.returns
 returns c =

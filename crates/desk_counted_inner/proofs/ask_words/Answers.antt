@@ -17,7 +17,13 @@ slice_bounds-ask_ring-end-4 c =
     simp length-take (omega (arith, c.piece_end-e.ensures.within, c.requires.t_in_bounds))
 
 pub ask_ring-requires : goal.ask_ring-requires
-ask_ring-requires c = record { s_len_bound = simp length-take (omega (arith, c.piece_end-e.ensures.within, c.requires.t_len_bound)); t_len_bound = simp (length-take, length-drop) (omega (arith, c.requires.t_len_bound)); w_len = simp length-take (omega (arith, c.piece_end-e.ensures.within, c.requires.t_in_bounds)); desk_room_in_bounds = c.requires.desk_room_in_bounds }
+ask_ring-requires c =
+    record {
+      s_len_bound = simp length-take (omega (arith, c.piece_end-e.ensures.within, c.requires.t_len_bound));
+      t_len_bound = simp (length-take, length-drop) (omega (arith, c.requires.t_len_bound));
+      w_len = simp length-take (omega (arith, c.piece_end-e.ensures.within, c.requires.t_in_bounds));
+      desk_room_in_bounds = c.requires.desk_room_in_bounds;
+    }
 
 pub returns : goal.returns
 returns c =

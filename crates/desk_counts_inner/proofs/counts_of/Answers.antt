@@ -36,7 +36,8 @@ pub returns-in_default : goal.returns-in_default
 returns-in_default c =
     let h = rw (rest_all c.args.t.now c.loop-x.at) at (rw c.in_default.is at c.head_at.ensures) in
     let l = rw (rest_all c.args.t.now c.loop-x.at) at c.last_count.ensures in
-    begun-end c.args.t.now c.loop-x.out c.loop-x.m c.loop-x.at c.loop-x.invariant.0 (omega (arith, c.loop-x.invariant.0.few, c.loop-x.invariant.0.within, c.loop-x.invariant.1, c.requires.t_in_bounds)) h c.last_count.result c.last_count.new.out l
+    begun-end c.args.t.now c.loop-x.out c.loop-x.m c.loop-x.at c.loop-x.invariant.0
+    (omega (arith, c.loop-x.invariant.0.few, c.loop-x.invariant.0.within, c.loop-x.invariant.1, c.requires.t_in_bounds)) h c.last_count.result c.last_count.new.out l
 
 pub offset_bounds-out-m : goal.offset_bounds-out-m
 offset_bounds-out-m c =
@@ -62,5 +63,8 @@ loop-x-smaller c =
 
 pub loop-x-preserved : goal.loop-x-preserved
 loop-x-preserved c =
-    let h = rw (rest_all c.args.t.now c.loop-x.at) at (rw c.in-Number.is at c.head_at.ensures) in
-    (begun_more c.args.t.now c.loop-x.out c.loop-x.m c.loop-x.at c.loop-x.invariant.0 (omega (arith, c.loop-x.invariant.0.few, c.loop-x.invariant.0.within, c.loop-x.invariant.1, c.requires.t_in_bounds)) _ _ h, length-set c.loop-x.out c.loop-x.m _ ∙ c.loop-x.invariant.1)
+    let h = rw (rest_all c.args.t.now c.loop-x.at) at (rw c.in-Number.is at c.head_at.ensures) in (
+      begun_more c.args.t.now c.loop-x.out c.loop-x.m c.loop-x.at c.loop-x.invariant.0
+          (omega (arith, c.loop-x.invariant.0.few, c.loop-x.invariant.0.within, c.loop-x.invariant.1, c.requires.t_in_bounds)) _ _ h,
+      length-set c.loop-x.out c.loop-x.m _ ∙ c.loop-x.invariant.1,
+    )

@@ -20,11 +20,17 @@ returns-then-v-gt15 c =
 
 pub loop-i-preserved : goal.loop-i-preserved
 loop-i-preserved c =
-    let d = ⊎_elim (λ x. x) (λ x. absurd (omega (arith, c.if-v-gt15.false, x.0))) c.value_of-v.ensures in
-    (simp length-set c.loop-i.invariant.0, simp length-set c.loop-i.invariant.1, upto-digit _ _ c.loop-i.i c.loop-i.m c.loop-i.c c.loop-i.invariant.2 c.loop-i-test.true _ d.0 d.1 (omega (arith, c.loop-i-test.true, c.loop-i.invariant.0, c.loop-i.invariant.2.short)))
+    let d = ⊎_elim (λ x. x) (λ x. absurd (omega (arith, c.if-v-gt15.false, x.0))) c.value_of-v.ensures in (
+      simp length-set c.loop-i.invariant.0,
+      simp length-set c.loop-i.invariant.1,
+      upto-digit _ _ c.loop-i.i c.loop-i.m c.loop-i.c c.loop-i.invariant.2 c.loop-i-test.true _ d.0 d.1
+          (omega (arith, c.loop-i-test.true, c.loop-i.invariant.0, c.loop-i.invariant.2.short)),
+    )
 
 pub shape_of-out : goal.shape_of-out
 shape_of-out c = c.loop-i.invariant.1
 
 pub returns : goal.returns
-returns c = upto-end _ _ c.loop-i.i _ _ c.loop-i.invariant.2 (omega (arith, c.loop-i-test.false)) (omega (arith, c.loop-i.invariant.0, c.loop-i.invariant.2.short, c.loop-i.invariant.2.inside))
+returns c =
+    upto-end _ _ c.loop-i.i _ _ c.loop-i.invariant.2 (omega (arith, c.loop-i-test.false))
+    (omega (arith, c.loop-i.invariant.0, c.loop-i.invariant.2.short, c.loop-i.invariant.2.inside))

@@ -10,7 +10,12 @@ pub slice_bounds-answer_shades-end : goal.slice_bounds-answer_shades-end
 slice_bounds-answer_shades-end c = simp length-take (omega (arith, c.write_floats.auto, c.requires.s_len_bound))
 
 pub answer_shades-requires : goal.answer_shades-requires
-answer_shades-requires c = record { in_bounds = simp length-take (omega (arith, c.write_floats.auto, c.requires.in_bounds, c.requires.s_len_bound)); xs_len_bound = simp length-take (omega (arith, c.write_floats.auto, c.requires.s_len_bound)); desk_room_in_bounds = c.requires.desk_room_in_bounds }
+answer_shades-requires c =
+    record {
+      in_bounds = simp length-take (omega (arith, c.write_floats.auto, c.requires.in_bounds, c.requires.s_len_bound));
+      xs_len_bound = simp length-take (omega (arith, c.write_floats.auto, c.requires.s_len_bound));
+      desk_room_in_bounds = c.requires.desk_room_in_bounds;
+    }
 
 pub returns : goal.returns
 returns c =

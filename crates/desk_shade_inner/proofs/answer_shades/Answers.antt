@@ -9,4 +9,10 @@ slice_bounds-answer_ring-end c = simp length-take (omega (arith, c.requires.xs_l
 
 pub answer_ring-requires : goal.answer_ring-requires
 answer_ring-requires c =
-    let e = take-blank (length c.args.xs.now - 2) 512 (omega (arith, c.requires.xs_len_bound)) ∙ ap blank (sym (length-drop 2 c.args.xs.now)) in record { in_bounds = omega (arith, c.if-xs-eq3.false, c.requires.in_bounds); out_len_bound = simp length-take (omega (arith, c.requires.xs_len_bound)); out_value = e; desk_room_in_bounds = c.requires.desk_room_in_bounds }
+    let e = take-blank (length c.args.xs.now - 2) 512 (omega (arith, c.requires.xs_len_bound)) ∙ ap blank (sym (length-drop 2 c.args.xs.now)) in
+    record {
+      in_bounds = omega (arith, c.if-xs-eq3.false, c.requires.in_bounds);
+      out_len_bound = simp length-take (omega (arith, c.requires.xs_len_bound));
+      out_value = e;
+      desk_room_in_bounds = c.requires.desk_room_in_bounds;
+    }

@@ -26,7 +26,13 @@ slice_bounds-answer_digits-end-in-Spelt c =
 pub answer_digits-requires : goal.answer_digits-requires
 answer_digits-requires c =
     let s = rw c.in-Spelt.is at c.spell_words.ensures in
-    let f = spelt-floats _ _ _ _ s (rw (not-false c.all_eight.result c.if-not-all_eight.false-raw) at c.all_eight.ensures) in record { in_bounds = f.0; s_len_bound = omega (arith, f.1, s.room, c.spell_words.auto, c.requires.s_len_bound); nibbles = f.2; desk_room_in_bounds = c.requires.desk_room_in_bounds }
+    let f = spelt-floats _ _ _ _ s (rw (not-false c.all_eight.result c.if-not-all_eight.false-raw) at c.all_eight.ensures) in
+    record {
+      in_bounds = f.0;
+      s_len_bound = omega (arith, f.1, s.room, c.spell_words.auto, c.requires.s_len_bound);
+      nibbles = f.2;
+      desk_room_in_bounds = c.requires.desk_room_in_bounds;
+    }
 
 pub returns-in-Malformed : goal.returns-in-Malformed
 returns-in-Malformed c =

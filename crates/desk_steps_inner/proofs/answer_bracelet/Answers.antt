@@ -4,7 +4,11 @@ use Rattle.desk_steps_inner.proofs.Rings.{ring-short}
 use Rattle.desk_steps_inner.proofs.answer_bracelet.Goals as goal
 
 pub place_arrival-requires : goal.place_arrival-requires
-place_arrival-requires c = record { ring_len_bound = ring-short c.args.w.now _ _ c.requires.w_len_bound c.requires.out_value c.next_bracelet-a.auto.out; desk_room_in_bounds = c.requires.desk_room_in_bounds }
+place_arrival-requires c =
+    record {
+      ring_len_bound = ring-short c.args.w.now _ _ c.requires.w_len_bound c.requires.out_value c.next_bracelet-a.auto.out;
+      desk_room_in_bounds = c.requires.desk_room_in_bounds;
+    }
 
 pub returns : goal.returns
 returns c =

@@ -6,7 +6,12 @@ use Rattle.files_end_inner.proofs.place_damage.Goals as goal
 
 pub place_two-requires : goal.place_two-requires
 place_two-requires c =
-    omega (arith, c.requires, damage-short c.number-number.result c.place-place.result (search rules) (search rules), damage-short c.place-place.result c.number-number.result (search rules) (search rules))
+    omega (
+      arith,
+      c.requires,
+      damage-short c.number-number.result c.place-place.result (search rules) (search rules),
+      damage-short c.place-place.result c.number-number.result (search rules) (search rules),
+    )
 
 pub returns-in-Read : goal.returns-in-Read
 returns-in-Read c =

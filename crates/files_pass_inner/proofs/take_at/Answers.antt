@@ -18,7 +18,11 @@ slice_bounds-take_block-end-2 c =
 
 pub take_block-requires : goal.take_block-requires
 take_block-requires c =
-    let s = part-within _ _ c.read_block-part.ensures c.if-part.false in record { at_lt_limit = c.requires.at_lt_limit; small_file = record { short = simp length-take (omega (arith, s, c.requires.roomy_file.small.short, c.block-1.given)); room = c.requires.roomy_file.small.room } }
+    let s = part-within _ _ c.read_block-part.ensures c.if-part.false in
+    record {
+      at_lt_limit = c.requires.at_lt_limit;
+      small_file = record { short = simp length-take (omega (arith, s, c.requires.roomy_file.small.short, c.block-1.given)); room = c.requires.roomy_file.small.room };
+    }
 
 pub returns : goal.returns
 returns c =

@@ -18,7 +18,12 @@ slice_bounds-place_record-end-in-Record c =
 
 pub place_record-e-requires : goal.place_record-e-requires
 place_record-e-requires c =
-    let h : Read c.args.rest.now c.args.place c.args.ring.now c.in-Record.n c.in-Record.k c.in-Record.kind c.in-Record.next c.read_head.new.out = rw c.in-Record.is at c.read_head.ensures in record { answered = answered-ring c.args.rest.now c.args.place c.args.ring.now c.in-Record.n c.in-Record.k c.in-Record.kind c.in-Record.next c.read_head.new.out c.requires.held.1 h; record_room_in_bounds = c.requires.record_room_in_bounds }
+    let h : Read c.args.rest.now c.args.place c.args.ring.now c.in-Record.n c.in-Record.k c.in-Record.kind c.in-Record.next c.read_head.new.out = rw
+    c.in-Record.is at c.read_head.ensures in record {
+      answered = answered-ring c.args.rest.now c.args.place c.args.ring.now c.in-Record.n c.in-Record.k c.in-Record.kind c.in-Record.next c.read_head.new.out
+          c.requires.held.1 h;
+      record_room_in_bounds = c.requires.record_room_in_bounds;
+    }
 
 pub overflow_sub-result : goal.overflow_sub-result
 overflow_sub-result c =
@@ -28,7 +33,8 @@ overflow_sub-result c =
 pub returns-in-Record : goal.returns-in-Record
 returns-in-Record c =
     let h : Read c.args.rest.now c.args.place c.args.ring.now c.in-Record.n c.in-Record.k c.in-Record.kind c.in-Record.next c.read_head.new.out = rw c.in-Record.is at c.read_head.ensures in
-    step_after c.args.rest.now c.args.place c.args.ring.now c.in-Record.n c.in-Record.k c.in-Record.kind c.in-Record.next c.read_head.new.out c.requires.held.1 h _ _ _ _ _ c.place_record-e.ensures
+    step_after c.args.rest.now c.args.place c.args.ring.now c.in-Record.n c.in-Record.k c.in-Record.kind c.in-Record.next c.read_head.new.out c.requires.held.1
+    h _ _ _ _ _ c.place_record-e.ensures
 
 pub returns-in-End : goal.returns-in-End
 returns-in-End c = absurd (rw c.in-End.is at c.read_head.ensures)

@@ -21,31 +21,45 @@ slice_bounds-take_one-start c = omega (arith, c.loop-ring.invariant.0.inside)
 
 pub take_one-requires : goal.take_one-requires
 take_one-requires c =
-    let r = going-room c.args.job c.args.place c.args.block.now c.args.out.now c.loop-ring.i c.loop-ring.len c.loop-ring.out c.loop-ring.invariant.0 c.requires.record_room_in_bounds in record { held = (simp (length-take, length-drop) (omega (arith, c.requires.held, c.loop-ring.invariant.0.inside)), c.loop-ring.invariant.1); record_room_in_bounds = r.1 }
+    let r = going-room c.args.job c.args.place c.args.block.now c.args.out.now c.loop-ring.i c.loop-ring.len c.loop-ring.out c.loop-ring.invariant.0
+    c.requires.record_room_in_bounds in record
+    { held = (simp (length-take, length-drop) (omega (arith, c.requires.held, c.loop-ring.invariant.0.inside)), c.loop-ring.invariant.1); record_room_in_bounds = r.1 }
 
 pub overflow_add-i : goal.overflow_add-i
 overflow_add-i c =
-    let q = turn-size c.args.job c.args.place c.args.block.now c.args.out.now c.loop-ring.i c.loop-ring.len c.loop-ring.out c.loop-ring.invariant.0 c.take_one.result _ c.take_one.ensures _ _ c.in-After.is in
+    let q = turn-size c.args.job c.args.place c.args.block.now c.args.out.now c.loop-ring.i c.loop-ring.len c.loop-ring.out c.loop-ring.invariant.0
+    c.take_one.result _ c.take_one.ensures _ _ c.in-After.is in
     omega (arith, q, c.requires.held)
 
 pub loop-ring-smaller : goal.loop-ring-smaller
 loop-ring-smaller c =
-    let q = turn-size c.args.job c.args.place c.args.block.now c.args.out.now c.loop-ring.i c.loop-ring.len c.loop-ring.out c.loop-ring.invariant.0 c.take_one.result _ c.take_one.ensures _ _ c.in-After.is in
+    let q = turn-size c.args.job c.args.place c.args.block.now c.args.out.now c.loop-ring.i c.loop-ring.len c.loop-ring.out c.loop-ring.invariant.0
+    c.take_one.result _ c.take_one.ensures _ _ c.in-After.is in
     omega (arith, q)
 
 pub loop-ring-preserved : goal.loop-ring-preserved
-loop-ring-preserved c =
-    (turn_on c.args.job c.args.place c.args.block.now c.args.out.now c.loop-ring.i c.loop-ring.len c.loop-ring.out c.loop-ring.invariant.0 c.take_one.result _ c.take_one.ensures _ _ c.in-After.is, search rules)
+loop-ring-preserved c = (
+  turn_on c.args.job c.args.place c.args.block.now c.args.out.now c.loop-ring.i c.loop-ring.len c.loop-ring.out c.loop-ring.invariant.0 c.take_one.result _
+      c.take_one.ensures _ _ c.in-After.is,
+  search rules,
+)
 
 pub stop-requires : goal.stop-requires
 stop-requires c =
-    let q = turn-same c.args.job c.args.place c.args.block.now c.args.out.now c.loop-ring.i c.loop-ring.len c.loop-ring.out c.loop-ring.invariant.0 c.take_one.result _ c.take_one.ensures _ c.in-Refused.is in
+    let q = turn-same c.args.job c.args.place c.args.block.now c.args.out.now c.loop-ring.i c.loop-ring.len c.loop-ring.out c.loop-ring.invariant.0
+    c.take_one.result _ c.take_one.ensures _ c.in-Refused.is in
     let r = going-room c.args.job c.args.place c.args.block.now c.args.out.now c.loop-ring.i c.loop-ring.len c.loop-ring.out c.loop-ring.invariant.0 c.requires.record_room_in_bounds in
     (omega (arith, c.requires.held, c.loop-ring.invariant.0.inside), rw q (omega (arith, r.1)))
 
 pub shape_of-out-in-Refused : goal.shape_of-out-in-Refused
 shape_of-out-in-Refused c =
-    omega (arith, c.out-in-Refused-1.given, c.out-1.given, (going-room c.args.job c.args.place c.args.block.now c.args.out.now c.loop-ring.i c.loop-ring.len c.loop-ring.out c.loop-ring.invariant.0 c.requires.record_room_in_bounds).0)
+    omega (
+      arith,
+      c.out-in-Refused-1.given,
+      c.out-1.given,
+      (going-room c.args.job c.args.place c.args.block.now c.args.out.now c.loop-ring.i c.loop-ring.len c.loop-ring.out c.loop-ring.invariant.0
+          c.requires.record_room_in_bounds).0,
+    )
 
 pub returns-in-Refused : goal.returns-in-Refused
 returns-in-Refused c =
@@ -59,7 +73,12 @@ finish-requires c =
 
 pub shape_of-out : goal.shape_of-out
 shape_of-out c =
-    omega (arith, c.out-2-1.given, (going-room c.args.job c.args.place c.args.block.now c.args.out.now c.loop-ring.i c.loop-ring.len c.loop-ring.out c.loop-ring.invariant.0 c.requires.record_room_in_bounds).0)
+    omega (
+      arith,
+      c.out-2-1.given,
+      (going-room c.args.job c.args.place c.args.block.now c.args.out.now c.loop-ring.i c.loop-ring.len c.loop-ring.out
+          c.loop-ring.invariant.0 c.requires.record_room_in_bounds).0,
+    )
 
 pub returns : goal.returns
 returns c =

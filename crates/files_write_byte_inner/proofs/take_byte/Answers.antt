@@ -28,6 +28,7 @@ returns-then-len-line c = (
 pub returns : goal.returns
 returns c = (
   c.requires.len_in_bounds,
-  rw c.requires.line_len at (byte-passed (LineWrites c.args.kind) record_room c.args.line.now c.args.len c.args.at c.args.b c.args.buf.now c.if-b-eq10.false c.requires.len_in_bounds c.if-len-line.false),
+  rw c.requires.line_len at (byte-passed (LineWrites c.args.kind) record_room c.args.line.now c.args.len c.args.at c.args.b c.args.buf.now c.if-b-eq10.false
+      c.requires.len_in_bounds c.if-len-line.false),
   omega (arith, none-ended c.args.b c.if-b-eq10.false),
 )

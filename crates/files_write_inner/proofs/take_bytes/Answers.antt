@@ -18,7 +18,13 @@ loop-i-init c = (
 )
 
 pub take_byte-requires : goal.take_byte-requires
-take_byte-requires c = record { line_len = c.loop-i.invariant.1; len_in_bounds = omega (arith, c.loop-i.invariant.1, c.loop-i.invariant.2); record_room_in_bounds = taking-room _ _ _ (writes-tells c.args.kind) _ _ _ _ _ _ _ c.loop-i.invariant.3 c.loop-i-test.true c.requires.record_room_in_bounds; lines_lt_most_ended = omega (arith, c.loop-i.invariant.6, c.loop-i-test.true, c.requires.block_bound) }
+take_byte-requires c =
+    record {
+      line_len = c.loop-i.invariant.1;
+      len_in_bounds = omega (arith, c.loop-i.invariant.1, c.loop-i.invariant.2);
+      record_room_in_bounds = taking-room _ _ _ (writes-tells c.args.kind) _ _ _ _ _ _ _ c.loop-i.invariant.3 c.loop-i-test.true c.requires.record_room_in_bounds;
+      lines_lt_most_ended = omega (arith, c.loop-i.invariant.6, c.loop-i-test.true, c.requires.block_bound);
+    }
 
 pub shape_of-line-in-Refused : goal.shape_of-line-in-Refused
 shape_of-line-in-Refused c =
@@ -30,7 +36,8 @@ shape_of-buf-in-Refused c =
 
 pub returns-in-Refused : goal.returns-in-Refused
 returns-in-Refused c =
-    block_refused c.args.kind _ c.args.block.now _ c.loop-i.i _ _ _ c.loop-i.invariant.3 c.loop-i-test.true c.args.lines c.loop-i.n c.loop-i.invariant.5 _ _ (rw c.in-Refused.is at c.take_byte.ensures)
+    block_refused c.args.kind _ c.args.block.now _ c.loop-i.i _ _ _ c.loop-i.invariant.3 c.loop-i-test.true c.args.lines c.loop-i.n c.loop-i.invariant.5 _ _
+    (rw c.in-Refused.is at c.take_byte.ensures)
 
 pub loop-i-preserved : goal.loop-i-preserved
 loop-i-preserved c =

@@ -28,4 +28,5 @@ returns-in-Malformed c =
 
 pub returns-in-Number : goal.returns-in-Number
 returns-in-Number c =
-    line-spelt c.args.kind c.args.line.now c.args.buf.now c.args.at c.in-Number.k c.in-Number.e (rw c.in-Number.is at c.head_of.ensures) c.if-line-gt4095.false c.write_spelt.result _ c.write_spelt.ensures
+    line-spelt c.args.kind c.args.line.now c.args.buf.now c.args.at c.in-Number.k c.in-Number.e (rw c.in-Number.is at c.head_of.ensures) c.if-line-gt4095.false
+    c.write_spelt.result _ c.write_spelt.ensures

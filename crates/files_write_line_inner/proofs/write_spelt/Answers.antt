@@ -9,4 +9,5 @@ returns-then-not-spell c =
 
 pub returns : goal.returns
 returns c =
-    spelt-answer c.args.kind c.args.k c.args.t.now c.args.buf.now c.args.at _ (rw (not-false c.spell.result c.if-not-spell.false-raw) at c.spell.ensures) c.requires.record_room_in_bounds c.write_record.result _ c.write_record.ensures
+    spelt-answer c.args.kind c.args.k c.args.t.now c.args.buf.now c.args.at _ (rw (not-false c.spell.result c.if-not-spell.false-raw) at c.spell.ensures)
+    c.requires.record_room_in_bounds c.write_record.result _ c.write_record.ensures

@@ -8,21 +8,30 @@ loop-at-init c =
     (c.requires, refl, refl, refl, omega arith, reached-none c.args.kind c.args.line.now)
 
 pub take_at-requires : goal.take_at-requires
-take_at-requires c = record { at_lt_limit = c.loop-at-test.true; roomy_lines = c.loop-at.invariant.0; len_in_bounds = c.loop-at.invariant.4; lines_le_at = reached-few _ _ _ _ c.loop-at.invariant.5 }
+take_at-requires c =
+    record {
+      at_lt_limit = c.loop-at-test.true;
+      roomy_lines = c.loop-at.invariant.0;
+      len_in_bounds = c.loop-at.invariant.4;
+      lines_le_at = reached-few _ _ _ _ c.loop-at.invariant.5;
+    }
 
 pub overflow_add-at : goal.overflow_add-at
 overflow_add-at c =
-    let g = line_on c.args.kind c.args.time c.loop-at.at _ c.loop-at.lines c.loop-at.invariant.5 c.take_at.result _ _ _ _ _ _ _ (omega (arith, c.loop-at.invariant.0.some, c.block-1.given)) c.in-On.is c.take_at.ensures in
+    let g = line_on c.args.kind c.args.time c.loop-at.at _ c.loop-at.lines c.loop-at.invariant.5 c.take_at.result _ _ _ _ _ _ _
+    (omega (arith, c.loop-at.invariant.0.some, c.block-1.given)) c.in-On.is c.take_at.ensures in
     omega (arith, g.1, c.loop-at.invariant.0.short, c.loop-at-test.true, c.block-1.given)
 
 pub loop-at-smaller : goal.loop-at-smaller
 loop-at-smaller c =
-    let g = line_on c.args.kind c.args.time c.loop-at.at _ c.loop-at.lines c.loop-at.invariant.5 c.take_at.result _ _ _ _ _ _ _ (omega (arith, c.loop-at.invariant.0.some, c.block-1.given)) c.in-On.is c.take_at.ensures in
+    let g = line_on c.args.kind c.args.time c.loop-at.at _ c.loop-at.lines c.loop-at.invariant.5 c.take_at.result _ _ _ _ _ _ _
+    (omega (arith, c.loop-at.invariant.0.some, c.block-1.given)) c.in-On.is c.take_at.ensures in
     omega (arith, g.0, c.loop-at-test.true)
 
 pub loop-at-preserved : goal.loop-at-preserved
 loop-at-preserved c =
-    let g = line_on c.args.kind c.args.time c.loop-at.at _ c.loop-at.lines c.loop-at.invariant.5 c.take_at.result _ _ _ _ _ _ _ (omega (arith, c.loop-at.invariant.0.some, c.block-1.given)) c.in-On.is c.take_at.ensures in (
+    let g = line_on c.args.kind c.args.time c.loop-at.at _ c.loop-at.lines c.loop-at.invariant.5 c.take_at.result _ _ _ _ _ _ _
+    (omega (arith, c.loop-at.invariant.0.some, c.block-1.given)) c.in-On.is c.take_at.ensures in (
       lines-roomy _ _ _ _ _ _ c.loop-at.invariant.0 c.block-1.given c.line-1.given c.out-1.given,
       c.block-1.given ∙ c.loop-at.invariant.1,
       c.line-1.given ∙ c.loop-at.invariant.2,

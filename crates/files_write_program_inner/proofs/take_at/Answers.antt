@@ -20,7 +20,13 @@ slice_bounds-take_block-end-in-Ended c =
 
 pub take_block-requires-in-Ended : goal.take_block-requires-in-Ended
 take_block-requires-in-Ended c =
-    let h = rw c.in-Ended.is at c.read_from.ensures in record { line_len = c.requires.roomy_lines.kept; len_in_bounds = c.requires.len_in_bounds; record_room_in_bounds = part_room _ _ _ (simp length-take (omega (arith, h, c.block-1.given))) c.requires.roomy_lines.room; block_bound = simp length-take (omega (arith, h, c.block-1.given, c.requires.at_lt_limit, c.requires.roomy_lines.short, c.requires.lines_le_at)) }
+    let h = rw c.in-Ended.is at c.read_from.ensures in
+    record {
+      line_len = c.requires.roomy_lines.kept;
+      len_in_bounds = c.requires.len_in_bounds;
+      record_room_in_bounds = part_room _ _ _ (simp length-take (omega (arith, h, c.block-1.given))) c.requires.roomy_lines.room;
+      block_bound = simp length-take (omega (arith, h, c.block-1.given, c.requires.at_lt_limit, c.requires.roomy_lines.short, c.requires.lines_le_at));
+    }
 
 pub returns-in-Failed : goal.returns-in-Failed
 returns-in-Failed c = unread (ap Stopped c.failed.ensures)

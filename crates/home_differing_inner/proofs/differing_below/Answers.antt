@@ -29,5 +29,6 @@ loop-m-preserved c =
 
 pub returns : goal.returns
 returns c =
-    let e = differing-end (turn c.args.i c.args.a.now) c.args.b.now (length c.args.a.now) c.loop-m.m (length-turn c.args.i c.args.a.now c.requires.1) (sym c.requires.0) c.loop-m-test.false c.loop-m.d c.loop-m.invariant.0 in
+    let e = differing-end (turn c.args.i c.args.a.now) c.args.b.now (length c.args.a.now) c.loop-m.m (length-turn c.args.i c.args.a.now c.requires.1)
+    (sym c.requires.0) c.loop-m-test.false c.loop-m.d c.loop-m.invariant.0 in
     omega arith

@@ -34,8 +34,12 @@ turns-preserved c = (
 )
 
 pub loop-m-preserved : goal.loop-m-preserved
-loop-m-preserved c =
-    (c.loop-m.invariant.0, omega arith, mirrors-more c.args.s.now c.turns.t c.loop-m.m c.around.result (omega (arith, c.loop-m.invariant.0)) c.loop-m-test.true c.around.ensures c.loop-m.invariant.2 c.if-s-p.false)
+loop-m-preserved c = (
+  c.loop-m.invariant.0,
+  omega arith,
+  mirrors-more c.args.s.now c.turns.t c.loop-m.m c.around.result (omega (arith, c.loop-m.invariant.0)) c.loop-m-test.true
+      c.around.ensures c.loop-m.invariant.2 c.if-s-p.false,
+)
 
 pub returns-after-turns : goal.returns-after-turns
 returns-after-turns c =

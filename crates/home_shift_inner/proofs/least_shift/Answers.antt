@@ -36,11 +36,13 @@ overflow_add-past-then-y-x c = omega (arith, c.loop-j.invariant.order, c.loop-j.
 
 pub overflow_add-j-then-y-x : goal.overflow_add-j-then-y-x
 overflow_add-j-then-y-x c =
-    ⊎_elim (λ e. omega (arith, c.loop-j.invariant.order, c.loop-j.invariant.inside, c.loop-j.invariant.short)) (λ e. omega (arith, c.loop-j.invariant.order, c.loop-j.invariant.inside, c.loop-j.invariant.short)) c.if-i-past.branch-raw
+    ⊎_elim (λ e. omega (arith, c.loop-j.invariant.order, c.loop-j.invariant.inside, c.loop-j.invariant.short))
+    (λ e. omega (arith, c.loop-j.invariant.order, c.loop-j.invariant.inside, c.loop-j.invariant.short)) c.if-i-past.branch-raw
 
 pub loop-j-smaller-then-y-x : goal.loop-j-smaller-then-y-x
 loop-j-smaller-then-y-x c =
-    ⊎_elim (λ e. omega (arith, c.loop-j.invariant.order, c.loop-j.invariant.inside, c.loop-j.invariant.short)) (λ e. omega (arith, c.loop-j.invariant.order, c.loop-j.invariant.inside, c.loop-j.invariant.short)) c.if-i-past.branch-raw
+    ⊎_elim (λ e. omega (arith, c.loop-j.invariant.order, c.loop-j.invariant.inside, c.loop-j.invariant.short))
+    (λ e. omega (arith, c.loop-j.invariant.order, c.loop-j.invariant.inside, c.loop-j.invariant.short)) c.if-i-past.branch-raw
 
 pub loop-j-preserved-then-y-x : goal.loop-j-preserved-then-y-x
 loop-j-preserved-then-y-x c =

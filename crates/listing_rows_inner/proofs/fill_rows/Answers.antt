@@ -34,7 +34,8 @@ slice_bounds-place_ring-end c =
 pub place_ring-at-requires : goal.place_ring-at-requires
 place_ring-at-requires c =
     let q = came c.loop-at.invariant.0 _ c.in-Moved.m c.go_on-went.result.period (rw c.in-Moved.is at c.go_on-went.ensures) in
-    line-room _ _ _ _ _ (omega (arith, c.loop-at-test.true)) (simp length-take (omega (arith, along-fits c.loop-at.invariant.0))) (omega (arith, came-moves c.loop-at.invariant.0 _ c.in-Moved.m c.go_on-went.result.period q)) (search rules)
+    line-room _ _ _ _ _ (omega (arith, c.loop-at-test.true)) (simp length-take (omega (arith, along-fits c.loop-at.invariant.0)))
+    (omega (arith, came-moves c.loop-at.invariant.0 _ c.in-Moved.m c.go_on-went.result.period q)) (search rules)
 
 pub overflow_add-rings : goal.overflow_add-rings
 overflow_add-rings c = omega (arith, along-rings c.loop-at.invariant.0)
@@ -59,7 +60,8 @@ shape_of-buf-after-loop-at c =
 
 pub returns-after-loop-at : goal.returns-after-loop-at
 returns-after-loop-at c =
-    says-full c.args.s c.args.buf.now c.args.from c.loop-at.ring c.loop-at.rings c.loop-at.moves c.loop-at.at c.loop-at.buf c.loop-at.invariant.0 c.loop-at.ring refl c.loop-at.more c.loop-at.invariant.1 (omega (arith, c.loop-at-test.false))
+    says-full c.args.s c.args.buf.now c.args.from c.loop-at.ring c.loop-at.rings c.loop-at.moves c.loop-at.at c.loop-at.buf c.loop-at.invariant.0 c.loop-at.ring
+    refl c.loop-at.more c.loop-at.invariant.1 (omega (arith, c.loop-at-test.false))
 
 pub shape_of-buf-in_default : goal.shape_of-buf-in_default
 shape_of-buf-in_default c =
@@ -68,4 +70,5 @@ shape_of-buf-in_default c =
 pub returns-in_default : goal.returns-in_default
 returns-in_default c =
     let d = stops c.loop-at.invariant.0 _ c.go_on-went.result.outcome c.go_on-went.result.period c.in_default.not-Moved c.go_on-went.ensures in
-    says-ended c.args.s c.args.buf.now c.args.from c.loop-at.ring c.loop-at.rings c.loop-at.moves c.loop-at.at c.loop-at.buf c.loop-at.invariant.0 _ d.1 _ refl (omega (arith, c.loop-at-test.true)) d.0
+    says-ended c.args.s c.args.buf.now c.args.from c.loop-at.ring c.loop-at.rings c.loop-at.moves c.loop-at.at c.loop-at.buf c.loop-at.invariant.0 _ d.1 _ refl
+    (omega (arith, c.loop-at-test.true)) d.0

@@ -25,7 +25,17 @@ slice_bounds-turned-end-2 c =
 pub place_arcs-requires : goal.place_arcs-requires
 place_arcs-requires c =
     let l = run-le _ c.args.ring.now 0 _ c.run_at-o.ensures in
-    let v = turned-long c.args.ring.now _ l _ c.write_turn.ensures in record { le_k = (c.requires.le_k.0, c.requires.le_k.1, turned-short c.args.ring.now _ l _ (take_at _ _ (length c.args.ring.now) v ∙ c.write_turn.ensures) c.requires.le_k.3, turned-from c.args.ring.now _ l _ (take_at _ _ (length c.args.ring.now) v ∙ c.write_turn.ensures)); below = turned-below c.args.ring.now _ l _ (take_at _ _ (length c.args.ring.now) v ∙ c.write_turn.ensures) _ c.requires.le_k.2 c.requires.below; at_in_bounds = c.requires.at_in_bounds }
+    let v = turned-long c.args.ring.now _ l _ c.write_turn.ensures in
+    record {
+      le_k = (
+        c.requires.le_k.0,
+        c.requires.le_k.1,
+        turned-short c.args.ring.now _ l _ (take_at _ _ (length c.args.ring.now) v ∙ c.write_turn.ensures) c.requires.le_k.3,
+        turned-from c.args.ring.now _ l _ (take_at _ _ (length c.args.ring.now) v ∙ c.write_turn.ensures),
+      );
+      below = turned-below c.args.ring.now _ l _ (take_at _ _ (length c.args.ring.now) v ∙ c.write_turn.ensures) _ c.requires.le_k.2 c.requires.below;
+      at_in_bounds = c.requires.at_in_bounds;
+    }
 
 pub returns : goal.returns
 returns c =

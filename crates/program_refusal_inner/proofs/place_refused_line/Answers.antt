@@ -15,4 +15,8 @@ pub returns : goal.returns
 returns c =
     let x : c.number.result < 10 ^ 20 = search rules in
     let y : c.place.result < 10 ^ 20 = search rules in
-    let z : c.args.n < 10 ^ 20 = search rules in record { placed = rw (c.number.ensures, c.place.ensures) at c.place_filled.ensures; upper_bound = omega (arith, c.place_filled.ensures.next, line-short c.number.result c.place.result c.args.n x y z) }
+    let z : c.args.n < 10 ^ 20 = search rules in
+    record {
+      placed = rw (c.number.ensures, c.place.ensures) at c.place_filled.ensures;
+      upper_bound = omega (arith, c.place_filled.ensures.next, line-short c.number.result c.place.result c.args.n x y z);
+    }

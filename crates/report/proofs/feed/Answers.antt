@@ -12,7 +12,12 @@ slice_bounds-take_bytes-end-2 c =
 
 pub take_bytes-q-requires : goal.take_bytes-q-requires
 take_bytes-q-requires c =
-    let l : length c.args.p.line ≡ 9 = search rules in record { line_len = l; len_in_bounds = omega (arith, l, c.smaller_of-len.ensures, smaller-right c.args.p.len 9); kind_in_bounds = taken-room c.args.block.now c.args.buf.now c.smaller_of-taken.result c.smaller_of-taken.ensures }
+    let l : length c.args.p.line ≡ 9 = search rules in
+    record {
+      line_len = l;
+      len_in_bounds = omega (arith, l, c.smaller_of-len.ensures, smaller-right c.args.p.len 9);
+      kind_in_bounds = taken-room c.args.block.now c.args.buf.now c.smaller_of-taken.result c.smaller_of-taken.ensures;
+    }
 
 pub returns : goal.returns
 unfolding Said

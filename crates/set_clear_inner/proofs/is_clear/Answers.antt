@@ -19,7 +19,12 @@ pub slice_bounds-is_far-end-in-loop-left : goal.slice_bounds-is_far-end-in-loop-
 slice_bounds-is_far-end-in-loop-left c = omega (arith, place-room c.requires _ (inside (goal.at.slice_bounds-is_far-end-in-loop-left c).In-loop-left))
 
 pub is_far-requires : goal.is_far-requires
-is_far-requires c = record { passed = (part-asked c.requires _ (inside (goal.at.is_far-requires c).In-loop-left)).0; ca_value = (part-asked c.requires _ (inside (goal.at.is_far-requires c).In-loop-left)).1.0; cb_value = (part-asked c.requires _ (inside (goal.at.is_far-requires c).In-loop-left)).1.1 }
+is_far-requires c =
+    record {
+      passed = (part-asked c.requires _ (inside (goal.at.is_far-requires c).In-loop-left)).0;
+      ca_value = (part-asked c.requires _ (inside (goal.at.is_far-requires c).In-loop-left)).1.0;
+      cb_value = (part-asked c.requires _ (inside (goal.at.is_far-requires c).In-loop-left)).1.1;
+    }
 
 pub returns-then-not-is_far : goal.returns-then-not-is_far
 returns-then-not-is_far c =

@@ -12,7 +12,12 @@ returns-then-not-is_steady c =
     not-steady-in c.requires.comparable c.requires.back_value c.args.d c.is_steady.ensures (not-true _ c.if-not-is_steady.true-raw)
 
 pub is_far-requires : goal.is_far-requires
-is_far-requires c = record { passed = (back-pair c.requires.comparable c.requires.back_value).0; ca_value = (back-pair c.requires.comparable c.requires.back_value).1.0; cb_value = (back-pair c.requires.comparable c.requires.back_value).1.1 }
+is_far-requires c =
+    record {
+      passed = (back-pair c.requires.comparable c.requires.back_value).0;
+      ca_value = (back-pair c.requires.comparable c.requires.back_value).1.0;
+      cb_value = (back-pair c.requires.comparable c.requires.back_value).1.1;
+    }
 
 pub returns-then-not-is_far : goal.returns-then-not-is_far
 returns-then-not-is_far c =

@@ -21,7 +21,8 @@ slice_bounds-back-end-in-Guarded c =
 
 pub is_guarded-requires : goal.is_guarded-requires
 is_guarded-requires c =
-    let y = ap (λ (v : List ℕ). length v) c.write_reversed.ensures ∙ length-reverse c.args.ring.now in record { comparable = c.requires; back_value = take_at _ _ (length c.args.ring.now) y ∙ c.write_reversed.ensures }
+    let y = ap (λ (v : List ℕ). length v) c.write_reversed.ensures ∙ length-reverse c.args.ring.now in
+    record { comparable = c.requires; back_value = take_at _ _ (length c.args.ring.now) y ∙ c.write_reversed.ensures }
 
 pub returns-in-Plain : goal.returns-in-Plain
 returns-in-Plain c = rw c.in-Plain.is (sym (sym c.is_clear.ensures ∙ not-false _ c.if-not-is_clear.false-raw))

@@ -16,7 +16,17 @@ pub possible-requires : goal.possible-requires
 possible-requires c = lift-asks _ _ _ _ _ c.requires c.left_from-b.ensures c.if-b-k.false
 
 pub returns-then-possible : goal.returns-then-possible
-returns-then-possible c = record { lifted_to = lift-found _ _ _ _ _ c.requires c.left_from-b.ensures c.if-b-k.false (c.possible.ensures.allows.yes c.if-possible.true); w_unchanged = c.possible.ensures.w_unchanged; rem_unchanged = c.possible.ensures.rem_unchanged }
+returns-then-possible c =
+    record {
+      lifted_to = lift-found _ _ _ _ _ c.requires c.left_from-b.ensures c.if-b-k.false (c.possible.ensures.allows.yes c.if-possible.true);
+      w_unchanged = c.possible.ensures.w_unchanged;
+      rem_unchanged = c.possible.ensures.rem_unchanged;
+    }
 
 pub returns : goal.returns
-returns c = record { lifted_to = lift-not _ _ _ _ _ c.requires c.left_from-b.ensures c.if-b-k.false (c.possible.ensures.allows.no c.if-possible.false); w_unchanged = c.possible.ensures.w_unchanged; rem_unchanged = c.possible.ensures.rem_unchanged }
+returns c =
+    record {
+      lifted_to = lift-not _ _ _ _ _ c.requires c.left_from-b.ensures c.if-b-k.false (c.possible.ensures.allows.no c.if-possible.false);
+      w_unchanged = c.possible.ensures.w_unchanged;
+      rem_unchanged = c.possible.ensures.rem_unchanged;
+    }

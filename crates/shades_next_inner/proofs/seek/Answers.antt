@@ -40,7 +40,8 @@ repeat-requires c = seek-asks c.loop-place.invariant.0 c.find-place.ensures c.if
 -- behind a place that was raised, where t is what stands in the first n sectors
 round : (c : After-repeat) →
     (t : List ℕ) → Repeats c.find-place.result.end (take c.args.n (set c.loop-place.ring (c.find-place.result.end - 1) c.find-place.result.shade)) t →
-    Rounded c.args.counts.now c.args.n c.args.k c.args.start (last_raised c.args.n c.args.start c.loop-place.ring) c.find-place.result.end c.loop-place.raised (t ++ drop c.args.n (set c.loop-place.ring (c.find-place.result.end - 1) c.find-place.result.shade))
+    Rounded c.args.counts.now c.args.n c.args.k c.args.start (last_raised c.args.n c.args.start c.loop-place.ring) c.find-place.result.end c.loop-place.raised
+    (t ++ drop c.args.n (set c.loop-place.ring (c.find-place.result.end - 1) c.find-place.result.shade))
 round c t rep = rounded c.loop-place.invariant.0 c.find-place.ensures c.if-i-eq0.false rep c.loop-place.invariant.1
 
 pub overflow_add-raised : goal.overflow_add-raised

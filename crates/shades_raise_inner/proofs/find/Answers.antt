@@ -55,5 +55,7 @@ pub bounds-rem-x-in-loop-w : goal.bounds-rem-x-in-loop-w
 bounds-rem-x-in-loop-w c = let t = tried (goal.at.bounds-rem-x-in-loop-w c).After-lift-b in omega (arith, find-shade t c.if-i-eq0.false, t.at.remains.size)
 
 pub loop-w-preserved : goal.loop-w-preserved
-loop-w-preserved c =
-    (rw c.lift-b.ensures.rem_unchanged (find-more (tried (goal.at.loop-w-preserved c).After-lift-b) (λ h. omega (arith, c.if-b-k.false)) c.if-i-eq0.false), c.lift-b.ensures.w_unchanged ∙ c.loop-w.invariant.1)
+loop-w-preserved c = (
+  rw c.lift-b.ensures.rem_unchanged (find-more (tried (goal.at.loop-w-preserved c).After-lift-b) (λ h. omega (arith, c.if-b-k.false)) c.if-i-eq0.false),
+  c.lift-b.ensures.w_unchanged ∙ c.loop-w.invariant.1,
+)

@@ -23,7 +23,8 @@ returns-then-rem-x-eq0 c =
     record {
       within = c.loop-i.invariant.0;
       remains = c.loop-i.invariant.1;
-      exceeds = λ h. exceeds-one c.args.counts.now c.args.s.now c.loop-i.rem c.loop-i.i c.loop-i-test.true (c.requires.known _ c.loop-i-test.true) c.requires.few c.loop-i.invariant.1 c.if-rem-x-eq0.true;
+      exceeds = λ h. exceeds-one c.args.counts.now c.args.s.now c.loop-i.rem c.loop-i.i c.loop-i-test.true (c.requires.known _ c.loop-i-test.true)
+          c.requires.few c.loop-i.invariant.1 c.if-rem-x-eq0.true;
     }
 
 pub offset_bounds-rem-x-in-loop-i : goal.offset_bounds-rem-x-in-loop-i
@@ -36,8 +37,11 @@ pub bounds-rem-x-in-loop-i-2 : goal.bounds-rem-x-in-loop-i-2
 bounds-rem-x-in-loop-i-2 c = omega (arith, c.requires.known _ c.loop-i-test.true, c.requires.few, c.loop-i.invariant.1.size)
 
 pub loop-i-preserved : goal.loop-i-preserved
-loop-i-preserved c =
-    (omega arith, remains-more c.args.counts.now c.args.s.now c.loop-i.rem c.loop-i.i c.loop-i-test.true (c.requires.known _ c.loop-i-test.true) c.requires.few c.loop-i.invariant.1 c.if-rem-x-eq0.false)
+loop-i-preserved c = (
+  omega arith,
+  remains-more c.args.counts.now c.args.s.now c.loop-i.rem c.loop-i.i c.loop-i-test.true (c.requires.known _ c.loop-i-test.true) c.requires.few
+      c.loop-i.invariant.1 c.if-rem-x-eq0.false,
+)
 
 pub returns : goal.returns
 returns c = record { within = c.loop-i.invariant.0; remains = c.loop-i.invariant.1; exceeds = λ h. absurd (omega (arith, c.loop-i-test.false)) }

@@ -20,7 +20,12 @@ down_of-y-requires c = (
 )
 
 pub place_ring-b-requires : goal.place_ring-b-requires
-place_ring-b-requires c = record { le_k = (c.requires.le_k.0, c.requires.le_k.1, c.requires.le_k.2, c.requires.le_k.3); below = c.requires.below; at_in_bounds = fits-room c.place_cell_head-a.ensures 16384 (omega (arith, c.requires.at_in_bounds)) }
+place_ring-b-requires c =
+    record {
+      le_k = (c.requires.le_k.0, c.requires.le_k.1, c.requires.le_k.2, c.requires.le_k.3);
+      below = c.requires.below;
+      at_in_bounds = fits-room c.place_cell_head-a.ensures 16384 (omega (arith, c.requires.at_in_bounds));
+    }
 
 pub returns : goal.returns
 returns c =

@@ -26,7 +26,19 @@ slice_bounds-turned-end-2 c =
 pub place_cell-requires : goal.place_cell-requires
 place_cell-requires c =
     let l = home-le c.args.ring.now _ c.least_shift-o.ensures c.requires.le_k.2 in
-    let v = turned-long c.args.ring.now _ l _ c.write_turn.ensures in record { le_k = (c.requires.le_k.0, c.requires.le_k.1, turned-some c.args.ring.now _ l _ (take_at _ _ (length c.args.ring.now) v ∙ c.write_turn.ensures) c.requires.le_k.2, turned-short c.args.ring.now _ l _ (take_at _ _ (length c.args.ring.now) v ∙ c.write_turn.ensures) c.requires.le_k.3, c.requires.le_k.4); below = turned-below c.args.ring.now _ l _ (take_at _ _ (length c.args.ring.now) v ∙ c.write_turn.ensures) _ c.requires.le_k.2 c.requires.below; fits_page = c.requires.fits_page; at_in_bounds = c.requires.at_in_bounds }
+    let v = turned-long c.args.ring.now _ l _ c.write_turn.ensures in
+    record {
+      le_k = (
+        c.requires.le_k.0,
+        c.requires.le_k.1,
+        turned-some c.args.ring.now _ l _ (take_at _ _ (length c.args.ring.now) v ∙ c.write_turn.ensures) c.requires.le_k.2,
+        turned-short c.args.ring.now _ l _ (take_at _ _ (length c.args.ring.now) v ∙ c.write_turn.ensures) c.requires.le_k.3,
+        c.requires.le_k.4,
+      );
+      below = turned-below c.args.ring.now _ l _ (take_at _ _ (length c.args.ring.now) v ∙ c.write_turn.ensures) _ c.requires.le_k.2 c.requires.below;
+      fits_page = c.requires.fits_page;
+      at_in_bounds = c.requires.at_in_bounds;
+    }
 
 pub returns : goal.returns
 returns c =

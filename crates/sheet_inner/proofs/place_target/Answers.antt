@@ -6,7 +6,13 @@ use Rattle.sheet_inner.proofs.Cells.{target_fits}
 use Rattle.sheet_inner.proofs.place_target.Goals as goal
 
 pub place_home-b-requires : goal.place_home-b-requires
-place_home-b-requires c = record { le_k = c.requires.le_k; below = c.requires.below; fits_page = c.requires.fits_page; at_in_bounds = fits-room c.place_opening-a.ensures 17792 (omega (arith, c.requires.in_bounds)) }
+place_home-b-requires c =
+    record {
+      le_k = c.requires.le_k;
+      below = c.requires.below;
+      fits_page = c.requires.fits_page;
+      at_in_bounds = fits-room c.place_opening-a.ensures 17792 (omega (arith, c.requires.in_bounds));
+    }
 
 pub place_closing-requires : goal.place_closing-requires
 place_closing-requires c = (

@@ -70,8 +70,11 @@ loop-at-preserved c =
       c.line_end-e.ensures.within,
       c.loop-at.invariant.2,
       c.requires,
-    )) in
-    (reached-on c.args.s.now c.loop-at.at c.loop-at.i c.loop-at.invariant.0 _ c.line_end-e.ensures, lines_more c.args.sheet (lines c.args.s.now) c.loop-at.i _ x.1 v c.loop-at.invariant.1, k ∙ c.loop-at.invariant.2)
+    )) in (
+      reached-on c.args.s.now c.loop-at.at c.loop-at.i c.loop-at.invariant.0 _ c.line_end-e.ensures,
+      lines_more c.args.sheet (lines c.args.s.now) c.loop-at.i _ x.1 v c.loop-at.invariant.1,
+      k ∙ c.loop-at.invariant.2,
+    )
 
 pub returns : goal.returns
 returns c =

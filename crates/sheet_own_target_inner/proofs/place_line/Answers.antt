@@ -12,4 +12,9 @@ slice_bounds-place_spelt-end c =
     simp length-take (omega (arith, line-short c.args.sheet c.args.line.now c.args.i c.requires.passed))
 
 pub place_spelt-requires : goal.place_spelt-requires
-place_spelt-requires c = record { passed = c.requires.passed; ring_len = simp length-take (omega (arith, line-short c.args.sheet c.args.line.now c.args.i c.requires.passed)); target_room_in_bounds = c.requires.target_room_in_bounds }
+place_spelt-requires c =
+    record {
+      passed = c.requires.passed;
+      ring_len = simp length-take (omega (arith, line-short c.args.sheet c.args.line.now c.args.i c.requires.passed));
+      target_room_in_bounds = c.requires.target_room_in_bounds;
+    }

@@ -10,7 +10,11 @@ line_end-e-requires c =
 
 pub place_line-m-requires : goal.place_line-m-requires
 place_line-m-requires c =
-    let l = reached-line c.args.s.now c.args.at c.args.i c.requires.line_reached.0 _ c.line_end-e.ensures in record { passed = line-passed c.args.sheet c.args.s.now c.args.i _ l.1 (c.requires.count_value.1 c.args.i c.requires.line_reached.1); target_room_in_bounds = c.requires.target_room_in_bounds }
+    let l = reached-line c.args.s.now c.args.at c.args.i c.requires.line_reached.0 _ c.line_end-e.ensures in
+    record {
+      passed = line-passed c.args.sheet c.args.s.now c.args.i _ l.1 (c.requires.count_value.1 c.args.i c.requires.line_reached.1);
+      target_room_in_bounds = c.requires.target_room_in_bounds;
+    }
 
 pub returns : goal.returns
 returns c =

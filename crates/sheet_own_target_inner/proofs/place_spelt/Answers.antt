@@ -8,5 +8,6 @@ returns-in-Whole c =
 
 pub returns-in-Refused : goal.returns-in-Refused
 returns-in-Refused c =
-    absurd (line-never c.args.sheet c.args.line.now c.args.i c.requires.passed _ c.spell.result c.spell.ensures c.args.last c.args.buf.now _ _ c.target.ensures c.requires.target_room_in_bounds c.in-Refused.field-0
+    absurd (line-never c.args.sheet c.args.line.now c.args.i c.requires.passed _ c.spell.result c.spell.ensures c.args.last c.args.buf.now _ _ c.target.ensures
+    c.requires.target_room_in_bounds c.in-Refused.field-0
     c.in-Refused.is)

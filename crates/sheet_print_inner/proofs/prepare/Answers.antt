@@ -28,7 +28,8 @@ returns-then-is_own c =
     let l = rw (not-false c.read_line-read.result.good c.if-not-read.false) at c.read_line-read.ensures in
     let own = sym c.is_own.ensures ∙ c.if-is_own.true in
     prepared-lines c.args.s.now _ c.piece_end-e.ensures c.read_line-read.result.sheet l own c.behind-from.result
-    c.behind-from.ensures c.prepare_own.result.sheet c.prepare_own.result.places c.prepare_own.result.from c.prepare_own.result.count c.prepare_own.result.answer c.prepare_own.ensures.0 c.prepare_own.ensures.1
+    c.behind-from.ensures c.prepare_own.result.sheet c.prepare_own.result.places c.prepare_own.result.from c.prepare_own.result.count
+    c.prepare_own.result.answer c.prepare_own.ensures.0 c.prepare_own.ensures.1
 
 pub returns-then-s-e-gt1 : goal.returns-then-s-e-gt1
 returns-then-s-e-gt1 c =

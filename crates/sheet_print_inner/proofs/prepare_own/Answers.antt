@@ -20,6 +20,7 @@ returns-in-Refused c =
     let l = rw c.in-Refused.is at c.check_lines.ensures in
     let x = own-wrong c.args.sheet (lines c.args.text.now) c.own_sheet-own.result c.own_sheet-own.ensures 0 c.in-Refused.r c.in-Refused.j l in (
       c.bare_job-in-Refused.ensures.1,
-      own-as c.args.sheet (lines c.args.text.now) c.own_sheet-own.result c.bare_job-in-Refused.result.sheet 0 c.bare_job-in-Refused.result.count (A.Wrong c.in-Refused.r c.in-Refused.j) c.bare_job-in-Refused.result.answer
+      own-as c.args.sheet (lines c.args.text.now) c.own_sheet-own.result c.bare_job-in-Refused.result.sheet 0 c.bare_job-in-Refused.result.count
+          (A.Wrong c.in-Refused.r c.in-Refused.j) c.bare_job-in-Refused.result.answer
           c.bare_job-in-Refused.ensures.0 c.bare_job-in-Refused.ensures.2 c.bare_job-in-Refused.ensures.3 x,
     )

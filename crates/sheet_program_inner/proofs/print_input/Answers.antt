@@ -10,4 +10,5 @@ slice_bounds-print_sheet-end c =
 
 pub print_sheet-requires : goal.print_sheet-requires
 print_sheet-requires c =
-    let m : MostSays (Ended c.in-Ended.got) c.args.input.now = rw c.in-Ended.is at c.requires.most_says in record { input_in_bounds = simp length-take (omega (arith, m, c.requires.input_in_bounds)); target_room_in_bounds = c.requires.target_room_in_bounds }
+    let m : MostSays (Ended c.in-Ended.got) c.args.input.now = rw c.in-Ended.is at c.requires.most_says in
+    record { input_in_bounds = simp length-take (omega (arith, m, c.requires.input_in_bounds)); target_room_in_bounds = c.requires.target_room_in_bounds }

@@ -14,4 +14,5 @@ slice_bounds-print_lines-start c = let r = rw c.in-Own.is at c.requires.answer_r
 
 pub print_lines-written-requires : goal.print_lines-written-requires
 print_lines-written-requires c =
-    let r = rw c.in-Own.is at c.requires.answer_ready in record { ready_own = lines-ready c.args.input.now c.args.job.sheet c.args.job.from c.args.job.count r.1; target_room_in_bounds = c.requires.target_room_in_bounds }
+    let r = rw c.in-Own.is at c.requires.answer_ready in
+    record { ready_own = lines-ready c.args.input.now c.args.job.sheet c.args.job.from c.args.job.count r.1; target_room_in_bounds = c.requires.target_room_in_bounds }

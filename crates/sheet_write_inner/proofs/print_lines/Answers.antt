@@ -8,7 +8,12 @@ pub loop-j-init : goal.loop-j-init
 loop-j-init c = (reached-first c.args.text.now, omega arith, c.requires.target_room_in_bounds, refl)
 
 pub place_next-step-requires : goal.place_next-step-requires
-place_next-step-requires c = record { count_value = (c.requires.ready_own.number, c.requires.ready_own.passed); line_reached = (c.loop-j.invariant.0, c.loop-j-test.true); target_room_in_bounds = c.loop-j.invariant.2 }
+place_next-step-requires c =
+    record {
+      count_value = (c.requires.ready_own.number, c.requires.ready_own.passed);
+      line_reached = (c.loop-j.invariant.0, c.loop-j-test.true);
+      target_room_in_bounds = c.loop-j.invariant.2;
+    }
 
 pub slice_bounds-write_all-end : goal.slice_bounds-write_all-end
 slice_bounds-write_all-end c =

@@ -7,7 +7,12 @@ pub loop-i-init : goal.loop-i-init
 loop-i-init c = (omega arith, c.requires.target_room_in_bounds, refl)
 
 pub place_step-m-requires : goal.place_step-m-requires
-place_step-m-requires c = record { set_places = c.requires.ready_set.places; i_lt_count = (c.loop-i-test.true, c.loop-i.invariant.1); passed = c.requires.ready_set.passed c.loop-i.i c.loop-i-test.true }
+place_step-m-requires c =
+    record {
+      set_places = c.requires.ready_set.places;
+      i_lt_count = (c.loop-i-test.true, c.loop-i.invariant.1);
+      passed = c.requires.ready_set.passed c.loop-i.i c.loop-i-test.true;
+    }
 
 pub slice_bounds-write_all-end : goal.slice_bounds-write_all-end
 slice_bounds-write_all-end c =

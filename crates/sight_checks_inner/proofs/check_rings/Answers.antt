@@ -13,7 +13,11 @@ pub returns-then-rings-n-ne0 : goal.returns-then-rings-n-ne0
 returns-then-rings-n-ne0 c = inl (inl (inr ((omega (arith, c.if-n-lt1.false), omega (arith, c.if-n-gt-MOST_SECTORS.false)), (refl, c.if-rings-n-ne0.true))))
 
 pub returns-then-k-lt-FEWEST_SHADES : goal.returns-then-k-lt-FEWEST_SHADES
-returns-then-k-lt-FEWEST_SHADES c = inl (inr (((omega (arith, c.if-n-lt1.false), omega (arith, c.if-n-gt-MOST_SECTORS.false)), c.if-rings-n-ne0.false), (refl, λ s. omega (arith, s.0, c.if-k-lt-FEWEST_SHADES.true))))
+returns-then-k-lt-FEWEST_SHADES c =
+    inl (inr (
+      ((omega (arith, c.if-n-lt1.false), omega (arith, c.if-n-gt-MOST_SECTORS.false)), c.if-rings-n-ne0.false),
+      (refl, λ s. omega (arith, s.0, c.if-k-lt-FEWEST_SHADES.true)),
+    ))
 
 pub returns-then-k-gt-MOST_SHADES : goal.returns-then-k-gt-MOST_SHADES
 returns-then-k-gt-MOST_SHADES c =

@@ -7,8 +7,10 @@ pub which_near-front-requires : goal.which_near-front-requires
 which_near-front-requires c = (c.requires.0, c.requires.1)
 
 pub which_near-behind-requires : goal.which_near-behind-requires
-which_near-behind-requires c =
-    (back_some c.args.most c.args.rings.now c.args.reading.now c.args.back.now c.requires.0 c.requires.2, back_fits c.args.most c.args.rings.now c.args.reading.now c.args.back.now c.requires.0 c.requires.2 c.requires.1)
+which_near-behind-requires c = (
+  back_some c.args.most c.args.rings.now c.args.reading.now c.args.back.now c.requires.0 c.requires.2,
+  back_fits c.args.most c.args.rings.now c.args.reading.now c.args.back.now c.requires.0 c.requires.2 c.requires.1,
+)
 
 pub nearest_to-t-requires : goal.nearest_to-t-requires
 nearest_to-t-requires c =
@@ -31,7 +33,8 @@ returns-in-Many-behind c =
 
 pub returns-in-One-behind : goal.returns-in-One-behind
 returns-in-One-behind c =
-    one_each c.args.most c.args.rings.now c.args.reading.now c.args.back.now c.requires.0 c.requires.2 c.in-One.j c.in-One-behind.field-0 (rw c.in-One.is at c.which_near-front.ensures) (rw c.in-One-behind.is at c.which_near-behind.ensures)
+    one_each c.args.most c.args.rings.now c.args.reading.now c.args.back.now c.requires.0 c.requires.2 c.in-One.j c.in-One-behind.field-0
+    (rw c.in-One.is at c.which_near-front.ensures) (rw c.in-One-behind.is at c.which_near-behind.ensures)
 
 pub returns-in-Nobody-behind : goal.returns-in-Nobody-behind
 returns-in-Nobody-behind c =
@@ -49,4 +52,5 @@ returns-in-One-behind-2 c =
 
 pub returns-in-Nobody-behind-2 : goal.returns-in-Nobody-behind-2
 returns-in-Nobody-behind-2 c =
-    nobody c.args.most c.args.rings.now c.args.reading.now c.args.back.now c.requires.0 c.requires.2 (rw c.in-Nobody.is at c.which_near-front.ensures) (rw c.in-Nobody-behind-2.is at c.which_near-behind.ensures)
+    nobody c.args.most c.args.rings.now c.args.reading.now c.args.back.now c.requires.0 c.requires.2 (rw c.in-Nobody.is at c.which_near-front.ensures)
+    (rw c.in-Nobody-behind-2.is at c.which_near-behind.ensures)

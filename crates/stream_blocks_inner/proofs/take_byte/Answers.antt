@@ -11,7 +11,13 @@ slice_bounds-place_text-end-in-Ended c =
 
 pub returns-in-Ended : goal.returns-in-Ended
 returns-in-Ended c =
-    let h = held-ends c.args.b c.args.len c.args.line.now _ _ c.in-Ended.is c.hold_byte.ensures in record { len_in_bounds_2 = omega arith; byte_says = ends h.0 refl (rw h.1 at c.place_text-next.ensures) }
+    let h = held-ends c.args.b c.args.len c.args.line.now _ _ c.in-Ended.is c.hold_byte.ensures in
+    record { len_in_bounds_2 = omega arith; byte_says = ends h.0 refl (rw h.1 at c.place_text-next.ensures) }
 
 pub returns-in-Bytes : goal.returns-in-Bytes
-returns-in-Bytes c = record { len_in_bounds_2 = (held_kept c.args.b c.args.len c.args.line.now _ _ (Said c.args.kind) (room_of c.args.kind) c.args.at c.args.buf.now _ c.in-Bytes.is c.requires.len_in_bounds c.hold_byte.ensures).0; byte_says = (held_kept c.args.b c.args.len c.args.line.now _ _ _ _ c.args.at c.args.buf.now _ c.in-Bytes.is c.requires.len_in_bounds c.hold_byte.ensures).1 }
+returns-in-Bytes c =
+    record {
+      len_in_bounds_2 = (held_kept c.args.b c.args.len c.args.line.now _ _ (Said c.args.kind) (room_of c.args.kind) c.args.at c.args.buf.now _
+          c.in-Bytes.is c.requires.len_in_bounds c.hold_byte.ensures).0;
+      byte_says = (held_kept c.args.b c.args.len c.args.line.now _ _ _ _ c.args.at c.args.buf.now _ c.in-Bytes.is c.requires.len_in_bounds c.hold_byte.ensures).1;
+    }

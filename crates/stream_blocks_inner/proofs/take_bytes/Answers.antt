@@ -15,7 +15,12 @@ loop-i-init c = (
 )
 
 pub take_byte-q-requires : goal.take_byte-q-requires
-take_byte-q-requires c = record { line_len = c.loop-i.invariant.1; len_in_bounds = omega (arith, c.loop-i.invariant.1, c.loop-i.invariant.2); kind_in_bounds = taking-room _ _ _ (said-tells c.args.kind) _ _ _ _ _ _ _ c.loop-i.invariant.3 c.loop-i-test.true c.requires.kind_in_bounds }
+take_byte-q-requires c =
+    record {
+      line_len = c.loop-i.invariant.1;
+      len_in_bounds = omega (arith, c.loop-i.invariant.1, c.loop-i.invariant.2);
+      kind_in_bounds = taking-room _ _ _ (said-tells c.args.kind) _ _ _ _ _ _ _ c.loop-i.invariant.3 c.loop-i-test.true c.requires.kind_in_bounds;
+    }
 
 pub loop-i-preserved : goal.loop-i-preserved
 loop-i-preserved c =
@@ -31,4 +36,8 @@ pub shape_of-buf : goal.shape_of-buf
 shape_of-buf c = c.loop-i.invariant.4
 
 pub returns : goal.returns
-returns c = record { len_in_bounds_2 = omega (arith, c.loop-i.invariant.1, c.loop-i.invariant.2); block_says = taking-end _ _ _ (said-tells c.args.kind) _ _ _ _ _ _ _ c.loop-i.invariant.3 c.loop-i.invariant.0 c.loop-i-test.false c.requires.kind_in_bounds }
+returns c =
+    record {
+      len_in_bounds_2 = omega (arith, c.loop-i.invariant.1, c.loop-i.invariant.2);
+      block_says = taking-end _ _ _ (said-tells c.args.kind) _ _ _ _ _ _ _ c.loop-i.invariant.3 c.loop-i.invariant.0 c.loop-i-test.false c.requires.kind_in_bounds;
+    }

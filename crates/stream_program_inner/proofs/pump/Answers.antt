@@ -9,7 +9,15 @@ pub loop-kind-init : goal.loop-kind-init
 loop-kind-init c = (refl, c.requires.line_len, omega arith, refl, none)
 
 pub turn-t-requires : goal.turn-t-requires
-turn-t-requires c = record { line_len = c.loop-kind.invariant.1; len_in_bounds = omega (arith, c.loop-kind.invariant.2); block_nonzero = (omega (arith, c.loop-kind.invariant.0, c.requires.block_nonzero.0), rw (c.loop-kind.invariant.0, c.loop-kind.invariant.3) c.requires.block_nonzero.1) }
+turn-t-requires c =
+    record {
+      line_len = c.loop-kind.invariant.1;
+      len_in_bounds = omega (arith, c.loop-kind.invariant.2);
+      block_nonzero = (
+        omega (arith, c.loop-kind.invariant.0, c.requires.block_nonzero.0),
+        rw (c.loop-kind.invariant.0, c.loop-kind.invariant.3) c.requires.block_nonzero.1,
+      );
+    }
 
 pub shape_of-block-then-not-goes_on : goal.shape_of-block-then-not-goes_on
 shape_of-block-then-not-goes_on c =
@@ -25,7 +33,8 @@ shape_of-buf-then-not-goes_on c =
 
 pub returns-then-not-goes_on : goal.returns-then-not-goes_on
 returns-then-not-goes_on c =
-    let g = rw (not-true c.goes_on.result c.if-not-goes_on.true-raw) at c.goes_on.ensures in record { goes_on = g; pump_says = record { held = _; left = _; buffer = _; turns = c.loop-kind.invariant.4; answered = c.turn-t.ensures.read_answered } }
+    let g = rw (not-true c.goes_on.result c.if-not-goes_on.true-raw) at c.goes_on.ensures in
+    record { goes_on = g; pump_says = record { held = _; left = _; buffer = _; turns = c.loop-kind.invariant.4; answered = c.turn-t.ensures.read_answered } }
 
 pub overflow_add-reads : goal.overflow_add-reads
 overflow_add-reads c =

@@ -11,7 +11,12 @@ pub slice_bounds-pump-end-2 : goal.slice_bounds-pump-end-2
 slice_bounds-pump-end-2 c = simp length-take (omega (arith, c.kept_bytes-m.ensures))
 
 pub pump-left-requires : goal.pump-left-requires
-pump-left-requires c = record { line_len = first-long _ _ _ (omega (arith, c.kept_bytes-m.ensures)) c.kept_bytes-m.ensures.0; block_nonzero = first-room _ _ _ _ (omega (arith, c.block_length-n.ensures)) c.block_length-n.ensures.0 (omega (arith, c.block_length-n.ensures, c.wide_buffer-buf.ensures)) }
+pump-left-requires c =
+    record {
+      line_len = first-long _ _ _ (omega (arith, c.kept_bytes-m.ensures)) c.kept_bytes-m.ensures.0;
+      block_nonzero = first-room _ _ _ _ (omega (arith, c.block_length-n.ensures)) c.block_length-n.ensures.0
+          (omega (arith, c.block_length-n.ensures, c.wide_buffer-buf.ensures));
+    }
 
 pub slice_bounds-buf-end : goal.slice_bounds-buf-end
 slice_bounds-buf-end c = omega (arith, say-within _ _ _ _ c.say-k.ensures, c.say-k.auto)

@@ -4,7 +4,16 @@ use Rattle.stream_program_inner.proofs.Stopping.{turn_inside}
 use Rattle.stream_program_inner.proofs.turn.Goals as goal
 
 pub place_turn-q-requires : goal.place_turn-q-requires
-place_turn-q-requires c = record { line_len = c.requires.line_len; len_in_bounds = c.requires.len_in_bounds; room_for_read = record { some = omega (arith, c.read_some-got.auto.block, c.requires.block_nonzero.0); room = rw c.read_some-got.auto.block c.requires.block_nonzero.1; inside = c.read_some-got.ensures } }
+place_turn-q-requires c =
+    record {
+      line_len = c.requires.line_len;
+      len_in_bounds = c.requires.len_in_bounds;
+      room_for_read = record {
+        some = omega (arith, c.read_some-got.auto.block, c.requires.block_nonzero.0);
+        room = rw c.read_some-got.auto.block c.requires.block_nonzero.1;
+        inside = c.read_some-got.ensures;
+      };
+    }
 
 pub slice_bounds-write_all-end : goal.slice_bounds-write_all-end
 slice_bounds-write_all-end c =

@@ -9,7 +9,8 @@ returns-then-power_above c =
 
 pub power-m-requires : goal.power-m-requires
 power-m-requires c =
-    let l = passed-listable c.args.reading.now c.args.k c.requires (sym c.if-power_above.false ∙ c.power_above.ensures) in record { k_nonzero = omega (arith, l.shaded.0); e_bound = omega (arith, l.few) }
+    let l = passed-listable c.args.reading.now c.args.k c.requires (sym c.if-power_above.false ∙ c.power_above.ensures) in
+    record { k_nonzero = omega (arith, l.shaded.0); e_bound = omega (arith, l.few) }
 
 pub slice_bounds-sectors-end : goal.slice_bounds-sectors-end
 slice_bounds-sectors-end c =
@@ -26,7 +27,8 @@ slice_bounds-place_on-end c =
 
 pub place_on-requires : goal.place_on-requires
 place_on-requires c =
-    let l = passed-listable c.args.reading.now c.args.k c.requires (sym c.if-power_above.false ∙ c.power_above.ensures) in record { passed = c.requires; listable = l; sectors_len = simp length-take (omega (arith, c.power-m.ensures, l.few)) }
+    let l = passed-listable c.args.reading.now c.args.k c.requires (sym c.if-power_above.false ∙ c.power_above.ensures) in
+    record { passed = c.requires; listable = l; sectors_len = simp length-take (omega (arith, c.power-m.ensures, l.few)) }
 
 pub returns : goal.returns
 returns c = (

@@ -44,7 +44,8 @@ pub returns-then-next : goal.returns-then-next
 returns-then-next c =
     let l : length c.args.w.ring ≡ 64 = search rules in
     let e : next_of bracelet c.args.w.k (ring_of c.args.w) ≡ some c.next.new.s = rw c.if-next.true at c.next.ensures in
-    arrived c.args.w c.requires l c.next.new.s e c.start_good-started.result.walk c.start_good-started.result.answer (rw (arrived-ring c.args.w c.requires l c.next.new.s e) at c.start_good-started.ensures)
+    arrived c.args.w c.requires l c.next.new.s e c.start_good-started.result.walk c.start_good-started.result.answer
+    (rw (arrived-ring c.args.w c.requires l c.next.new.s e) at c.start_good-started.ensures)
 
 pub returns : goal.returns
 returns c =

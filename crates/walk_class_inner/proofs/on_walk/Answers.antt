@@ -10,8 +10,10 @@ slice_bounds-class_of-end c = let l : length c.args.ring ≡ 64 = search rules i
 
 pub returns-then-is_loose : goal.returns-then-is_loose
 unfolding look_at
-returns-then-is_loose c =
-    (off-loose (take c.args.n c.args.ring) c.args.class c.class_of-found.result c.class_of-found.ensures (sym c.is_loose.ensures ∙ c.if-is_loose.true), c.loose_place-at.ensures ∙ ap loose_place c.class_of-found.ensures)
+returns-then-is_loose c = (
+  off-loose (take c.args.n c.args.ring) c.args.class c.class_of-found.result c.class_of-found.ensures (sym c.is_loose.ensures ∙ c.if-is_loose.true),
+  c.loose_place-at.ensures ∙ ap loose_place c.class_of-found.ensures,
+)
 
 pub returns-then-tag : goal.returns-then-tag
 unfolding look_at

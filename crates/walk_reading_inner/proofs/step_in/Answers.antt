@@ -19,5 +19,6 @@ pub returns : goal.returns
 returns c =
     let e = copied c.args.reading.now c.args.ring.now _ c.copy.ensures.copied c.requires.ring_len in
     let z : 0 < c.advance-reached.result.lyn = omega (arith, c.if-reached-eq0.false) in
-    step-moved c.args.reading.now c.args.k c.args.out.now _ c.requires.passed e (kind_of c.args.kind) _ _ c.advance-reached.result.moves (c.advance-reached.ensures.next z) (c.advance-reached.ensures.moved z)
+    step-moved c.args.reading.now c.args.k c.args.out.now _ c.requires.passed e (kind_of c.args.kind) _ _ c.advance-reached.result.moves
+    (c.advance-reached.ensures.next z) (c.advance-reached.ensures.moved z)
     c.copy-2.ensures.copied

@@ -13,5 +13,8 @@ returns-then-reached-eq0 c =
 pub returns : goal.returns
 unfolding kind_of
 returns c =
-    let z : 0 < c.advance-reached.result.lyn = omega (arith, c.if-reached-eq0.false) in
-    (c.advance-reached.ensures.next z, c.advance-reached.ensures.moved z, went-period c.args.k c.args.ring.now _ _ c.requires.pos (c.advance-reached.ensures.next z) (c.advance-reached.ensures.lyn-of z))
+    let z : 0 < c.advance-reached.result.lyn = omega (arith, c.if-reached-eq0.false) in (
+      c.advance-reached.ensures.next z,
+      c.advance-reached.ensures.moved z,
+      went-period c.args.k c.args.ring.now _ _ c.requires.pos (c.advance-reached.ensures.next z) (c.advance-reached.ensures.lyn-of z),
+    )

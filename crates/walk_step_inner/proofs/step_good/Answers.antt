@@ -29,6 +29,7 @@ returns c =
       good = c.requires;
       to = _;
       next = c.advance-r.ensures.next z;
-      handed = rw c.class_at-class.ensures (moved-is c.args.kind c.args.w _ c.advance-r.result.lyn c.requires l (c.advance-r.ensures.next z) (c.advance-r.ensures.lyn-of z) c.counts_of-counts.result c.counts_of-counts.ensures);
+      handed = rw c.class_at-class.ensures (moved-is c.args.kind c.args.w _ c.advance-r.result.lyn c.requires l (c.advance-r.ensures.next z)
+          (c.advance-r.ensures.lyn-of z) c.counts_of-counts.result c.counts_of-counts.ensures);
       counted = c.advance-r.ensures.moved z;
     }

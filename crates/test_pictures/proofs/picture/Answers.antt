@@ -1,0 +1,13 @@
+-- `test_pictures::picture` is safe: what is drawn lies within the buffer.
+use Rattle.words.proofs.Needs.{arith, length-take}
+use Rattle.test_pictures.proofs.picture.Goals as goal
+
+pub slice_bounds-buf-end : goal.slice_bounds-buf-end
+slice_bounds-buf-end c =
+    let f = rw c.in-Whole.is at c.draw.ensures in
+    omega (arith, f.2)
+
+pub slice_bounds-text-end : goal.slice_bounds-text-end
+slice_bounds-text-end c =
+    let f = rw c.in-Whole.is at c.draw.ensures in
+    simp length-take (omega (arith, f.2))
