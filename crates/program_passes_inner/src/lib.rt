@@ -128,16 +128,36 @@ pub fn failed(second: bool) -> Ending
     Ending::Unread
 }
 
-// Whether standard input stands at its beginning, as the system's record of it says.
-fn at_beginning(rt: &HostRuntime) -> bool {
-    let mut said = [0u8; 7];
+// What the system's record of standard input begins with where it stands at its beginning.
+const BEGINS: [u8; 14] = *b"pos:\t0\nflags:\t";
+
+// What the system's record of standard input begins with, and zeros.
+fn record_of_input(rt: &HostRuntime) -> [u8; 32] {
+    let mut said = [0u8; 32];
     match File::open(rt, "/proc/self/fdinfo/0") {
         Ok(mut record) => match record.read(&mut said) {
-            Ok(_) => said == *b"pos:\t0\n",
-            Err(_) => false,
+            Ok(_) => said,
+            Err(_) => [0; 32],
         },
-        Err(_) => false,
+        Err(_) => [0; 32],
     }
+}
+
+// Whether standard input stands at its beginning, as that record says.
+fn at_beginning(said: &[u8]) -> bool {
+    said.starts_with(&BEGINS)
+}
+
+// Whether standard input is open for reading, as that record says: the last digit of its flags, a number to the base 8, tells what it is open for, and 1 is writing alone.
+fn is_readable(said: &[u8]) -> bool {
+    let mut mode = 0;
+    for digit in said.iter().skip(BEGINS.len()) {
+        if *digit == b'\n' {
+            return mode % 4 != 1;
+        }
+        mode = *digit;
+    }
+    true
 }
 
 // Whether standard input can be opened anew: a pipe cannot, and might wait for one who writes to it.
@@ -148,12 +168,6 @@ fn is_pipe(rt: &HostRuntime) -> bool {
     }
 }
 
-// Whether standard input is open for reading: where it is not, a read fails even of no byte.
-fn is_readable(rt: &HostRuntime) -> bool {
-    let mut nothing = [0u8; 0];
-    rt.stdin().read(&mut nothing).is_ok()
-}
-
 // A file that is open for writing alone, of which each read fails.
 fn open_unreadable(rt: &HostRuntime) -> Option<File> {
     OpenOptions::new().write(true).open(rt, "/dev/null").ok()
@@ -161,10 +175,11 @@ fn open_unreadable(rt: &HostRuntime) -> Option<File> {
 
 // Standard input as a file with a place of its own, where it is a file that stands at its beginning. Where it is not open for reading, neither is what stands for it.
 pub fn open_input(rt: &HostRuntime) -> Option<File> {
-    if is_pipe(rt) || !at_beginning(rt) {
+    let said = record_of_input(rt);
+    if is_pipe(rt) || !at_beginning(&said) {
         return None;
     }
-    if !is_readable(rt) {
+    if !is_readable(&said) {
         return open_unreadable(rt);
     }
     match File::open(rt, "/dev/stdin") {
