@@ -1,0 +1,9 @@
+-- `test_listing::run_all` meets its contract.
+use Rattle.words.proofs.Needs.{◌≤◌, ◌+◌, ◌-◌, length}
+use Rattle.test_listing.proofs.run_all.Given as goal
+
+abbrev pub invariant-loop-at : goal.invariant-loop-at
+invariant-loop-at l = l.at ≤ length l.cases + 1
+
+abbrev pub decreases-loop-at : goal.decreases-loop-at
+decreases-loop-at l = length l.cases + 1 - l.at
