@@ -4,7 +4,7 @@
 --     Going                      behind the first i bytes of a block: they are records, whose texts stand at the beginning of the output
 --     going-none, going_on       before the first record, and behind one more
 --     going-room, going-stop     there is room; and where no other is read
---     left-over, left-bad        why no other is read
+--     left_over, left-bad        why no other is read
 --     turn-size, turn_on, turn-same, turn-stop, turn-over    a turn, by what it gave
 use Rattle.words.proofs.Plain.{ℕ, ◌+◌, ◌-◌, ◌*◌, ◌<◌, ◌≤◌, arith, ◌≡◌, refl, sym, ap, subst, ◌∙◌, Bool, true, false, List, [], ◌∷◌, ◌++◌, length, take, drop}
 use Rattle.words.proofs.Plain.{length-append, length-take, length-drop, take-add, take_all}

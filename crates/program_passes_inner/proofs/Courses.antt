@@ -3,7 +3,7 @@
 --     course-more            where another block is read, so many bytes of the one before it are done, and its place is below the limit
 --     too_far                where none is read behind a block that is not the last, its end is not
 --     same_whole, same-changed    the two ends compared
-use Rattle.words.proofs.Plain.{ℕ, ◌+◌, ◌-◌, ◌<◌, ◌≤◌, arith, ◌≡◌, refl, sym, ap, ◌∙◌, Bool, true, false, false≢true, List, ltb, length, eq-eqb, ne_eqb}
+use Rattle.words.proofs.Plain.{ℕ, ◌+◌, ◌-◌, ◌<◌, ◌≤◌, arith, ◌≡◌, refl, sym, ap, ◌∙◌, Bool, true, false, false≢true, List, length, eq-eqb, ne_eqb}
 use Rattle.words.proofs.Plain.{ltb-true, ltb-false}
 use Rattle.program_ending_inner.specs.declared.Ending.{Ending}
 use Rattle.program_ending_inner.specs.declared.Ending.TheVariants as E
@@ -11,8 +11,8 @@ use Rattle.program_reading_inner.specs.{declared.Most.Most, Says.MostSays}
 use Rattle.program_reading_inner.specs.declared.Most.TheVariants as M
 use Rattle.program_passes_inner.specs.{declared.Part.Part, declared.Then.Then, declared.Turn.Turn}
 use Rattle.program_passes_inner.specs.declared.Then.TheVariants.{More, Over, Stop}
-use Rattle.program_passes_inner.specs.Passes.{limit, part_of, PartSays, ReadTo, Course, course_by, course_of, goes_further, same_end}
-use Rattle.program_passes_inner.specs.Passes.Course.{On, Done, Stopped}
+use Rattle.program_passes_inner.specs.Passes.{limit, part_of, PartSays, ReadTo, course_by, course_of, goes_further, same_end}
+use Rattle.program_passes_inner.specs.Passes.Course.{On}
 
 -- ---- what was read
 

@@ -5,6 +5,9 @@
 
 ghost use Rattle.std.specs.Prelude.{◌<◌, ◌≡◌};
 ghost use Rattle.program_reading_inner.specs.Says.{MostSays};
+ghost use Rattle.std.specs.List.{starts_with};
+ghost use Rattle.std.specs.Prelude.{drop, nat_eq};
+ghost use Rattle.program_passes_inner.specs.Record.{record_start, mode_said, readable_said};
 ghost use Rattle.program_passes_inner.specs.Passes.{limit, failed_of, same_end, part_of, PartSays, Stopped, course_of, gone_by, goes_further, EndWithin, finish_of, finish_at};
 
 use program_ending_inner::Ending;
@@ -144,20 +147,34 @@ fn record_of_input(rt: &HostRuntime) -> [u8; 32] {
 }
 
 // Whether standard input stands at its beginning, as that record says.
-fn at_beginning(said: &[u8]) -> bool {
+fn at_beginning(said: &[u8]) -> bool
+    ensures { result ≡ starts_with nat_eq said.now record_start }
+{
     said.starts_with(&BEGINS)
 }
 
-// Whether standard input is open for reading, as that record says: the last digit of its flags, a number to the base 8, tells what it is open for, and 1 is writing alone.
-fn is_readable(said: &[u8]) -> bool {
+// The last digit of the flags, behind what the record begins with.
+fn mode_of(said: &[u8]) -> u8
+    ensures { result ≡ mode_said 0 (drop 14 said.now) }
+{
     let mut mode = 0;
-    for digit in said.iter().skip(BEGINS.len()) {
-        if *digit == b'\n' {
-            return mode % 4 != 1;
+    let mut i = BEGINS.len();
+    while i < said.len() {
+        let here = said[i];
+        if here == b'\n' {
+            return mode;
         }
-        mode = *digit;
+        mode = here;
+        i += 1;
     }
-    true
+    0
+}
+
+// Whether standard input is open for reading, as that record says: 1 at the end of the flags is writing alone.
+fn is_readable(said: &[u8]) -> bool
+    ensures { result ≡ readable_said said.now }
+{
+    mode_of(said) % 4 != 1
 }
 
 // Whether standard input can be opened anew: a pipe cannot, and might wait for one who writes to it.
