@@ -18,4 +18,3 @@ returns-then-first c =
 pub returns : goal.returns
 returns c =
     stopped false (rw c.if-first.false at c.go_once-first.ensures)
-
