@@ -43,7 +43,7 @@ build_c() {
     link "$room/$program" "$room/$program.o" "$@"
 }
 
-# ---- building what is proved
+# ---- building what is proved: such a function has its own names, in parentheses
 
 # told FILE WHAT: shows what the toolchain said, and that it did not build
 told() {
@@ -64,13 +64,13 @@ build_program() {
 }
 
 # build_programs DIR PROGRAM..: the programs, each under its name in DIR.
-build_programs() {
+build_programs() (
     into=$1
     shift
     for program; do
         build_program "$program" && cp "$top/crates/$program/out/$program" "$into/$program" || return 2
     done
-}
+)
 
 # build_list: the listing program, where it is not built yet.
 build_list() { "$top/rings" list 2 1 >/dev/null; }
@@ -94,23 +94,23 @@ below() {
 stands_on() { sed -n "s/^$1\( staticlib\)\{0,1\}: *//p" "$top/crates.txt"; }
 
 # libraries_by_gate CRATE..: what a crate above these is built over, all of it made by the `rt ci` before. (Behind its run it gives a checkout back what earlier checks had left there.)
-libraries_by_gate() {
+libraries_by_gate() (
     for crate in $(below "$@"); do
         by_gate "$top/crates/$crate/out/rlib/$crate.rlib" || return 1
     done
-}
+)
 
 # build_libraries CRATE..: of each crate of the repository what the crates above it are built over, crates/CRATE/out/rlib.
-build_libraries() {
+build_libraries() (
     ! libraries_by_gate "$@" || return 0
     for crate; do
         (cd "$top/crates/$crate" && rt lib) >"$room/said" 2>&1 || told "$room/said" "the library $crate" || return 2
     done
-}
+)
 
 # static_library FOLDER NAME TO TOOLCHAIN CRATE..: the file TO, the static library of the crate NAME in FOLDER, which is proved here and now, from nothing, over these crates of the
 # repository, whose libraries are built. TOOLCHAIN has the compiler.
-static_library() {
+static_library() (
     folder=$1 name=$2 to=$3 by=$4
     shift 4
     crates=$* under=$(below "$@")
@@ -121,17 +121,17 @@ static_library() {
     for crate in $under; do set -- "$@" -L "dependency=$top/crates/$crate/out/rlib"; done
     set -- "$@" --antt-project "$kit/rattle/logic/antt-project.json" --logic-built "$kit/logic_built" --links "$name=" --backend llvm
     (cd "$folder" && "$kit/bin/rattle" build "$@" --toolchain "$by" -o "$to") >"$room/said" 2>&1
-}
+)
 
 # build_door CRATE: crates/CRATE/out/libCRATE.a, the static library of a crate of the repository.
-build_door() {
+build_door() (
     made=$top/crates/$1/out/lib$1.a on=$(stands_on "$1")
     ! by_gate "$made" || return 0
     # `rt ci` proves such a crate and builds what it stands on, but not its library
     # shellcheck disable=SC2086
     if libraries_by_gate $on && mkdir -p "$top/crates/$1/out" && static_library "$top/crates/$1" "$1" "$made" "$kit/toolchain" $on; then return; fi
     (cd "$top/crates/$1" && rt lib) >"$room/said" 2>&1 && [ -s "$made" ] || told "$room/said" "$1"
-}
+)
 
 # The calls that are measured, under names that C can call. A refusal answers 255.
 calls_source() {
@@ -256,14 +256,14 @@ RATTLE
 
 # build_measured NAME TOOLCHAIN CRATE..: room/NAME.a, the static library of the Rattle source on standard input. It is a crate that only stands in the room, so that neither the repository nor
 # its gate has it.
-build_measured() {
+build_measured() (
     of=$1 with=$2
     shift 2
     mkdir -p "$room/crate-$of/src"
     { printf '#![tactic(auto)]\n\n'; cat; } >"$room/crate-$of/src/lib.rt"
     build_libraries "$@" || return 2
     static_library "$room/crate-$of" "$of" "$room/$of.a" "$with" "$@" || told "$room/said" "the library for C"
-}
+)
 
 # build_calls [TOOLCHAIN]: room/calls.a, the library of those calls for C.
 build_calls() {
