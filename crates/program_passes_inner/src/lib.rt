@@ -12,11 +12,12 @@ ghost use Rattle.program_passes_inner.specs.Passes.{limit, failed_of, same_end, 
 
 use program_ending_inner::Ending;
 use program_reading_inner::Most;
-use std::fs;
+use std::env::{Env, FillError};
 use std::fs::{File, OpenOptions};
 use std::io::{Read, Seek, SeekFrom};
 use std::os::unix::fs::FileTypeExt;
 use std::rt::HostRuntime;
+use std::{fs, str};
 
 // No file goes so far: 2 to the power 62.
 pub const LIMIT: usize = 4611686018427387904;
@@ -191,7 +192,7 @@ fn open_unreadable(rt: &HostRuntime) -> Option<File> {
 }
 
 // Standard input as a file with a place of its own, where it is a file that stands at its beginning. Where it is not open for reading, neither is what stands for it.
-pub fn open_input(rt: &HostRuntime) -> Option<File> {
+fn open_standard(rt: &HostRuntime) -> Option<File> {
     let said = record_of_input(rt);
     if is_pipe(rt) || !at_beginning(&said) {
         return None;
@@ -208,6 +209,27 @@ pub fn open_input(rt: &HostRuntime) -> Option<File> {
             }
         }
         Err(_) => None,
+    }
+}
+
+// The file of that name, which is text.
+fn open_named(rt: &HostRuntime, name: &[u8]) -> Option<File> {
+    match str::from_utf8(name) {
+        Ok(path) => File::open(rt, path).ok(),
+        Err(_) => None,
+    }
+}
+
+// No name of a file is longer.
+const MOST_NAME: usize = 4096;
+
+// What a program goes through: the file that its first argument names, or else standard input.
+pub fn open_input(rt: &HostRuntime) -> Option<File> {
+    let mut name = [0u8; MOST_NAME];
+    match rt.arg(1, &mut name) {
+        Ok(len) => open_named(rt, &name[..len]),
+        Err(FillError::NotPresent) => open_standard(rt),
+        Err(FillError::TooLong) => None,
     }
 }
 
