@@ -1,5 +1,5 @@
 -- `check_counts_inner::counts_fit` meets its contract. The loop's invariant: what is left is n less the counts passed, said as a sum.
-use Rattle.words.proofs.Needs.{◌-◌, arith}
+use Rattle.words.proofs.Needs.{arith}
 use Rattle.check_counts_inner.proofs.Sum.{sum-on, sum_over, sum-end, told-equal}
 use Rattle.check_counts_inner.proofs.counts_fit.Goals as goal
 

