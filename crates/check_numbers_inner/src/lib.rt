@@ -14,20 +14,14 @@ use rings::{FEWEST_SHADES, MOST_SECTORS, MOST_SHADES};
 pub fn check_numbers(n: usize, second: usize, k: usize) -> Result<(), Refusal>
     ensures { CheckSays (numbers n second k) result }
 {
-    if n < 1 {
-        return Err(Refusal::Length(0));
-    }
-    if MOST_SECTORS < n {
+    if n < 1 || MOST_SECTORS < n {
         return Err(Refusal::Length(0));
     }
     if second != n {
         return Err(Refusal::Pair);
     }
-    if k < FEWEST_SHADES {
-        return Err(Refusal::Shades(0)); // too few
-    }
-    if MOST_SHADES < k {
-        return Err(Refusal::Shades(0)); // too many
+    if k < FEWEST_SHADES || MOST_SHADES < k {
+        return Err(Refusal::Shades(0));
     }
     Ok(())
 }
