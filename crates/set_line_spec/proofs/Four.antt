@@ -3,15 +3,15 @@
 --     second-here, second_at     there is a space at the second space; of four numbers it stands behind the first two
 --     four-at, four-join         so two numbers stand before it and two behind it, and the other way round
 --     no-newline-four            no character of the four numbers is a newline
---     ended-four, bare-four      what the four numbers say, the line says
+--     ended-four, bare-four      what the four numbers say, the line says; split-four by the newline and what stands before it
 --     set-line-some              a line has characters
 --     one-set-line               a line spells at most four numbers
 --     set-line-short             a line has at most 16 characters
 --     one-spelt                  no line has two answers
 use Rattle.std.specs.Prelude.{Option, None, Some}
-use Rattle.words.proofs.Plain.{ℕ, suc, ◌+◌, ◌-◌, ◌<◌, ◌≤◌, add-one, arith, dec_lt, ◌≡◌, refl, sym, ap, ◌∙◌, inl, inr, ⊎_elim, List, ◌∷◌, ◌++◌, append_assoc, eqb}
+use Rattle.words.proofs.Plain.{ℕ, suc, ◌+◌, ◌-◌, ◌<◌, ◌≤◌, add-one, arith, dec_lt, ◌≡◌, refl, sym, ap, ◌∙◌, inl, inr, ⊎_elim, List, [], ◌∷◌, ◌++◌, append_assoc, eqb}
 use Rattle.words.proofs.Plain.{length, get_or, take, drop, length-append, length-drop, List·get_d-append, take-append_seam, drop-append-add, get_or-append_seam}
-use Rattle.words.proofs.Plain.{get_or-append-add, get_or-drop, split_at, take_all, eqb-true, eqb-false}
+use Rattle.words.proofs.Plain.{get_or-append-add, get_or-drop, split_at, take_at, take_all, eqb-true, eqb-false}
 use Rattle.words.proofs.Split.{lt, eq, gt, tri, passes, fails, test}
 use Rattle.text_spec.specs.Decimal.{decimal}
 use Rattle.text_spec.proofs.Digits.{decimal-digits, length-decimal}
@@ -120,6 +120,14 @@ ended-four s None l z f = λ n k d want p. f n k d want p.short (ended s n k d w
 pub bare-four : (s : List ℕ) (p : Option (ℕ × ℕ × ℕ × ℕ)) → (get_or s (length s - 1) 0 ≡ 10 → ⊥) → FourSays s p → SpellSays s p
 bare-four s (Some (n, k, d, want)) z f = record { short = f.0; text = inl f.1 }
 bare-four s None z f = λ n k d want p. f n k d want p.short (bare s n k d want p z)
+
+-- so by the last character, a newline, and what stands before it
+pub split-four : (s t : List ℕ) (a : ℕ) (p : Option (ℕ × ℕ × ℕ × ℕ)) → s ≡ t ++ (a ∷ []) → a ≡ 10 → FourSays t p → SpellSays s p
+split-four s t a p e z f =
+    let n : length s - 1 ≡ length t = rw e (simp length-append (omega arith)) in
+    let h : take (length s - 1) s ≡ t = rw n (ap (take (length t)) e ∙ take_at t (a ∷ []) (length t) refl) in
+    let l : get_or s (length s - 1) 0 ≡ a = rw n (ap (λ (x : List ℕ). get_or x (length t) 0) e ∙ get_or-append_seam t a [] 0) in
+    ended-four s p (omega (arith, simp length-append at (ap length e))) (l ∙ z) (rw h f)
 
 -- ---- one answer
 
