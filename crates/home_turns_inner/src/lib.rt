@@ -33,24 +33,15 @@ pub fn same_turns(a: &[u8], i: usize, b: &[u8], j: usize) -> bool
     requires { (length a.now ≡ length b.now) × (i ≤ length a.now) × (j ≤ length b.now) }
     ensures { result ≡ same (turn i a.now) (turn j b.now) }
 {
-    let mut m = 0;
-    while m < a.len() {
-        if sector(a, i, m) != sector(b, j, m) {
-            return false;
-        }
-        m += 1;
-    }
-    true
+    (0..a.len()).all(|m| sector(a, i, m) == sector(b, j, m))
 }
 
 // Writes s turned by i.
+#[tactic(auto, unfolding(words::specs::Turn::turn))]
 pub fn write_turn(s: &[u8], i: usize, out: &mut [u8])
     requires { (i ≤ length s.now) × (length out.old ≡ length s.now) }
     ensures { out.new ≡ turn i s.now }
 {
-    let mut m = 0;
-    while m < s.len() {
-        out[m] = sector(s, i, m);
-        m += 1;
-    }
+    out.copy_from_slice(s);
+    out.rotate_left(i);
 }

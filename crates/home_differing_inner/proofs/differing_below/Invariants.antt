@@ -6,7 +6,4 @@ use Rattle.rings.specs.Alike.{differing}
 use Rattle.home_differing_inner.proofs.differing_below.Given as goal
 
 abbrev pub invariant-loop-m : goal.invariant-loop-m
-invariant-loop-m l = (l.d + differing (drop l.m (turn l.i l.a)) (drop l.m l.b) ≡ differing (turn l.i l.a) l.b) × (l.m ≤ length l.a) × (l.d ≤ l.m) × (l.d ≤ l.limit)
-
-abbrev pub decreases-loop-m : goal.decreases-loop-m
-decreases-loop-m l = length l.a - l.m
+invariant-loop-m l = (l.d + differing (drop l.m (turn l.i l.a)) (drop l.m l.b) ≡ differing (turn l.i l.a) l.b) × (l.d ≤ l.m) × (l.d ≤ l.limit)

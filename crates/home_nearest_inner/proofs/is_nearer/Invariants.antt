@@ -5,6 +5,3 @@ use Rattle.home_nearest_inner.proofs.is_nearer.Given as goal
 
 abbrev pub invariant-loop-j : goal.invariant-loop-j
 invariant-loop-j l = NoneNearer l.a l.b l.d l.j
-
-abbrev pub decreases-loop-j : goal.decreases-loop-j
-decreases-loop-j l = length l.a - l.j

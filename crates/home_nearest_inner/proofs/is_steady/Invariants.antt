@@ -5,6 +5,3 @@ use Rattle.home_nearest_inner.proofs.is_steady.Given as goal
 
 abbrev pub invariant-loop-j : goal.invariant-loop-j
 invariant-loop-j l = FarTurns l.d l.s l.j
-
-abbrev pub decreases-loop-j : goal.decreases-loop-j
-decreases-loop-j l = length l.s - l.j
