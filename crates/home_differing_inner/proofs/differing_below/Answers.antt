@@ -1,6 +1,6 @@
 -- `home_differing_inner::differing_below` meets its contract. The loop's invariant: d is at most limit, and d and what is left of the two from place m on give the
 -- number.
-use Rattle.words.proofs.Needs.{◌-◌, arith, refl, sym, ⊎_elim, length, get_or}
+use Rattle.words.proofs.Needs.{arith, refl, sym, ⊎_elim, length, get_or}
 use Rattle.words.specs.Turn.{turn}
 use Rattle.words.proofs.Turn.{length-turn}
 use Rattle.home_turns_inner.proofs.Rests.{differing-one, differing-on, differing-end}
