@@ -2,28 +2,25 @@
 
 #![tactic(auto)]
 
-ghost use Rattle.std.specs.Prelude.{◌≡◌, ◌<◌, length, reverse};
-ghost use Rattle.words.specs.Order.{same};
-ghost use Rattle.words.specs.Turn.{turn};
+ghost use Rattle.std.specs.Prelude.{◌≡◌};
 ghost use Rattle.rings.specs.Alike.{even_handed};
 
-// Whether the reversed bytes turned by t equal the bytes.
-fn is_mirror(s: &[u8], t: usize) -> bool
-    requires { t < length s.now }
-    ensures { result ≡ same (turn t (reverse s.now)) s.now }
-{
-    let n = s.len();
-    (0..n).all(|m| s[n - 1 - home_turns_inner::around(n, t, m)] == s[m])
-}
-
 // Whether some turn of the reversed bytes equals the bytes. Yes at the first turn that matches in every sector.
+// Two loops and no iterator, for 01, 'Forms we want to see', asks for them: a mismatch continues the outer label, a full match leaves both.
 pub fn is_even_handed(s: &[u8]) -> bool
     ensures { result ≡ even_handed s.now }
 {
-    for t in 0..s.len() {
-        if is_mirror(s, t) {
-            return true;
+    let n = s.len();
+    let mut found = false;
+    'turns: for t in 0..n {
+        for m in 0..n {
+            let p = n - 1 - home_turns_inner::around(n, t, m);
+            if s[p] != s[m] {
+                continue 'turns;
+            }
         }
+        found = true;
+        break 'turns;
     }
-    false
+    found
 }
