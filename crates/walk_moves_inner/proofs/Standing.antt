@@ -107,7 +107,7 @@ module _ {kind : K.Kind} {k : ℕ} {start : List ℕ} (ready : ReadyToStep k sta
       stands-found : kind_at kind (length next) i ≡ true → FoundAt kind k start next (Some i) (m + 1)
       stands-found q =
           let f = walk-found (kind_of kind) k start ring m at.walked (kind-only kind) lifted (next-kind ∙ q) in
-          (rw moved-next f.0, rw (moved-next, add-one m) f.1, rw moved-next (next-lyn-low k ring lifted at.walked.pre ∙ sym low))
+          (rw moved-next f.0, rw (moved-next, add-one m) f.1, rw moved-next (next-lyn-low k ring lifted at.walked.pre ∙ sym low), z)
 
       -- it is not
       stands_on : kind_at kind (length next) i ≡ false → Stands kind k start next i (m + 1)
