@@ -8,9 +8,9 @@
 --     refusal-line   the line of a refusal
 use Rattle.words.proofs.Plain.{ℕ, ◌≡◌, refl, sym, List}
 use Rattle.std.specs.Prelude.{Result, Ok, Err, IsErrAnd}
-use Rattle.refusal.specs.{declared.Refusal.Refusal, declared.Refusal.TheVariants.Line}
+use Rattle.refusal.specs.declared.Refusal.{Refusal}
 use Rattle.stream_spec.specs.Blocks.{Puts}
-use Rattle.desk_spec.specs.{Texts.refusal_text, Answers.AnswerShows}
+use Rattle.desk_spec.specs.{Texts.refusal_text, Texts.malformed_text, Answers.AnswerShows}
 use Rattle.desk_spec.specs.Questions.{Replies, good, bad}
 use Rattle.desk_texts_inner.specs.Says.{desk_room, LinePrinted, Answered}
 
@@ -39,8 +39,8 @@ module _ {X : Type 0} (Reads : X → Type 0) (Says : X → List ℕ → Type 0) 
   put-good b at r b' x p q = answered-on (Says x) (Replies Reads Says) (λ t s. good x p s) b at r b' q
 
   -- none is
-  pub put-bad : ((x : X) → Reads x → ⊥) → (b : List ℕ) (at : ℕ) → Answered (Replies Reads Says) b at (Err Line) b
-  put-bad n b at = (bad n refl, refl)
+  pub put-bad : ((x : X) → Reads x → ⊥) → (b : List ℕ) → Replies Reads Says malformed_text × (b ≡ b)
+  put-bad n b = (bad n refl, refl)
 
 -- a question of another shape
 pub put_as : {X Y : Type 0} (Reads : X → Type 0) (Says : X → List ℕ → Type 0) (Reads' : Y → Type 0) (Says' : Y → List ℕ → Type 0) →
