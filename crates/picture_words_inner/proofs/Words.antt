@@ -14,7 +14,8 @@ use Rattle.text_words_spec.proofs.Spelling.{spelt-plain}
 use Rattle.stream_spec.specs.Blocks.{Puts}
 use Rattle.refusal.specs.{declared.Refusal.Refusal, Order.Given, Calls.one_reading}
 use Rattle.picture_spec.specs.{declared.Tone.Tone, declared.Tone.TheVariants.Managed, declared.Tone.TheVariants.Levels}
-use Rattle.picture_spec.specs.{declared.Drawn.TheVariants.Whole, declared.Drawn.TheVariants.Refused, Text.picture_text}
+use Rattle.std.specs.Prelude.{Ok, Err}
+use Rattle.picture_spec.specs.Text.{picture_text}
 use Rattle.picture_spec.specs.Says.{picture_room, draw_order, DrawSays}
 use Rattle.desk_spec.specs.Texts.{refusal_text, malformed_text}
 use Rattle.desk_spec.specs.Questions.{Replies, good, bad}
@@ -25,7 +26,7 @@ use Rattle.picture_words_inner.specs.Says.{PictureText, TargetPrinted, SpeltPrin
 
 -- ---- a target
 
-pub drawn-put : (k : ℕ) (w : List ℕ) (tone : Tone) (b : List ℕ) (m : ℕ) (b' : List ℕ) → DrawSays tone w k b (Whole m) b' → TargetPrinted k w tone b m b'
+pub drawn-put : (k : ℕ) (w : List ℕ) (tone : Tone) (b : List ℕ) (m : ℕ) (b' : List ℕ) → DrawSays tone w k b (Ok m) b' → TargetPrinted k w tone b m b'
 drawn-put k w tone b m b' p =
     record { text = picture_text tone k w; says = drawn p.0.0 refl; short = omega (arith, p.1.next, p.2); placed = p.1 }
 
@@ -34,7 +35,7 @@ of-reading : (k : ℕ) (w : List ℕ) (m : ℕ) (r : Refusal) → picture_room �
 of-reading k w m r h (inl g) = g
 of-reading k w m r h (inr g) = absurd (g.1.1 h)
 
-pub refused-put : (k : ℕ) (w : List ℕ) (tone : Tone) (b : List ℕ) (r : Refusal) (b₁ : List ℕ) (x : ℕ) (b' : List ℕ) → picture_room ≤ length b → DrawSays tone w k b (Refused r) b₁ →
+pub refused-put : (k : ℕ) (w : List ℕ) (tone : Tone) (b : List ℕ) (r : Refusal) (b₁ : List ℕ) (x : ℕ) (b' : List ℕ) → picture_room ≤ length b → DrawSays tone w k b (Err r) b₁ →
     LinePrinted b₁ 0 (refusal_text r) x b' → TargetPrinted k w tone b x b'
 refused-put k w tone b r b₁ x b' h p q =
     record { text = refusal_text r; says = refused r (of-reading k w (length b) r h p.0) refl; short = omega (arith, q.short); placed = rw p.1 at q.placed }

@@ -6,7 +6,7 @@ ghost use Rattle.std.specs.Prelude.{◌≤◌, ◌≡◌, length};
 ghost use Rattle.picture_spec.specs.Says.{picture_room};
 ghost use Rattle.picture_words_inner.specs.Says.{TargetPrinted, SpeltPrinted, WordsPrinted};
 
-use picture_spec::{Drawn, Tone};
+use picture_spec::Tone;
 
 // The picture of a reading, or its refusal's line.
 fn print_target(k: usize, w: &[u8], tone: Tone, buf: &mut [u8]) -> usize
@@ -14,8 +14,8 @@ fn print_target(k: usize, w: &[u8], tone: Tone, buf: &mut [u8]) -> usize
     ensures { TargetPrinted k w.now tone buf.old result buf.new }
 {
     match pictures::draw(w, k, tone, buf) {
-        Drawn::Whole(m) => m,
-        Drawn::Refused(r) => desk_texts_inner::place_refusal(buf, 0, r),
+        Ok(m) => m,
+        Err(r) => desk_texts_inner::place_refusal(buf, 0, r),
     }
 }
 
