@@ -41,7 +41,7 @@ pub fn print_words(k: usize, t: &[u8], w: &mut [u8], buf: &mut [u8]) -> usize
     if t.len() <= e {
         return print_spelt(k, t, Tone::Managed, &mut w[..e], buf);
     }
-    if !text_spell_inner::same_text(&t[e + 1..], b"levels") {
+    if &t[e + 1..] != b"levels".as_slice() {
         return desk_texts_inner::place_malformed(buf, 0);
     }
     print_spelt(k, &t[..e], Tone::Levels, &mut w[..e], buf)
