@@ -1,4 +1,5 @@
 -- A record that passed its checks is the record of its ring; and what the code's tests of a class say.
+--     tight                                      a class that is no Loose
 --     off-loose, off-other, on-class             the answers of `on_walk`
 --     off-class, off-counts, on-record           how the last check of a record ends
 --     good-ready, good-tail, good-is             what the checks of a record show
@@ -31,7 +32,7 @@ use Rattle.walk_kind_laws.proofs.ByLyn.{kind-only, class-at}
 -- ---- the answers of `on_walk`
 
 -- a class that is no Loose
-tight : (c : Class) → ((p : ℕ) → c ≡ Loose p → ⊥) → is_loose c ≡ false
+pub tight : (c : Class) → ((p : ℕ) → c ≡ Loose p → ⊥) → is_loose c ≡ false
 tight (Loose p) h = absurd (h p refl)
 tight (Opening p) h = refl
 tight (Repeating p) h = refl
