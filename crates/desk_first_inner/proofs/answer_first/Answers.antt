@@ -1,6 +1,6 @@
 -- `desk_first_inner::answer_first` meets its contract.
 use Rattle.words.proofs.Needs.{arith, length-take}
-use Rattle.desk_texts_inner.proofs.Putting.{puts-on}
+use Rattle.desk_texts_inner.proofs.Putting.{answered-on}
 use Rattle.desk_first_inner.proofs.Sums.{first-within}
 use Rattle.desk_first_inner.proofs.answer_first.Goals as goal
 
@@ -15,4 +15,4 @@ answer_in-requires c = record { out_len_bound = simp length-take (omega (arith, 
 
 pub returns : goal.returns
 returns c =
-    puts-on _ _ (first-within c.args.k c.args.counts.now c.sum_within-n.result c.sum_within-n.ensures) _ _ _ _ c.answer_in.ensures
+    answered-on _ _ (first-within c.args.k c.args.counts.now c.sum_within-n.result c.sum_within-n.ensures) _ _ _ _ c.answer_in.ensures
