@@ -1,2 +1,0 @@
--- The mark of an old record (Marks).
-pub mod Marks
