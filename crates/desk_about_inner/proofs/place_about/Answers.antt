@@ -6,30 +6,24 @@ use Rattle.desk_words_inner.proofs.Shapes.{no-reading, put-reading, ask-room}
 use Rattle.desk_about_inner.proofs.place_about.Goals as goal
 
 pub overflow_sub-n : goal.overflow_sub-n
-overflow_sub-n c = let h = rw c.in-Number.is at c.head_of.ensures in omega (arith, h.1)
+overflow_sub-n c = omega (arith, c.in-Some.ensures.1)
 
 pub slice_bounds-ask_about-count : goal.slice_bounds-ask_about-count
-slice_bounds-ask_about-count c = let h = rw c.in-Number.is at c.head_of.ensures in omega (arith, h.1)
+slice_bounds-ask_about-count c = omega (arith, c.in-Some.ensures.1)
 
 pub slice_bounds-ask_about-start : goal.slice_bounds-ask_about-start
-slice_bounds-ask_about-start c = let h = rw c.in-Number.is at c.head_of.ensures in omega (arith, h.1)
+slice_bounds-ask_about-start c = omega (arith, c.in-Some.ensures.1)
 
-pub slice_bounds-ask_about-end-in-Number : goal.slice_bounds-ask_about-end-in-Number
-slice_bounds-ask_about-end-in-Number c = simp length-take (omega (arith, c.requires.t_len_bound))
-
-pub slice_bounds-ask_about-end-in-Number-2 : goal.slice_bounds-ask_about-end-in-Number-2
-slice_bounds-ask_about-end-in-Number-2 c = simp length-take (omega (arith, c.requires.t_len_bound))
+pub slice_bounds-ask_about-end-2 : goal.slice_bounds-ask_about-end-2
+slice_bounds-ask_about-end-2 c = simp length-take (omega (arith, c.requires.t_len_bound))
 
 pub ask_about-requires : goal.ask_about-requires
 ask_about-requires c =
-    let q = ask-room c.args.t.now c.in-Number.e c.requires.t_len_bound in record { t_len_bound = q.0; w_len = q.1; out_value = q.2; desk_room_in_bounds = c.requires.desk_room_in_bounds }
+    let q = ask-room c.args.t.now c.in-Some.e c.requires.t_len_bound in record { t_len_bound = q.0; w_len = q.1; out_value = q.2; desk_room_in_bounds = c.requires.desk_room_in_bounds }
 
-pub returns-in-Malformed : goal.returns-in-Malformed
-returns-in-Malformed c =
-    put-bad _ _ _ _ _ _ (no-reading c.args.t.now
-    (rw c.in-Malformed.is at c.head_of.ensures))
-    c.place_malformed.ensures
+pub returns-in_default : goal.returns-in_default
+returns-in_default c = put-bad _ _ (no-reading c.args.t.now c.in_default.ensures) _
 
-pub returns-in-Number : goal.returns-in-Number
-returns-in-Number c =
-    put-reading c.args.t.now c.in-Number.k _ (rw c.in-Number.is at c.head_of.ensures) (AboutSays c.args.v) _ _ _ _ c.ask_about.ensures
+pub returns : goal.returns
+returns c =
+    put-reading c.args.t.now c.in-Some.k _ c.in-Some.ensures (AboutSays c.args.v) _ _ _ _ c.ask_about.ensures
