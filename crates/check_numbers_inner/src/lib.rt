@@ -43,10 +43,13 @@ fn greatest(s: &[u8]) -> u8
 pub fn first_bad(s: &[u8], limit: usize) -> usize
     ensures { Scanned s.now limit result }
 {
-    if (greatest(s) as usize) < limit {
+    if usize::from(greatest(s)) < limit {
         return s.len();
     }
-    s.iter()
-        .position(|&here| here as usize >= limit)
-        .unwrap_or(s.len())
+    for (i, &here) in s.iter().enumerate() {
+        if usize::from(here) >= limit {
+            return i;
+        }
+    }
+    s.len()
 }

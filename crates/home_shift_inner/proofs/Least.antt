@@ -1,11 +1,8 @@
 -- The search for the period.
---     Unrepeated w p                                               nothing below p repeats w
+--     Unrepeated w p, unrepeated-start, unrepeated-more            nothing below p repeats w
 --     unrepeated-found, unrepeated-end                             then what repeats w is its period, and so is the length
---     first-period                                                 the first number that repeats w is its period
 --     repeats-not, repeats-same                                    whether p repeats w, by its two tests
-use Rattle.words.proofs.Plain.{ℕ, ◌%◌, ◌<◌, ◌≤◌, arith, ◌≡◌, sym, true, false, List, length, eq-eqb, ne_eqb}
-use Rattle.std.specs.Prelude.{Option, Some, None, MatchOption}
-use Rattle.std.specs.Option.{unwrap_or}
+use Rattle.words.proofs.Plain.{ℕ, ◌+◌, ◌%◌, ◌<◌, ◌≤◌, arith, ◌≡◌, sym, true, false, List, length, eq-eqb, ne_eqb}
 use Rattle.words.specs.{Order.same, Turn.turn}
 use Rattle.words.proofs.Split.{lt, eq, gt, tri, clash}
 use Rattle.words.proofs.Turn.{turn-zero}
@@ -28,6 +25,17 @@ pub record Unrepeated (w : List ℕ) (p : ℕ) : Type 0 where
   pub fits : p ≤ length w
   pub none : (j : ℕ) → 0 < j → j < p → repeats_by w j ≡ false
 
+-- below 1 there is nothing
+pub unrepeated-start : (w : List ℕ) → 0 < length w → Unrepeated w 1
+unrepeated-start w z = record { pos = omega arith; fits = omega arith; none = λ j h l. absurd (omega arith) }
+
+-- one number more that does not repeat the reading
+pub unrepeated-more : (w : List ℕ) (p : ℕ) → Unrepeated w p → p < length w → false ≡ repeats_by w p → Unrepeated w (p + 1)
+unrepeated-more w p u l f = record { pos = omega arith; fits = omega arith; none = at }
+  where
+    at : (j : ℕ) → 0 < j → j < p + 1 → repeats_by w j ≡ false
+    at j z h = elim (tri j p) [ lt e ↦ u.none j z e | eq e ↦ rw e (sym f) | gt e ↦ absurd (omega arith) ]
+
 -- no number that nothing below repeats is above the period
 unrepeated-le : (w : List ℕ) (p : ℕ) → Unrepeated w p → p ≤ period w
 unrepeated-le w p u =
@@ -41,18 +49,10 @@ unrepeated-le w p u =
     long = omega (arith, u.pos, u.fits)
 
 -- what repeats the reading, with nothing below it repeating it, is the period
-unrepeated-found : (w : List ℕ) (p : ℕ) → Unrepeated w p → true ≡ repeats_by w p → p ≡ period w
+pub unrepeated-found : (w : List ℕ) (p : ℕ) → Unrepeated w p → true ≡ repeats_by w p → p ≡ period w
 unrepeated-found w p u t =
     omega (arith, unrepeated-le w p u, period-least w p u.pos (repeats-divides w p (sym t)) (repeats-turn w p (sym t)))
 
 -- where nothing below the length repeats the reading, the length is the period
-unrepeated-end : (w : List ℕ) → Unrepeated w (length w) → length w ≡ period w
-unrepeated-end w u = omega (arith, unrepeated-le w (length w) u, period-le w u.pos)
-
--- so the first number that repeats the reading is its period, and the length where none does
-pub first-period :
-    (w : List ℕ) → 0 < length w → (r : Option ℕ)
-    → MatchOption r ((j : ℕ) → 1 ≤ j → j < length w → false ≡ repeats_by w j) (λ p. (1 ≤ p) × (p < length w) × (true ≡ repeats_by w p) × ((j : ℕ) → 1 ≤ j → j < p → false ≡ repeats_by w j))
-    → unwrap_or r (length w) ≡ period w
-first-period w z None m = unrepeated-end w (record { pos = z; fits = omega arith; none = λ j h l. sym (m j h l) })
-first-period w z (Some p) m = unrepeated-found w p (record { pos = omega arith; fits = omega arith; none = λ j h l. sym (m.3 j h l) }) m.2
+pub unrepeated-end : (w : List ℕ) (p : ℕ) → Unrepeated w p → length w ≤ p → length w ≡ period w
+unrepeated-end w p u h = omega (arith, unrepeated-le w p u, period-le w (omega (arith, u.pos, u.fits)), u.fits)

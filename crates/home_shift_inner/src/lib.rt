@@ -53,5 +53,10 @@ pub fn period_of(s: &[u8]) -> usize
     ensures { result ≡ period s.now }
 {
     let n = s.len();
-    (1..n).find(|&p| repeats_by(s, p)).unwrap_or(n)
+    for p in 1..n {
+        if repeats_by(s, p) {
+            return p;
+        }
+    }
+    n
 }

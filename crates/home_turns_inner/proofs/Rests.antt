@@ -1,8 +1,10 @@
--- Comparing two readings v and w of n sectors, sector by sector, up to place m. Of the two sectors at place m,
+-- Comparing two readings v and w of n sectors, sector by sector: what is left from place m on decides. Of the two sectors at place m,
 -- x is that of v and y that of w.
+--     same-no, same-on, same_end                      whether v is w
 --     differing-one, differing-on, differing-end      at how many places they differ
-use Rattle.words.proofs.Plain.{ℕ, ◌+◌, ◌<◌, ◌≤◌, add-one, arith, ◌≡◌, List, [], ◌∷◌, length, get_or, drop, drop_of_length-le, drop-cons, eq-eqb}
+use Rattle.words.proofs.Plain.{ℕ, ◌+◌, ◌<◌, ◌≤◌, add-one, arith, ◌≡◌, true, false, List, [], ◌∷◌, length, get_or, drop, drop_of_length-le, drop-cons, eq-eqb}
 use Rattle.words.proofs.Plain.{ne_eqb}
+use Rattle.words.specs.Order.{same}
 use Rattle.rings.specs.Alike.{differing}
 
 -- ---- at place m
@@ -13,6 +15,16 @@ module _ (v w : List ℕ) (n m x y : ℕ) (p : length v ≡ n) (q : length w ≡
 
   rest-right : drop m w ≡ y ∷ drop (m + 1) w
   rest-right = rw (add-one m, d) (drop-cons w m 0 (omega arith))
+
+  -- sectors that differ decide
+  pub same-no : same (drop m v) (drop m w) ≡ same v w → (x ≡ y → ⊥) → false ≡ same v w
+  unfolding same
+  same-no r h = let s = rw (rest-left, rest-right) at r in rw (ne_eqb x y h) at s
+
+  -- behind equal sectors the rest decides
+  pub same-on : same (drop m v) (drop m w) ≡ same v w → x ≡ y → same (drop (m + 1) v) (drop (m + 1) w) ≡ same v w
+  unfolding same
+  same-on r h = let s = rw (rest-left, rest-right) at r in rw (eq-eqb x y h) at s
 
   -- sectors that differ count one
   pub differing-one : (t : ℕ) → t + differing (drop m v) (drop m w) ≡ differing v w → (x ≡ y → ⊥) → t + 1 + differing (drop (m + 1) v) (drop (m + 1) w) ≡ differing v w
@@ -32,6 +44,11 @@ module _ (v w : List ℕ) (n m : ℕ) (p : length v ≡ n) (q : length w ≡ n) 
 
   none_right : drop m w ≡ []
   none_right = drop_of_length-le w {i = m} (omega arith)
+
+  -- readings that agree to the end are one
+  pub same_end : same (drop m v) (drop m w) ≡ same v w → true ≡ same v w
+  unfolding same
+  same_end r = rw (none_left, none_right) at r
 
   -- at the end all places are counted
   pub differing-end : (t : ℕ) → t + differing (drop m v) (drop m w) ≡ differing v w → t ≡ differing v w

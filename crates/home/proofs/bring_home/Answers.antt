@@ -4,11 +4,11 @@ use Rattle.home.proofs.Answers.{shift_fits, turned-home}
 use Rattle.home.proofs.bring_home.Goals as goal
 
 pub write_turn-requires : goal.write_turn-requires
-write_turn-requires c = omega (arith, shift_fits _ _ (omega (arith, c.in_ok-check_room.ensures)) c.least_shift-shift.ensures, c.in_ok-check_room.ensures)
+write_turn-requires c = omega (arith, shift_fits _ _ (omega (arith, (rw c.in-Ok.is at c.check_room.ensures))) c.least_shift-shift.ensures, (rw c.in-Ok.is at c.check_room.ensures))
 
-pub returns : goal.returns
-returns c = record {
-  passed = c.in_ok-check_room.ensures;
+pub returns-in-Ok : goal.returns-in-Ok
+returns-in-Ok c = record {
+  passed = rw c.in-Ok.is at c.check_room.ensures;
   ring = c.write_turn.ensures ∙ turned-home _ _ c.least_shift-shift.ensures;
   turns = c.least_shift-shift.ensures;
   repeats = c.period_of-period.ensures;

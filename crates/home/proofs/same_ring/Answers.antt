@@ -7,10 +7,10 @@ pub same_turns-requires : goal.same_turns-requires
 same_turns-requires c =
     omega (
       arith,
-      c.in_ok-check_pair.ensures,
-      shift_fits _ _ (omega (arith, c.in_ok-check_pair.ensures)) c.least_shift-i.ensures,
-      shift_fits _ _ (omega (arith, c.in_ok-check_pair.ensures)) c.least_shift-j.ensures,
+      (rw c.in-Ok.is at c.check_pair.ensures),
+      shift_fits _ _ (omega (arith, (rw c.in-Ok.is at c.check_pair.ensures))) c.least_shift-i.ensures,
+      shift_fits _ _ (omega (arith, (rw c.in-Ok.is at c.check_pair.ensures))) c.least_shift-j.ensures,
     )
 
-pub returns : goal.returns
-returns c = (c.in_ok-check_pair.ensures, sym (same-turned _ _ _ _ c.least_shift-i.ensures c.least_shift-j.ensures) ∙ sym c.same_turns.ensures)
+pub returns-in-Ok : goal.returns-in-Ok
+returns-in-Ok c = ((rw c.in-Ok.is at c.check_pair.ensures), sym (same-turned _ _ _ _ c.least_shift-i.ensures c.least_shift-j.ensures) ∙ sym c.same_turns.ensures)

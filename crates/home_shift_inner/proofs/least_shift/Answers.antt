@@ -1,17 +1,8 @@
 -- `home_shift_inner::least_shift` meets its contract. The loop's invariant: the shift is i, or it is not below j, and the two turns agree at the first m
 -- places. The measure, 3 n less i + j + m, bounds the comparisons of two sectors: each turn of the loop makes one.
 use Rattle.words.proofs.Plain.{arith}
-use Rattle.home_shift_inner.proofs.Seek.{seeks-start, seeks-smaller, seeks-greater, seeks-on, seeks-alike, seeks-end}
+use Rattle.home_shift_inner.proofs.Seek.{seeks-smaller, seeks-greater, seeks-alike, seeks-end}
 use Rattle.home_shift_inner.proofs.least_shift.Goals as goal
-
-pub loop-j-init : goal.loop-j-init
-loop-j-init c = seeks-start c.args.s.now c.requires
-
-pub sector-x-requires : goal.sector-x-requires
-sector-x-requires c = omega (arith, c.loop-j.invariant.inside, c.loop-j.invariant.short)
-
-pub sector-y-requires : goal.sector-y-requires
-sector-y-requires c = omega (arith, c.loop-j.invariant.short)
 
 pub loop-j-preserved-then-x-y : goal.loop-j-preserved-then-x-y
 loop-j-preserved-then-x-y c =
@@ -33,13 +24,6 @@ returns-then-m-n c =
     c.sector-x.result c.sector-y.result c.loop-j.invariant
     c.loop-j-test.true c.sector-x.ensures
     c.sector-y.ensures (omega (arith, c.if-x-y.false, c.if-y-x.false)) c.if-m-n.true
-
-pub loop-j-preserved : goal.loop-j-preserved
-loop-j-preserved c =
-    seeks-on c.args.s.now c.loop-j.i c.loop-j.j c.loop-j.m
-    c.sector-x.result c.sector-y.result c.loop-j.invariant
-    c.loop-j-test.true c.sector-x.ensures
-    c.sector-y.ensures (omega (arith, c.if-x-y.false, c.if-y-x.false)) c.if-m-n.false
 
 pub returns : goal.returns
 returns c = seeks-end c.args.s.now c.loop-j.i c.loop-j.j c.loop-j.m c.loop-j.invariant c.loop-j-test.false
