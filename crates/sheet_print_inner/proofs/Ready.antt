@@ -1,23 +1,22 @@
 -- From what is placed to what an input prints.
 --     pass-more, wrong-at             one target more, or the first that is refused
 --     picked-places                   the places of a set that was picked
---     judge-refused, judge-none, judge-checked    what is ready, or printed instead
---     own-good, own-wrong, own-none   the same of lines
---     not-read, too_long, prepared-set, refused-set, prepared-lines     what an input asks for
+--     judge-refused, judge-checked    what is ready, or printed instead
+--     own-wrong                       the same of lines
+--     prepared-set, refused-set, prepared-lines     what an input asks for
 --     steps-sheet                     the steps one after another are the sheet, whatever gives its rings
 --     steps-printed, own-printed      and they are what the input prints
-use Rattle.words.proofs.Plain.{ℕ, zero, suc, ◌+◌, ◌-◌, ◌*◌, ◌<◌, ◌≤◌, add-one, arith, dec_lt, ◌≡◌, refl, sym, ap, subst, ◌∙◌, inl, inr, Bool, true, false}
-use Rattle.words.proofs.Plain.{false≢true, List, [], ◌∷◌, ◌++◌, map, eqb, length, get_or, take, drop, length-map, eq-eqb, ne_eqb}
+use Rattle.words.proofs.Plain.{ℕ, zero, suc, ◌+◌, ◌-◌, ◌<◌, ◌≤◌, arith, dec_lt, ◌≡◌, refl, sym, ap, subst, ◌∙◌, Bool, true, false}
+use Rattle.words.proofs.Plain.{false≢true, List, [], ◌∷◌, map, eqb, length, get_or, take, drop, length-map, eq-eqb, ne_eqb}
 use Rattle.words.proofs.Split.{lt, eq, gt, tri}
-use Rattle.text_words_spec.specs.Words.{pieces, PieceAt}
+use Rattle.text_words_spec.specs.Words.{PieceAt}
 use Rattle.stream_spec.specs.Lines.{lines}
-use Rattle.refusal.specs.{declared.Refusal.Refusal, declared.Refusal.TheVariants.Line, declared.Refusal.TheVariants.Set}
-use Rattle.std.specs.Prelude.{Result, Ok, Err, Some, None}
-use Rattle.refusal.specs.Order.{Passed, Given, CheckSays}
+use Rattle.refusal.specs.{declared.Refusal.Refusal}
+use Rattle.std.specs.Prelude.{Result, Ok, Err, Some}
+use Rattle.refusal.specs.Order.{Passed, Given}
 use Rattle.set_spec.specs.Places.{place_at, set_in}
 use Rattle.set_laws.proofs.Places.{laid-length, length-set-in, set-in-at}
-use Rattle.guard_spec.specs.{declared.Rule.Rule, Choice.chosen_by}
-use Rattle.set_pick_spec.specs.{Order.set_order, Says.SetChosen, Says.SetAnswers}
+use Rattle.set_pick_spec.specs.{Order.set_order, Says.SetChosen}
 use Rattle.set_pick_spec.proofs.Worth.{rule-most, rule-set}
 use Rattle.sheet_spec.specs.{declared.Source.Source, declared.Sheet.Sheet, Text.sheet_text, Text.sheet_from}
 use Rattle.sheet_spec.specs.declared.Source.TheVariants as S
@@ -25,13 +24,11 @@ use Rattle.sheet_spec.specs.Text as text
 use Rattle.sheet_spec.specs.Says.{target_room, sheet_order}
 use Rattle.sheet_laws.specs.Placing.{Placing, all, then}
 use Rattle.sheet_laws.proofs.Placing.{placing-sheet}
-use Rattle.sheet_words_spec.proofs.Unique.{one-sheet}
 use Rattle.sheet_words_inner.specs.Says.{ReadsAs}
 use Rattle.desk_spec.specs.Texts.{refusal_text}
-use Rattle.desk_spec.specs.Questions.{Replies, good, bad}
-use Rattle.desk_spec.proofs.Questions.{place-one}
+use Rattle.desk_spec.specs.Questions.{good}
 use Rattle.program_refusal_spec.specs.Text.{refused_line_text}
-use Rattle.sheet_print_spec.specs.Prints.{none, wrong, whole, target_order, TargetsPrint, rule_of, chosen_for, ChosenPrints, refused, taken}
+use Rattle.sheet_print_spec.specs.Prints.{wrong, whole, target_order, TargetsPrint, rule_of, chosen_for, ChosenPrints, refused, taken}
 use Rattle.sheet_print_spec.specs.Prints.{ring_in, own_sheet, OwnPrints, ReadsSheet, PrintsBy, SheetPrints}
 use Rattle.sheet_print_spec.proofs.Rings.{rings-at}
 use Rattle.sheet_own_inner.specs.Says.{LinesPass, WrongLine}
@@ -79,9 +76,6 @@ module _ (o : Sheet) (p : List ℕ) (t : ℕ) (f : Bool) where
   judge-refused r g = refused r g refl
 
   module _ (c : SetChosen o.n o.k o.d o.wanted (chosen_for o) p t f) where
-    pub judge-none : t ≡ 0 → SetJudged o p t (Err Set)
-    judge-none e = taken c.asked (none (sym c.number ∙ e) refl)
-
     pub judge-checked : (v : Result Unit Refusal) → (t ≡ 0 → ⊥) → CheckedTargets o p t v → SetJudged o p t v
     judge-checked (Ok _) z s = record { places = picked-places c; asked = c.asked; set = the-set c; some = omega arith; passed = s }
     judge-checked (Err r) z s =
@@ -105,14 +99,6 @@ module _ (o : Sheet) (ls : List (List ℕ)) (q : Sheet) (is : q ≡ own_sheet o 
   -- of a line that is refused
   pub own-wrong : (f : ℕ) (x : RefusedLine) → WrongLine q ls x.refusal x.line → OwnPrepared o ls f (Err (P.Wrong x))
   own-wrong f x w = wrong w.place w.within (rw is at w.before) x.refusal (rw is at w.given) (ap (refused_line_text x.refusal) w.number)
-
-  -- of no lines
-  pub own-none : (f : ℕ) → 0 ≡ length ls → OwnPrepared o ls f (Err (P.Refused Set))
-  own-none f e = none (sym e) refl
-
-  -- of lines that all pass
-  pub own-good : (f t : ℕ) → (t ≡ 0 → ⊥) → (t ≡ length ls) × LinesPass q ls t → OwnPrepared o ls f (Ok (record { sheet = q; rings = R.Own f t }))
-  own-good f t z x = (is, refl, record { number = x.0; some = omega arith; passed = x.1 })
 
   -- what is ready prints the sheet
   own-prints : (t : ℕ) → ReadyOwn q ls t → OwnPrints o ls (sheet_text q (map ring_in ls))
@@ -139,24 +125,8 @@ own-source S.Plain e = absurd (false≢true e)
 own-source S.Own e = refl
 
 module _ (s : List ℕ) (e : ℕ) (at : PieceAt 10 s e) where
-  line_of : (q : Sheet × List (List ℕ)) → ReadsSheet s q → ReadsAs (take e s) (Some q.0)
-  line_of q x = rw (place-one 10 s x.at e x.ends at) at x.line
-
-  pub not-read : ReadsAs (take e s) None → SheetPrints s (refusal_text Line)
-  not-read n = bad (λ q x. n q.0 (line_of q x)) refl
-
   module _ (o : Sheet) (l : ReadsAs (take e s) (Some o)) where
-    source_of : (q : Sheet × List (List ℕ)) → ReadsSheet s q → q.0.source ≡ o.source
-    source_of q x = ap (λ (y : Sheet). y.source) (one-sheet (pieces 32 (take e s)) q.0 o (line_of q x) l)
-
     module _ (set : is_own o.source ≡ false) where
-      not_own : (a : Source) → a ≡ o.source → a ≡ S.Own → ⊥
-      not_own a f g = false≢true (sym set ∙ ap is_own (sym f ∙ g))
-
-      -- something stands behind the line
-      pub too_long : 1 < length s - e → SheetPrints s (refusal_text Line)
-      too_long h = bad (λ q x. omega (arith, place-one 10 s x.at e x.ends at, x.alone (not_own q.0.source (source_of q x)), h)) refl
-
       set-reads : length s - e ≤ 1 → (x : List ℕ) → ChosenPrints o x → SheetPrints s x
       set-reads h x y =
           let reads : ReadsSheet s (o, lines (drop (e + 1) s)) = record { at = e; ends = at; line = l; behind = refl; alone = λ n. omega arith } in
