@@ -6,8 +6,8 @@
 --     going-room, going-stop     there is room; and where no other is read
 --     left_over, left-bad        why no other is read
 --     turn-size, turn_on, turn-same, turn-stop, turn-over    a turn, by what it gave
-use Rattle.words.proofs.Plain.{ℕ, ◌+◌, ◌-◌, ◌*◌, ◌<◌, ◌≤◌, arith, ◌≡◌, refl, sym, ap, subst, ◌∙◌, Bool, true, false, List, [], ◌∷◌, ◌++◌, length, take, drop}
-use Rattle.words.proofs.Plain.{length-append, length-take, length-drop, take-add, take_all}
+use Rattle.words.proofs.Plain.{ℕ, ◌+◌, ◌-◌, ◌*◌, ◌<◌, ◌≤◌, arith, ◌≡◌, refl, Bool, true, false, List, [], ◌∷◌, ◌++◌, length, take, drop}
+use Rattle.words.proofs.Plain.{length-take, length-drop, take-add, take_all}
 use Rattle.words.proofs.Split.{lt, eq, gt, tri}
 use Rattle.text_spec.specs.Put.{Placed}
 use Rattle.text_spec.proofs.Put.{placed-none, placed-append, placed-length}
@@ -18,7 +18,7 @@ use Rattle.record_spec.specs.Layout.{body_length, n_of, k_of}
 use Rattle.record_spec.proofs.{Forms.some_bytes, Rounds.length-answer, Rounds.answer-passes}
 use Rattle.stream_spec.specs.Blocks.{Puts}
 use Rattle.files_spec.specs.{declared.Job.Job, declared.How.How, declared.Taken.Taken, Shows.Shows}
-use Rattle.files_spec.specs.Blocks.{One, Records, none, more, Enough, BadRecord, Left, TakenSays, TakeSays}
+use Rattle.files_spec.specs.Blocks.{Records, none, more, Left, TakeSays}
 use Rattle.files_spec.proofs.Joined.{read-own}
 use Rattle.files_text_inner.specs.Room.{record_room, Answered}
 use Rattle.files_records_end_inner.specs.Says.{EnoughSays, left_of, BehindText, RecordsStopSays}

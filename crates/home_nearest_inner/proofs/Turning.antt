@@ -2,8 +2,8 @@
 --     first-near                                                 the first turn that comes so near is the nearest; there is one
 --     FarTurns d w j                                             no turn by 1 up to j comes nearer than d
 --     turned-start, turned_on, turned-near, turned-all           from the first turn on, until one does or half are passed
-use Rattle.words.proofs.Plain.{ℕ, ◌+◌, ◌-◌, ◌<◌, ◌≤◌, min, arith, ◌≡◌, refl, sym, ◌∙◌, Bool, ◌/◌, true, false, List, length, eq-eqb, ne_eqb}
-use Rattle.std.specs.Prelude.{◌↔◌, Option, Some, None, MatchOption}
+use Rattle.words.proofs.Plain.{ℕ, ◌+◌, ◌-◌, ◌<◌, ◌≤◌, min, arith, ◌≡◌, sym, ◌∙◌, true, false, List, length, eq-eqb, ne_eqb}
+use Rattle.std.specs.Prelude.{Option, Some, None, MatchOption}
 use Rattle.std.specs.Option.{unwrap_or}
 use Rattle.words.specs.Turn.{turn}
 use Rattle.words.proofs.Split.{lt, eq, gt, tri, refuted}

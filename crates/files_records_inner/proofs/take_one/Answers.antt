@@ -1,6 +1,5 @@
 -- `files_records_inner::take_one` meets its contract: the record is read and shown, or refused.
-use Rattle.words.proofs.Needs.{arith, length-take}
-use Rattle.files_records_inner.proofs.Going.{answered-ring, size, step_after}
+use Rattle.files_records_inner.proofs.Going.{answered-ring, step_after}
 use Rattle.files_records_inner.proofs.take_one.Goals as goal
 
 pub place_record-e-requires : goal.place_record-e-requires

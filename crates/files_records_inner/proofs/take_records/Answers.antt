@@ -1,6 +1,6 @@
 -- `files_records_inner::take_records` meets its contract: what is done so far are records whose texts stand at the beginning of the output (Going), and each turn takes one more.
 use Rattle.words.proofs.Needs.{rules}
-use Rattle.words.proofs.Needs.{◌-◌, arith, length-take, length-drop}
+use Rattle.words.proofs.Needs.{arith, length-take, length-drop}
 use Rattle.files_records_inner.proofs.Going.{going-none, going-room, turn-size, turn_on, turn-same, turn-stop, turn-over}
 use Rattle.files_records_inner.proofs.take_records.Goals as goal
 

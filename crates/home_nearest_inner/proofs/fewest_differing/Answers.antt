@@ -1,6 +1,6 @@
 -- `home_nearest_inner::fewest_differing` meets its contract. The loop's invariant: the two are at most best apart, and no turn passed differs at fewer
 -- places.
-use Rattle.words.proofs.Needs.{◌-◌, arith}
+use Rattle.words.proofs.Needs.{arith}
 use Rattle.home_nearest_inner.proofs.Fewest.{nearest-start, nearest-more, nearest-none, nearest-end}
 use Rattle.home_nearest_inner.proofs.fewest_differing.Goals as goal
 

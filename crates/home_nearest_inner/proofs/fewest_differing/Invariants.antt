@@ -1,6 +1,5 @@
 -- `home_nearest_inner::fewest_differing` meets its contract. The loop's invariant: the two are at most best apart, and no turn passed differs at fewer
 -- places.
-use Rattle.words.proofs.Needs.{◌≤◌, ◌-◌, length}
 use Rattle.home_nearest_inner.proofs.Fewest.{Nearest}
 use Rattle.home_nearest_inner.proofs.fewest_differing.Given as goal
 

@@ -1,5 +1,4 @@
 -- `home_nearest_inner::is_nearer` meets its contract. The loop's invariant: no turn passed is nearer than d.
-use Rattle.words.proofs.Needs.{◌-◌, length}
 use Rattle.home_nearest_inner.proofs.Nearer.{NoneNearer}
 use Rattle.home_nearest_inner.proofs.is_nearer.Given as goal
 

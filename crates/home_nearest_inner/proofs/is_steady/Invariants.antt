@@ -1,5 +1,4 @@
 -- `home_nearest_inner::is_steady` meets its contract. The loop's invariant: none of the turns passed comes nearer than d.
-use Rattle.words.proofs.Needs.{◌-◌, length}
 use Rattle.home_nearest_inner.proofs.Turning.{FarTurns}
 use Rattle.home_nearest_inner.proofs.is_steady.Given as goal
 

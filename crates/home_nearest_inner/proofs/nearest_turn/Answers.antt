@@ -1,5 +1,5 @@
 -- `home_nearest_inner::nearest_turn` meets its contract: the first turn that comes as near as the two are apart is the nearest.
-use Rattle.words.proofs.Needs.{◌-◌, arith, ◌∙◌, ◌≡◌}
+use Rattle.words.proofs.Needs.{arith, ◌∙◌, ◌≡◌}
 use Rattle.words.specs.Turn.{turn}
 use Rattle.rings.specs.Alike.{differing}
 use Rattle.std.proofs.Common.{rules}
