@@ -1,6 +1,6 @@
 -- No two different answers satisfy the contract of a sighting.
 --     one-alone, alone-two    one that is alone is the only one, and there are not two
---     one-sight               the call has one answer
+--     one-seen, one-sight     one thing is seen, and the call has one answer
 use Rattle.std.specs.Prelude.{Result, Ok, Err}
 use Rattle.words.proofs.Plain.{ℕ, ◌+◌, arith, ◌≡◌, refl, ap, List, length}
 use Rattle.words.proofs.Split.{lt, eq, gt, tri}
@@ -58,7 +58,7 @@ module _ (rs r : List ℕ) (k e : ℕ) where
   not-both t s i j x y p q = omega (arith, p.target, one-alone e (sides ts) r t (length ts + s) p.alone q.alone)
 
   -- one thing is seen
-  one-seen : (a b : Sighting) → Seen rs r e a → Seen rs r e b → a ≡ b
+  pub one-seen : (a b : Sighting) → Seen rs r e a → Seen rs r e b → a ≡ b
   one-seen (Front t i x) (Front s j y) p q = same-front t s i j x y p q
   one-seen (Front t i x) (Back s j y) p q = absurd (not-both t s i j x y p q)
   one-seen (Front t i x) Several p q = absurd (alone-two e (sides ts) r t p.alone q)
