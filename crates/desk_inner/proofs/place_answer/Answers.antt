@@ -1,12 +1,9 @@
 -- `desk_inner::place_answer` meets its contract.
-use Rattle.desk_texts_inner.proofs.Putting.{put-bad}
-use Rattle.desk_inner.proofs.Lines.{line-long, line-alone}
+use Rattle.desk_texts_inner.proofs.Putting.{refusal-line}
 use Rattle.desk_inner.proofs.place_answer.Goals as goal
 
-pub returns-then-line-gt4095 : goal.returns-then-line-gt4095
-returns-then-line-gt4095 c =
-    put-bad _ _ _ _ _ _ (line-long c.args.line.now c.if-line-gt4095.true) c.place_malformed.ensures
+pub returns-in-Ok : goal.returns-in-Ok
+returns-in-Ok c = c.in-Ok.ensures
 
-pub returns-then-line-e : goal.returns-then-line-e
-returns-then-line-e c =
-    put-bad _ _ _ _ _ _ (line-alone c.args.line.now c.piece_end-e.result c.piece_end-e.ensures c.if-line-e.true) c.place_malformed-then-line-e.ensures
+pub returns-in-Err : goal.returns-in-Err
+returns-in-Err c = refusal-line _ _ _ _ _ c.in-Err.ensures _ _ c.place_refusal.ensures
