@@ -2,7 +2,7 @@
 --     no_floats, no-eight            where they are none, or no such
 --     spelt-floats, put-floats       where they are such
 --     no-shade, put-shade            k stands in front of them
-use Rattle.words.proofs.Plain.{ℕ, ◌+◌, ◌-◌, ◌*◌, ◌<◌, ◌≤◌, arith, ◌≡◌, refl, sym, ap, subst, ◌∙◌, true, false, List, [], ◌∷◌, ◌++◌, map, append-nil, length}
+use Rattle.words.proofs.Plain.{ℕ, ◌+◌, ◌-◌, ◌*◌, ◌≤◌, arith, ◌≡◌, sym, ap, subst, ◌∙◌, true, false, List, [], ◌∷◌, ◌++◌, map, append-nil, length}
 use Rattle.words.proofs.Plain.{take, drop, length-drop, length-append, length-take-le, take-add}
 use Rattle.text_spec.specs.{Decimal.decimal, Text.hex_of}
 use Rattle.text_words_spec.specs.Words.{Nibbles}

@@ -3,8 +3,8 @@
 --     last_of                           some words have a last one
 --     nibbles-joined                    the digits of all words
 --     floats-all                        the floats are those of the words
-use Rattle.words.proofs.Plain.{ℕ, zero, suc, ◌*◌, ◌/◌, ◌<◌, ◌≤◌, arith, ◌≡◌, refl, sym, ap, ◌∙◌, List, [], ◌∷◌, ◌++◌, map, length, get_or, take, length-map}
-use Rattle.words.proofs.Plain.{ext_get_or, get_or-take, length-take-le}
+use Rattle.words.proofs.Plain.{ℕ, zero, suc, ◌/◌, ◌<◌, arith, ◌≡◌, refl, sym, ap, ◌∙◌, List, [], ◌∷◌, ◌++◌, map, length, get_or, length-map}
+use Rattle.words.proofs.Plain.{ext_get_or}
 use lib.Ieee.{Float, nan}
 use Rattle.text_words_spec.specs.Words.{Nibbles}
 use Rattle.strip_spec.specs.Strip.{joined}
