@@ -1,0 +1,2 @@
+-- The mark of an old record (Marks).
+pub mod Marks
