@@ -20,7 +20,7 @@ use Rattle.stream_spec.specs.Blocks.{Puts}
 use Rattle.files_spec.specs.{declared.Job.Job, declared.How.How, declared.Taken.Taken, Shows.Shows}
 use Rattle.files_spec.specs.Blocks.{Records, none, more, Left, TakeSays}
 use Rattle.files_spec.proofs.Joined.{read-own}
-use Rattle.files_text_inner.specs.Room.{record_room, Answered}
+use Rattle.files_text_inner.specs.Room.{record_room, PassedRing}
 use Rattle.files_records_end_inner.specs.Says.{EnoughSays, left_of, BehindText, RecordsStopSays}
 use Rattle.files_records_inner.specs.{Says.share, Says.RecordStepSays}
 
@@ -38,7 +38,7 @@ module _ (t : List ℕ) (s : ℕ) (o : List ℕ) (r : Record) (d : List ℕ) (l 
     record { good = h.good; marked = h.marked; sectors = h.sectors; shades = h.shades; follows = omega arith; ring = h.ring },
   )
 
-  pub answered-ring : Answered r.n r.k (take r.n d)
+  pub answered-ring : PassedRing r.n r.k (take r.n d)
   answered-ring = record { long = length-answer t 0 o first_record d first; passed = answer-passes t 0 o first_record d first }
 
   same : body_length r.kind r.n r.k ≡ body_length r.kind (n_of t) (k_of t)

@@ -27,7 +27,8 @@ one-through j c s a x z v u o e h =
     let q = read-joined a z o.kind g.good.0.1 s o.before o.n o.k (s + length a) o.after g in
     further {s = s} (record { n = o.n; k = o.k; kind = o.kind; next = s + length a }) o.before o.after x (o.room, omega (arith, l, length-drop s c, g.good.0.1), rw e q) o.shows h
 
-pub records-through : (j : Job) (c : List ℕ) (p : ℕ) (b t z : List ℕ) (v : Result Unit Refusal) (u : List ℕ) → Records j p b t → drop p c ≡ b ++ z → Through j c (p + length b) v u → Through j c p v (t ++ u)
+pub records-through : (j : Job) (c : List ℕ) (p : ℕ) (b t z : List ℕ) (v : Result Unit Refusal) (u : List ℕ) → Records j p b t → drop p c ≡ b ++ z → Through j c (p + length b) v u →
+    Through j c p v (t ++ u)
 records-through j c p b t z v u none e h = let q : p + 0 ≡ p = omega arith in rw q at h
 records-through j c p b t z v u (more {b = b'} {t = t'} a x r o) e h =
     let f : drop p c ≡ b' ++ (a ++ z) = e ∙ append_assoc b' a z in

@@ -21,7 +21,7 @@ use Rattle.files_spec.specs.declared.Job.{Job}
 use Rattle.files_spec.specs.declared.Job.TheVariants as J
 use Rattle.files_spec.specs.Shows.{other_kind, line_form, record_line, Filled, Shows}
 use Rattle.files_spec.proofs.Unique.{bytes-filled}
-use Rattle.files_text_inner.specs.Room.{record_room, Answered}
+use Rattle.files_text_inner.specs.Room.{record_room, PassedRing}
 
 -- a number that the code holds has at most 20 digits
 abbrev pub Few : ℕ → Type 0
@@ -85,5 +85,5 @@ module _ (j : Job) (s n k : ℕ) (x : Kind) (w b : List ℕ) (at r : ℕ) (d : L
   bytes-puts y e f p = rw e (rw f at p)
 
 -- a ring of at most 64 sectors
-pub answered-few : (n k : ℕ) (w : List ℕ) → Answered n k w → n ≤ 64
+pub answered-few : (n k : ℕ) (w : List ℕ) → PassedRing n k w → n ≤ 64
 answered-few n k w a = omega (arith, a.long, a.passed.0.0.0.0.0.0.1)

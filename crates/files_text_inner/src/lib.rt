@@ -6,7 +6,7 @@ ghost use Rattle.std.specs.Prelude.{◌+◌, ◌≤◌, ◌≡◌, length};
 ghost use Rattle.text_spec.specs.Put.{Placed};
 ghost use Rattle.stream_spec.specs.Blocks.{Puts};
 ghost use Rattle.files_spec.specs.Shows.{other_kind, record_line, Filled, Shows};
-ghost use Rattle.files_text_inner.specs.Room.{record_room, Answered};
+ghost use Rattle.files_text_inner.specs.Room.{record_room, PassedRing};
 
 use files_spec::Job;
 use record_spec::{Kind, Record};
@@ -23,7 +23,7 @@ fn other(kind: Kind) -> Kind
 
 // The line of a record.
 fn place_line(at_record: usize, record: Record, ring: &[u8], buf: &mut [u8], at: usize) -> usize
-    requires answered { Answered record.n record.k ring.now }
+    requires answered { PassedRing record.n record.k ring.now }
     requires record_room_in_bounds { at + record_room ≤ length buf.old }
     ensures { Placed buf.old at (record_line at_record record.kind record.n record.k ring.now) result buf.new }
 {
@@ -46,7 +46,7 @@ fn place_line(at_record: usize, record: Record, ring: &[u8], buf: &mut [u8], at:
 
 // The bytes of the record of a ring. A ring that passes the checks is not refused where there is room.
 pub fn place_bytes(k: usize, kind: Kind, ring: &[u8], buf: &mut [u8], at: usize) -> usize
-    requires answered { Answered (length ring.now) k ring.now }
+    requires answered { PassedRing (length ring.now) k ring.now }
     requires record_room_in_bounds { at + record_room ≤ length buf.old }
     ensures { Puts (Filled ring.now k kind) record_room buf.old at result buf.new }
 {
@@ -62,7 +62,7 @@ pub fn place_record(
     buf: &mut [u8],
     at: usize,
 ) -> usize
-    requires answered { Answered record.n record.k ring.now }
+    requires answered { PassedRing record.n record.k ring.now }
     requires record_room_in_bounds { at + record_room ≤ length buf.old }
     ensures { Puts (Shows job at_record record.n record.k record.kind ring.now) record_room buf.old at result buf.new }
 {

@@ -105,7 +105,8 @@ module _ (x : Kind) (w : Time) (at : ℕ) (u : List ℕ) (n : ℕ) (q : Reached 
       let y : t ≡ line_refused_of w r.why r.number = cc in
       rw (y, f) (refused-stops x w q.0 r.why (n + 1) (last-refused x q.0 u n q.2 r.why a h))
 
-  pub line_on : (b o l d : List ℕ) (g : Gone) → 0 < length b → LineAtSays x w u b n o (Ok (Some g)) l d → (0 < g.used) × (g.used ≤ length b) × (g.len ≤ length l) × Reached x (at + g.used) (take g.len l) g.lines
+  pub line_on : (b o l d : List ℕ) (g : Gone) → 0 < length b → LineAtSays x w u b n o (Ok (Some g)) l d →
+      (0 < g.used) × (g.used ≤ length b) × (g.len ≤ length l) × Reached x (at + g.used) (take g.len l) g.lines
   line_on b o l d g z (unread f) = absurd (cc)
   line_on b o l d g z (full h) = let i = turn_on b o l d g h in (omega (arith, i.0, z), omega (arith, i.0), i.1, i.2)
   line_on b o l d g z (some j y f h) = let i = turn_on (take j b) o l d g h in (omega (arith, i.0, length-take j b, y, f), omega (arith, i.0, length-take j b), i.1, i.2)

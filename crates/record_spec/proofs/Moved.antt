@@ -29,7 +29,8 @@ module _ (c : List ℕ) (s : ℕ) (b : List ℕ) (r : Record) (d : List ℕ) (h 
 
   module _ (q : Bytes c) where
     -- wherever it is written in the form that it had, the same bytes stand as at s
-    pub moved_back : (v' : List ℕ) (p' e' : ℕ) (f' : List ℕ) → WriteSays (take r.n u) r.k r.kind v' p' (Ok e') f' → take (4 + body_length r.kind r.n r.k) (drop p' f') ≡ take (4 + body_length r.kind r.n r.k) (drop s c)
+    pub moved_back : (v' : List ℕ) (p' e' : ℕ) (f' : List ℕ) → WriteSays (take r.n u) r.k r.kind v' p' (Ok e') f' →
+        take (4 + body_length r.kind r.n r.k) (drop p' f') ≡ take (4 + body_length r.kind r.n r.k) (drop s c)
     moved_back v' p' e' f' m =
         copied c s b r d h q v' p' e' f' (subst (λ (z : List ℕ). WriteSays z r.k r.kind v' p' (Ok e') f') moved-read.1 m)
 

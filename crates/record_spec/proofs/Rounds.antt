@@ -151,7 +151,8 @@ module _ (c : List ℕ) (s : ℕ) (b : List ℕ) (r : Record) (d : List ℕ) (h 
     -- the bytes that were read
     pub same_bytes : record_bytes r.kind r.k (take r.n d) ≡ take (4 + body_length r.kind r.n r.k) t
     same_bytes =
-        sym (ap (take (4 + body_length r.kind r.n r.k)) split ∙ take_at (record_bytes r.kind r.k (take r.n d)) (drop (4 + body_length r.kind (length (take r.n d)) r.k) t) (4 + body_length r.kind r.n r.k) length-again)
+        sym (ap (take (4 + body_length r.kind r.n r.k)) split ∙ take_at (record_bytes r.kind r.k (take r.n d)) (drop (4 + body_length r.kind (length (take r.n d)) r.k) t)
+        (4 + body_length r.kind r.n r.k) length-again)
 
     -- so that wherever it is written, the same bytes stand there
     pub copied : (v : List ℕ) (p e : ℕ) (f : List ℕ) → WriteSays (take r.n d) r.k r.kind v p (Ok e) f → take (4 + body_length r.kind r.n r.k) (drop p f) ≡ take (4 + body_length r.kind r.n r.k) t

@@ -4,7 +4,8 @@
 --     exceeds-one                   a sector of which none is left
 --     sum-le, remains-sum   what is left is no more than the counts
 use Rattle.words.proofs.Plain.{ℕ, zero, suc, ◌+◌, ◌-◌, ◌<◌, ◌≤◌, add-one, arith, ◌≡◌, refl, sym, ap, ◌∙◌, List, [], ◌∷◌, ◌++◌, length, get_or, take, drop}
-use Rattle.words.proofs.Plain.{List·get_d-append, get_or-append-add, get_or-drop, length-append, length-drop, set, replicate, length-set, length-replicate, get_or-set_same, get_or-set_other, take-suc, take-add}
+use Rattle.words.proofs.Plain.{List·get_d-append, get_or-append-add, get_or-drop, length-append, length-drop, set}
+use Rattle.words.proofs.Plain.{replicate, length-set, length-replicate, get_or-set_same, get_or-set_other, take-suc, take-add}
 use Rattle.words.proofs.Split.{lt, eq, gt, tri}
 use Rattle.rings.specs.Counts.{occurs}
 use Rattle.ring_laws.proofs.FullWalk.{zeros-at}

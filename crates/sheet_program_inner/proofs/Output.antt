@@ -14,7 +14,7 @@ use Rattle.sheet_print_inner.specs.declared.Rings.TheVariants.{Set, Own}
 use Rattle.sheet_print_inner.specs.Says as Printed
 use Rattle.sheet_print_inner.specs.Says.{ReadyOwn, lines_at, Prepared}
 use Rattle.std.proofs.lemmas.List.{take_rest}
-use Rattle.sheet_program_inner.specs.Says.{RingsReady, AnswerReady}
+use Rattle.sheet_program_inner.specs.Says.{SheetReady, AnswerReady}
 
 pub line-inside : (b t : List ℕ) (m : ℕ) (b' : List ℕ) → target_room ≤ length b → LinePrinted b 0 t m b' → (m ≤ length b) × (length b' ≡ length b)
 line-inside b t m b' h s = (omega (arith, s.short, s.placed.next), placed-length b 0 t m b' s.placed)
@@ -25,7 +25,7 @@ wrong-inside b t m b' h p l = (omega arith, placed-length b 0 t m b' p)
 pub ready_of : (s : List ℕ) (r : Result Job Stop) → Prepared s r → AnswerReady s r
 ready_of s (Ok j) x = go j.rings x
   where
-    go : (a : Rings) → Printed.RingsReady s j.sheet a → RingsReady s j.sheet a
+    go : (a : Rings) → Printed.RingsReady s j.sheet a → SheetReady s j.sheet a
     go (Set p t) y = y.0
     go (Own f t) y = (y.0, y.1)
 ready_of s (Err e) x = tt

@@ -6,7 +6,7 @@
 ghost use Rattle.std.specs.Prelude.{◌≤◌, length};
 ghost use Rattle.sheet_spec.specs.Says.{target_room};
 ghost use Rattle.program_reading_inner.specs.Says.{MostSays};
-ghost use Rattle.sheet_program_inner.specs.Says.{RingsReady, AnswerReady};
+ghost use Rattle.sheet_program_inner.specs.Says.{SheetReady, AnswerReady};
 
 use program_reading_inner::Most;
 use refusal::Refusal;
@@ -38,7 +38,7 @@ fn print_wrong(wrong: RefusedLine, buf: &mut [u8]) -> bool
 
 // Writes a sheet that is ready.
 fn print_rings(job: Job, input: &[u8], buf: &mut [u8]) -> bool
-    requires rings_ready { RingsReady input.now job.sheet job.rings }
+    requires rings_ready { SheetReady input.now job.sheet job.rings }
     requires target_room_in_bounds { target_room ≤ length buf.old }
 {
     match job.rings {

@@ -16,4 +16,5 @@ returns c =
     let v = c.args.a.now in
     let w = c.args.b.now in
     c.unwrap_or.ensures ∙ first-near v w _ c.requires.0 c.requires.2 c.find.result
-    (first_from_Range _ _ _ c.find.result (λ i. differing (turn i v) w ≡ c.args.best) (λ i. differing (turn i v) w ≡ c.args.best → ⊥) c.find.ensures.ran (λ x q k. search rules) (λ x q k. search rules))
+    (first_from_Range _ _ _ c.find.result (λ i. differing (turn i v) w ≡ c.args.best) (λ i. differing (turn i v) w ≡ c.args.best → ⊥)
+    c.find.ensures.ran (λ x q k. search rules) (λ x q k. search rules))
