@@ -171,9 +171,13 @@ module _ (s : List ℕ) (k : ℕ) (found : Class) (passed : Passed (one_reading 
   unfolding look_at
   start-off p e =
       let q : class_of s ≡ Loose p = sym is ∙ e in
-      inr
-      (passed.0, (ap (λ (x : Class). OffWalk (loose_place x)) (sym q) ∙ ap (λ (x : List ℕ). OffWalk (look_at x)) (sym (take_all (length s) s (omega arith))),
-      λ t. clash (prenecklace s) t (loose-class s (ap is_loose q))))
+      inr (
+        passed.0,
+        (
+          ap (λ (x : Class). OffWalk (loose_place x)) (sym q) ∙ ap (λ (x : List ℕ). OffWalk (look_at x)) (sym (take_all (length s) s (omega arith))),
+          λ t. clash (prenecklace s) t (loose-class s (ap is_loose q)),
+        ),
+      )
 
   pub start-on : ((p : ℕ) → found ≡ Loose p → ⊥) → Passed (walk_start s k (prenecklace s))
   start-on h = (passed.0, tight-class s (rw is at (tight found h)))

@@ -13,7 +13,7 @@ loop-x-init c = (omega arith, refl)
 pub loop-x-preserved : goal.loop-x-preserved
 loop-x-preserved c =
     let z = zip_turn c.args.a.now c.args.b.now c.loop-x.yielded c.into_iter-x-iterator.result c.loop-x.x-iterator c.next.new.self _ (search rules)
-        (search rules) c.loop-x.yielded_by _ c.in-Some.is c.next.ensures.steps in
+    (search rules) c.loop-x.yielded_by _ c.in-Some.is c.next.ensures.steps in
     let m = surplus-more (sec c.args.a.now) (sec c.args.b.now) (length c.loop-x.yielded) c.loop-x.more c.from-more.result c.loop-x.invariant.1 c.loop-x.invariant.0
     (omega (arith, c.from-more.ensures, c.saturating_sub.ensures, z.2 0, z.3 0)) (omega (arith, c.type_inv.a (length c.loop-x.yielded))) in
     simp length-append (m.1, m.0)
