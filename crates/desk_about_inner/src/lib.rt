@@ -3,6 +3,7 @@
 #![tactic(auto)]
 
 ghost use Rattle.std.specs.Prelude.{◌+◌, ◌≤◌, ◌≡◌, length};
+ghost use Rattle.stream_spec.specs.Blocks.{Puts};
 ghost use Rattle.text_words_spec.specs.Words.{Spelt};
 ghost use Rattle.desk_spec.specs.declared.About.TheVariants as asks;
 ghost use Rattle.desk_spec.specs.declared.Verb.TheVariants as verbs;
@@ -72,7 +73,7 @@ fn answer_about(
         About::Home => answer_home(k, w, out, buf, at),
         About::Even => answer_even(k, w, buf, at),
         About::Place => answer_place(k, w, buf, at),
-        About::Step(x) => desk_steps_inner::answer_step(x, k, w, out, buf, at),
+        About::Step(x) => Ok(desk_steps_inner::answer_step(x, k, w, out, buf, at)),
     }
 }
 
@@ -98,8 +99,8 @@ fn ask_about(
     answer_about(v, k, w, out, buf, at)
 }
 
-// What the text behind the verb prints.
-pub fn place_about(v: About, t: &[u8], buf: &mut [u8], at: usize) -> Result<usize, Refusal>
+// What the text behind the verb prints, the line of a refusal left out.
+fn about_asked(v: About, t: &[u8], buf: &mut [u8], at: usize) -> Result<usize, Refusal>
     requires t_len_bound { length t.now ≤ 4095 }
     requires desk_room_in_bounds { at + desk_room ≤ length buf.old }
     ensures { Answered (VerbSays (verbs.About v) t.now) buf.old at result buf.new }
@@ -111,4 +112,14 @@ pub fn place_about(v: About, t: &[u8], buf: &mut [u8], at: usize) -> Result<usiz
     let mut w = [0u8; 4095];
     let mut out = [0u8; 4095];
     ask_about(v, k, &t[e..], &mut w[..n], &mut out[..n], buf, at)
+}
+
+// What the text behind the verb prints.
+pub fn place_about(v: About, t: &[u8], buf: &mut [u8], at: usize) -> usize
+    requires t_len_bound { length t.now ≤ 4095 }
+    requires desk_room_in_bounds { at + desk_room ≤ length buf.old }
+    ensures { Puts (VerbSays (verbs.About v) t.now) desk_room buf.old at result buf.new }
+{
+    let said = about_asked(v, t, buf, at);
+    desk_texts_inner::place_said(buf, at, said)
 }

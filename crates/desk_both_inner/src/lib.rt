@@ -3,6 +3,7 @@
 #![tactic(auto)]
 
 ghost use Rattle.std.specs.Prelude.{◌+◌, ◌≤◌, ◌≡◌, length};
+ghost use Rattle.stream_spec.specs.Blocks.{Puts};
 ghost use Rattle.desk_spec.specs.declared.Both.TheVariants as asks;
 ghost use Rattle.desk_spec.specs.declared.Verb.TheVariants as verbs;
 ghost use Rattle.desk_spec.specs.Questions.{Replies};
@@ -104,8 +105,8 @@ fn ask_words(
     )
 }
 
-// What the text behind the verb prints.
-pub fn place_both(v: Both, t: &[u8], buf: &mut [u8], at: usize) -> Result<usize, Refusal>
+// What the text behind the verb prints, the line of a refusal left out.
+fn both_asked(v: Both, t: &[u8], buf: &mut [u8], at: usize) -> Result<usize, Refusal>
     requires t_len_bound { length t.now ≤ 4095 }
     requires desk_room_in_bounds { at + desk_room ≤ length buf.old }
     ensures { Answered (VerbSays (verbs.Both v) t.now) buf.old at result buf.new }
@@ -116,4 +117,14 @@ pub fn place_both(v: Both, t: &[u8], buf: &mut [u8], at: usize) -> Result<usize,
     let mut a = [0u8; 4095];
     let mut b = [0u8; 4095];
     ask_words(v, k, &t[e..], &mut a, &mut b, buf, at)
+}
+
+// What the text behind the verb prints.
+pub fn place_both(v: Both, t: &[u8], buf: &mut [u8], at: usize) -> usize
+    requires t_len_bound { length t.now ≤ 4095 }
+    requires desk_room_in_bounds { at + desk_room ≤ length buf.old }
+    ensures { Puts (VerbSays (verbs.Both v) t.now) desk_room buf.old at result buf.new }
+{
+    let said = both_asked(v, t, buf, at);
+    desk_texts_inner::place_said(buf, at, said)
 }

@@ -1,7 +1,6 @@
 -- A byte that a text asks for.
 --     byte, no_byte, great     a byte
-use Rattle.words.proofs.Plain.{ℕ, ◌<◌, arith, ◌≡◌, sym, ◌∙◌, List}
-use Rattle.text_spec.specs.Decimal.{decimal}
+use Rattle.words.proofs.Plain.{ℕ, ◌<◌, arith, sym, ◌∙◌, List}
 use Rattle.text_spec.proofs.Digits.{decimal-one}
 use Rattle.std.specs.Prelude.{Some, None}
 use Rattle.line_spec.specs.Line.{NumberSays}

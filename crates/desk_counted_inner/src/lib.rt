@@ -3,6 +3,7 @@
 #![tactic(auto)]
 
 ghost use Rattle.std.specs.Prelude.{◌+◌, ◌≤◌, ◌≡◌, length, Ok};
+ghost use Rattle.stream_spec.specs.Blocks.{Puts};
 ghost use Rattle.desk_spec.specs.declared.Verb.TheVariants as verbs;
 ghost use Rattle.desk_spec.specs.Texts.{next_ring_text};
 ghost use Rattle.desk_spec.specs.Questions.{Replies};
@@ -98,8 +99,8 @@ fn ask_words(k: usize, t: &[u8], w: &mut [u8], buf: &mut [u8], at: usize) -> Res
     ask_ring(k, &t[..e], &t[e + 1..], &mut w[..e], buf, at)
 }
 
-// What the text behind `after` prints.
-pub fn place_after(t: &[u8], buf: &mut [u8], at: usize) -> Result<usize, Refusal>
+// What the text behind `after` prints, the line of a refusal left out.
+fn after_asked(t: &[u8], buf: &mut [u8], at: usize) -> Result<usize, Refusal>
     requires t_len_bound { length t.now ≤ 4095 }
     requires desk_room_in_bounds { at + desk_room ≤ length buf.old }
     ensures { Answered (VerbSays verbs.After t.now) buf.old at result buf.new }
@@ -111,8 +112,18 @@ pub fn place_after(t: &[u8], buf: &mut [u8], at: usize) -> Result<usize, Refusal
     ask_words(k, &t[e..], &mut w, buf, at)
 }
 
-// What the text behind `first` prints: the counts stand behind k alone.
-pub fn place_first(t: &[u8], buf: &mut [u8], at: usize) -> Result<usize, Refusal>
+// What the text behind `after` prints.
+pub fn place_after(t: &[u8], buf: &mut [u8], at: usize) -> usize
+    requires t_len_bound { length t.now ≤ 4095 }
+    requires desk_room_in_bounds { at + desk_room ≤ length buf.old }
+    ensures { Puts (VerbSays verbs.After t.now) desk_room buf.old at result buf.new }
+{
+    let said = after_asked(t, buf, at);
+    desk_texts_inner::place_said(buf, at, said)
+}
+
+// What the text behind `first` prints, the line of a refusal left out.
+fn first_asked(t: &[u8], buf: &mut [u8], at: usize) -> Result<usize, Refusal>
     requires t_len_bound { length t.now ≤ 4095 }
     requires desk_room_in_bounds { at + desk_room ≤ length buf.old }
     ensures { Answered (VerbSays verbs.First t.now) buf.old at result buf.new }
@@ -124,5 +135,15 @@ pub fn place_first(t: &[u8], buf: &mut [u8], at: usize) -> Result<usize, Refusal
     let Some(m) = desk_counts_inner::word_counts(&t[e..], &mut counts) else {
         return Err(Refusal::Line);
     };
-    desk_first_inner::answer_first(k, &counts[..m], buf, at)
+    Ok(desk_first_inner::answer_first(k, &counts[..m], buf, at))
+}
+
+// What the text behind `first` prints: the counts stand behind k alone.
+pub fn place_first(t: &[u8], buf: &mut [u8], at: usize) -> usize
+    requires t_len_bound { length t.now ≤ 4095 }
+    requires desk_room_in_bounds { at + desk_room ≤ length buf.old }
+    ensures { Puts (VerbSays verbs.First t.now) desk_room buf.old at result buf.new }
+{
+    let said = first_asked(t, buf, at);
+    desk_texts_inner::place_said(buf, at, said)
 }

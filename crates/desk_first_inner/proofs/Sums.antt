@@ -3,7 +3,7 @@
 --     summed-none, summed-more, summed-over, summed-all    the loop
 --     given-long, first-long          an output of more than 64 places is refused alike, whatever its length
 --     first-within                    what an output of SumWithin places prints
-use Rattle.words.proofs.Plain.{ℕ, ◌+◌, ◌-◌, ◌<◌, ◌≤◌, arith, dec_lt, ◌≡◌, refl, sym, ap, ◌∙◌, inl, List, length, get_or, take, drop, length-replicate}
+use Rattle.words.proofs.Plain.{ℕ, ◌+◌, ◌-◌, ◌<◌, ◌≤◌, arith, dec_lt, ◌≡◌, refl, ap, ◌∙◌, inl, List, length, get_or, take, drop, length-replicate}
 use Rattle.words.proofs.Plain.{drop_of_length-le}
 use Rattle.words.specs.Sum.{sum_of}
 use Rattle.refusal.specs.{declared.Refusal.Refusal, declared.Refusal.TheVariants.Length, Order.Given, Calls.counted_first}

@@ -1,7 +1,7 @@
 -- What a line prints, by its first word.
 --     line-long, line-alone, line-unknown    a line that asks nothing
 --     put-line                               one that has a verb
-use Rattle.words.proofs.Plain.{ℕ, ◌+◌, ◌-◌, ◌<◌, ◌≤◌, arith, ◌≡◌, refl, sym, ap, ◌∙◌, true, false, false≢true, List, length, take, drop}
+use Rattle.words.proofs.Plain.{ℕ, ◌+◌, ◌-◌, ◌<◌, ◌≤◌, arith, ◌≡◌, refl, sym, ap, ◌∙◌, false≢true, List, length, take, drop}
 use Rattle.std.specs.Prelude.{Option, Some, None, Result}
 use Rattle.refusal.specs.declared.Refusal.{Refusal}
 use Rattle.text_words_spec.specs.Words.{PieceAt}

@@ -64,10 +64,10 @@ fn verb_of(t: &[u8]) -> Option<Verb>
 }
 
 // What the text behind a verb prints.
-fn place_verb(v: Verb, t: &[u8], buf: &mut [u8], at: usize) -> Result<usize, Refusal>
+fn place_verb(v: Verb, t: &[u8], buf: &mut [u8], at: usize) -> usize
     requires t_len_bound { length t.now ≤ 4095 }
     requires desk_room_in_bounds { at + desk_room ≤ length buf.old }
-    ensures { Answered (VerbSays v t.now) buf.old at result buf.new }
+    ensures { Puts (VerbSays v t.now) desk_room buf.old at result buf.new }
 {
     match v {
         Verb::About(x) => desk_about_inner::place_about(x, t, buf, at),
@@ -93,7 +93,7 @@ fn place_word(line: &[u8], e: usize, buf: &mut [u8], at: usize) -> Result<usize,
     let Some(v) = verb_of(&line[..e]) else {
         return Err(Refusal::Line);
     };
-    place_verb(v, &line[e + 1..], buf, at)
+    Ok(place_verb(v, &line[e + 1..], buf, at))
 }
 
 // What a line prints, the line of a refusal left out.
@@ -116,8 +116,6 @@ pub fn place_answer(line: &[u8], buf: &mut [u8], at: usize) -> usize
     requires { at + desk_room ≤ length buf.old }
     ensures { Puts (DeskAnswers line.now) desk_room buf.old at result buf.new }
 {
-    match answer_line(line, buf, at) {
-        Ok(end) => end,
-        Err(r) => desk_texts_inner::place_refusal(buf, at, r),
-    }
+    let said = answer_line(line, buf, at);
+    desk_texts_inner::place_said(buf, at, said)
 }

@@ -3,6 +3,7 @@
 #![tactic(auto)]
 
 ghost use Rattle.std.specs.Prelude.{◌+◌, ◌≤◌, length};
+ghost use Rattle.stream_spec.specs.Blocks.{Puts};
 ghost use Rattle.text_words_spec.specs.Words.{Nibbles};
 ghost use Rattle.desk_spec.specs.declared.Verb.TheVariants as verbs;
 ghost use Rattle.desk_spec.specs.Questions.{Replies};
@@ -19,11 +20,11 @@ fn answer_shades(k: usize, xs: &[f32], buf: &mut [u8], at: usize) -> Result<usiz
     ensures { Answered (ShadesSays k xs.now) buf.old at result buf.new }
 {
     if xs.len() == 3 {
-        return desk_card_inner::answer_one(k, xs, buf, at);
+        return Ok(desk_card_inner::answer_one(k, xs, buf, at));
     }
     let n = xs.len() - 2;
     let mut out = [0u8; 512];
-    desk_card_inner::answer_ring(k, xs, &mut out[..n], buf, at)
+    Ok(desk_card_inner::answer_ring(k, xs, &mut out[..n], buf, at))
 }
 
 // The floats of digits that lie end to end.
@@ -57,8 +58,8 @@ fn ask_shade(k: usize, u: &[u8], s: &mut [u8], buf: &mut [u8], at: usize) -> Res
     answer_digits(k, &s[..m], buf, at)
 }
 
-// What the text behind `shade` prints.
-pub fn place_shade(t: &[u8], buf: &mut [u8], at: usize) -> Result<usize, Refusal>
+// What the text behind `shade` prints, the line of a refusal left out.
+fn shade_asked(t: &[u8], buf: &mut [u8], at: usize) -> Result<usize, Refusal>
     requires t_len_bound { length t.now ≤ 4095 }
     requires desk_room_in_bounds { at + desk_room ≤ length buf.old }
     ensures { Answered (VerbSays verbs.Shade t.now) buf.old at result buf.new }
@@ -68,4 +69,14 @@ pub fn place_shade(t: &[u8], buf: &mut [u8], at: usize) -> Result<usize, Refusal
     };
     let mut s = [0u8; 4095];
     ask_shade(k, &t[e..], &mut s, buf, at)
+}
+
+// What the text behind `shade` prints.
+pub fn place_shade(t: &[u8], buf: &mut [u8], at: usize) -> usize
+    requires t_len_bound { length t.now ≤ 4095 }
+    requires desk_room_in_bounds { at + desk_room ≤ length buf.old }
+    ensures { Puts (VerbSays verbs.Shade t.now) desk_room buf.old at result buf.new }
+{
+    let said = shade_asked(t, buf, at);
+    desk_texts_inner::place_said(buf, at, said)
 }

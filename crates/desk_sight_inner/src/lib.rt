@@ -3,6 +3,7 @@
 #![tactic(auto)]
 
 ghost use Rattle.std.specs.Prelude.{◌+◌, ◌-◌, ◌≤◌, length, take, drop};
+ghost use Rattle.stream_spec.specs.Blocks.{Puts};
 ghost use Rattle.desk_spec.specs.declared.Verb.TheVariants as verbs;
 ghost use Rattle.desk_spec.specs.Questions.{Replies};
 ghost use Rattle.desk_spec.specs.Texts.{sight_text};
@@ -63,8 +64,8 @@ fn heads_of(t: &[u8]) -> Option<(usize, usize, usize)>
     Some((k, most, e + f))
 }
 
-// What the text behind `sight` prints.
-pub fn place_sight(t: &[u8], buf: &mut [u8], at: usize) -> Result<usize, Refusal>
+// What the text behind `sight` prints, the line of a refusal left out.
+fn sight_asked(t: &[u8], buf: &mut [u8], at: usize) -> Result<usize, Refusal>
     requires t_len_bound { length t.now ≤ 4095 }
     requires desk_room_in_bounds { at + desk_room ≤ length buf.old }
     ensures { Answered (VerbSays verbs.Sight t.now) buf.old at result buf.new }
@@ -74,4 +75,14 @@ pub fn place_sight(t: &[u8], buf: &mut [u8], at: usize) -> Result<usize, Refusal
     };
     let mut out = [0u8; 4095];
     ask_sight(k, most, &t[e..], &mut out, buf, at)
+}
+
+// What the text behind `sight` prints.
+pub fn place_sight(t: &[u8], buf: &mut [u8], at: usize) -> usize
+    requires t_len_bound { length t.now ≤ 4095 }
+    requires desk_room_in_bounds { at + desk_room ≤ length buf.old }
+    ensures { Puts (VerbSays verbs.Sight t.now) desk_room buf.old at result buf.new }
+{
+    let said = sight_asked(t, buf, at);
+    desk_texts_inner::place_said(buf, at, said)
 }

@@ -3,6 +3,7 @@
 #![tactic(auto)]
 
 ghost use Rattle.std.specs.Prelude.{◌+◌, ◌≤◌, ◌≡◌, length};
+ghost use Rattle.stream_spec.specs.Blocks.{Puts};
 ghost use Rattle.desk_spec.specs.declared.Step.TheVariants as steps;
 ghost use Rattle.desk_spec.specs.Texts.{step_text};
 ghost use Rattle.desk_spec.specs.Answers.{StepPrints, blank};
@@ -44,7 +45,8 @@ fn answer_bracelet(
     Ok(desk_steps_text_inner::place_arrival(buf, at, a, out))
 }
 
-pub fn answer_step(
+// What a step prints, the line of a refusal left out.
+fn step_asked(
     v: Step,
     k: usize,
     w: &[u8],
@@ -72,4 +74,15 @@ pub fn answer_step(
         }
         Step::Bracelet => answer_bracelet(k, w, out, buf, at),
     }
+}
+
+// What a step prints.
+pub fn answer_step(v: Step, k: usize, w: &[u8], out: &mut [u8], buf: &mut [u8], at: usize) -> usize
+    requires w_len_bound { length w.now ≤ 4095 }
+    requires out_value { out.old ≡ blank (length w.now) }
+    requires desk_room_in_bounds { at + desk_room ≤ length buf.old }
+    ensures { Puts (StepPrints v k w.now) desk_room buf.old at result buf.new }
+{
+    let said = step_asked(v, k, w, out, buf, at);
+    desk_texts_inner::place_said(buf, at, said)
 }

@@ -3,6 +3,7 @@
 #![tactic(auto)]
 
 ghost use Rattle.std.specs.Prelude.{◌+◌, ◌^◌, ◌≤◌, ◌≡◌, length, Ok};
+ghost use Rattle.stream_spec.specs.Blocks.{Puts};
 ghost use Rattle.desk_spec.specs.declared.Verb.TheVariants as verbs;
 ghost use Rattle.desk_spec.specs.Texts.{strip_text};
 ghost use Rattle.desk_spec.specs.Answers.{StripPrints, VerbSays, blank};
@@ -47,8 +48,8 @@ fn answer_strip(k: usize, n: usize, buf: &mut [u8], at: usize) -> Result<usize, 
     answer_whole(k, n, &mut out[..m], buf, at)
 }
 
-// What the text behind `strip` prints.
-pub fn place_strip(t: &[u8], buf: &mut [u8], at: usize) -> Result<usize, Refusal>
+// What the text behind `strip` prints, the line of a refusal left out.
+fn strip_asked(t: &[u8], buf: &mut [u8], at: usize) -> Result<usize, Refusal>
     requires { at + desk_room ≤ length buf.old }
     ensures { Answered (VerbSays verbs.Strip t.now) buf.old at result buf.new }
 {
@@ -56,4 +57,13 @@ pub fn place_strip(t: &[u8], buf: &mut [u8], at: usize) -> Result<usize, Refusal
         return Err(Refusal::Line);
     };
     answer_strip(k, n, buf, at)
+}
+
+// What the text behind `strip` prints.
+pub fn place_strip(t: &[u8], buf: &mut [u8], at: usize) -> usize
+    requires { at + desk_room ≤ length buf.old }
+    ensures { Puts (VerbSays verbs.Strip t.now) desk_room buf.old at result buf.new }
+{
+    let said = strip_asked(t, buf, at);
+    desk_texts_inner::place_said(buf, at, said)
 }

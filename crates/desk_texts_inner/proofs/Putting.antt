@@ -5,7 +5,6 @@
 --     answered-on    what one says of a text, the other says of it too
 --     put-good       what a question prints, where a text asks it
 --     put-bad        what a text prints that asks none
---     refusal-line   the line of a refusal
 use Rattle.words.proofs.Plain.{ℕ, ◌≡◌, refl, sym, List}
 use Rattle.std.specs.Prelude.{Result, Ok, Err, IsErrAnd}
 use Rattle.refusal.specs.declared.Refusal.{Refusal}
@@ -52,7 +51,3 @@ put_as Reads Says Reads' Says' f g b at r b' p = answered-on (Replies Reads Says
     on : (t : List ℕ) → Replies Reads Says t → Replies Reads' Says' t
     on t (good x u s) = let y = f x u in good y.0 y.1 (y.2 t s)
     on t (bad n e) = bad (λ y v. let x = g y v in n x.0 x.1) e
-
--- the line of a refusal is printed too
-pub refusal-line : (P : List ℕ → Type 0) (b b' : List ℕ) (at : ℕ) (q : Refusal) → P (refusal_text q) × (b' ≡ b) → (r : ℕ) (c : List ℕ) → LinePrinted b' at (refusal_text q) r c → Puts P desk_room b at r c
-refusal-line P b b' at q p r c l = put-text P b at (refusal_text q) r c p.0 (rw p.1 at l)

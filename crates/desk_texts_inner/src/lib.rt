@@ -5,7 +5,7 @@
 ghost use Rattle.std.specs.Prelude.{◌+◌, ◌≤◌, [], ◌∷◌, length, Ok};
 ghost use Rattle.text_fill_spec.specs.Filled.{filled_text, longest};
 ghost use Rattle.desk_spec.specs.Texts.{plain_text, counted_ring_text, refusal_text, malformed_text, name_text, home_text, told_text, distance_text, place_text, many_text, stock_text};
-ghost use Rattle.desk_texts_inner.specs.Says.{desk_room, longest_ring, longest_plain, ring_line_text, done_text, LinePrinted};
+ghost use Rattle.desk_texts_inner.specs.Says.{desk_room, longest_ring, longest_plain, ring_line_text, done_text, LinePrinted, SaidPrinted};
 
 use home_spec::Home;
 use refusal::Refusal;
@@ -96,6 +96,17 @@ pub fn place_malformed(buf: &mut [u8], at: usize) -> usize
     ensures { LinePrinted buf.old at malformed_text result buf.new }
 {
     place_refusal(buf, at, Refusal::Line)
+}
+
+// What was said where it is not refused, and the refusal's line where it is.
+pub fn place_said(buf: &mut [u8], at: usize, said: Result<usize, Refusal>) -> usize
+    requires { at + desk_room ≤ length buf.old }
+    ensures { SaidPrinted buf.old at said result buf.new }
+{
+    match said {
+        Ok(end) => end,
+        Err(r) => place_refusal(buf, at, r),
+    }
 }
 
 // A class.

@@ -1,5 +1,5 @@
 -- `desk_first_inner::sum_within` meets its contract.
-use Rattle.words.proofs.Needs.{◌-◌, arith}
+use Rattle.words.proofs.Needs.{arith}
 use Rattle.desk_first_inner.proofs.Sums.{summed-none, summed-more, summed-over, summed-all}
 use Rattle.desk_first_inner.proofs.sum_within.Goals as goal
 

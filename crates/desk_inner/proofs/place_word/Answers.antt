@@ -1,5 +1,6 @@
 -- `desk_inner::place_word` meets its contract.
 use Rattle.words.proofs.Needs.{arith, length-take}
+use Rattle.std.specs.Prelude.{Ok}
 use Rattle.desk_texts_inner.proofs.Putting.{put-bad}
 use Rattle.desk_inner.proofs.Lines.{line-unknown, put-line}
 use Rattle.desk_inner.proofs.place_word.Goals as goal
@@ -13,4 +14,4 @@ returns-in_default c =
 
 pub returns : goal.returns
 returns c =
-    put-line c.args.line.now c.args.e c.requires.piece_at c.requires.line_len_bound c.requires.e_in_bounds c.verb_of.result c.verb_of.ensures c.in-Some.v c.in-Some.is _ _ _ _ c.place_verb.ensures
+    put-line c.args.line.now c.args.e c.requires.piece_at c.requires.line_len_bound c.requires.e_in_bounds c.verb_of.result c.verb_of.ensures c.in-Some.v c.in-Some.is _ _ (Ok _) _ c.place_verb.ensures

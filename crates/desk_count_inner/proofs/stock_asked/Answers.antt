@@ -1,10 +1,10 @@
--- `desk_count_inner::place_stock` meets its contract.
+-- `desk_count_inner::stock_asked` meets its contract.
 use Rattle.words.proofs.Needs.{arith, ap}
 use Rattle.std.specs.Prelude.{Ok}
 use Rattle.desk_spec.specs.Texts.{stock_text}
 use Rattle.desk_texts_inner.proofs.Putting.{put-text, put-good, put-bad}
 use Rattle.desk_count_inner.proofs.Reading.{byte, no_byte, great}
-use Rattle.desk_count_inner.proofs.place_stock.Goals as goal
+use Rattle.desk_count_inner.proofs.stock_asked.Goals as goal
 
 pub returns-in_default : goal.returns-in_default
 returns-in_default c = put-bad _ _ (no_byte c.args.t.now c.in_default.ensures) _

@@ -1,9 +1,9 @@
--- `desk_card_inner::answer_ring` meets its contract.
+-- `desk_card_inner::ring_asked` meets its contract.
 use Rattle.words.proofs.Needs.{refl}
 use Rattle.std.specs.Prelude.{Ok, Err}
 use Rattle.desk_texts_inner.proofs.Putting.{put-shown, shown-refused}
 use Rattle.desk_card_inner.proofs.Values.{answered-several, ring-said}
-use Rattle.desk_card_inner.proofs.answer_ring.Goals as goal
+use Rattle.desk_card_inner.proofs.ring_asked.Goals as goal
 
 pub returns-in_err-ring_shades : goal.returns-in_err-ring_shades
 returns-in_err-ring_shades c =

@@ -1,8 +1,8 @@
--- `desk_shade_inner::place_shade` meets its contract.
+-- `desk_shade_inner::shade_asked` meets its contract.
 use Rattle.words.proofs.Needs.{arith}
 use Rattle.desk_texts_inner.proofs.Putting.{put-bad}
 use Rattle.desk_shade_inner.proofs.Asking.{no-shade, put-shade}
-use Rattle.desk_shade_inner.proofs.place_shade.Goals as goal
+use Rattle.desk_shade_inner.proofs.shade_asked.Goals as goal
 
 pub returns-in_default : goal.returns-in_default
 returns-in_default c = put-bad _ _ (no-shade c.args.t.now c.in_default.ensures) _

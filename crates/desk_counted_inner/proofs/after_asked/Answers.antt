@@ -1,9 +1,9 @@
--- `desk_counted_inner::place_after` meets its contract.
+-- `desk_counted_inner::after_asked` meets its contract.
 use Rattle.words.proofs.Needs.{arith}
 use Rattle.desk_spec.specs.Answers.{AfterPrints}
 use Rattle.desk_texts_inner.proofs.Putting.{put-bad}
 use Rattle.desk_counts_inner.proofs.Asking.{no-after, put-after}
-use Rattle.desk_counted_inner.proofs.place_after.Goals as goal
+use Rattle.desk_counted_inner.proofs.after_asked.Goals as goal
 
 pub returns-in_default : goal.returns-in_default
 returns-in_default c = put-bad _ _ (no-after c.args.t.now c.in_default.ensures) _

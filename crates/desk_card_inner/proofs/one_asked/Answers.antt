@@ -1,10 +1,10 @@
--- `desk_card_inner::answer_one` meets its contract.
+-- `desk_card_inner::one_asked` meets its contract.
 use Rattle.words.proofs.Needs.{refl}
 use Rattle.std.specs.Prelude.{Ok, Err}
 use Rattle.desk_texts_inner.proofs.Putting.{put-shown, shown-refused}
 use Rattle.desk_sector_inner.proofs.Numbers.{numbered-read}
 use Rattle.desk_card_inner.proofs.Values.{answered-one}
-use Rattle.desk_card_inner.proofs.answer_one.Goals as goal
+use Rattle.desk_card_inner.proofs.one_asked.Goals as goal
 
 pub returns-in_err-a : goal.returns-in_err-a
 returns-in_err-a c =

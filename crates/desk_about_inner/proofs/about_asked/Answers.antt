@@ -1,9 +1,9 @@
--- `desk_about_inner::place_about` meets its contract.
+-- `desk_about_inner::about_asked` meets its contract.
 use Rattle.words.proofs.Needs.{arith, length-take}
 use Rattle.desk_spec.specs.Answers.{AboutSays}
 use Rattle.desk_texts_inner.proofs.Putting.{put-bad}
 use Rattle.desk_words_inner.proofs.Shapes.{no-reading, put-reading, ask-room}
-use Rattle.desk_about_inner.proofs.place_about.Goals as goal
+use Rattle.desk_about_inner.proofs.about_asked.Goals as goal
 
 pub overflow_sub-n : goal.overflow_sub-n
 overflow_sub-n c = omega (arith, c.in-Some.ensures.1)

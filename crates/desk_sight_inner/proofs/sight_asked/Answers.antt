@@ -1,8 +1,8 @@
--- `desk_sight_inner::place_sight` meets its contract.
+-- `desk_sight_inner::sight_asked` meets its contract.
 use Rattle.words.proofs.Needs.{arith}
 use Rattle.desk_texts_inner.proofs.Putting.{put-bad}
 use Rattle.desk_sight_inner.proofs.Asking.{no-sight, put-sight}
-use Rattle.desk_sight_inner.proofs.place_sight.Goals as goal
+use Rattle.desk_sight_inner.proofs.sight_asked.Goals as goal
 
 pub returns-in_default : goal.returns-in_default
 returns-in_default c = put-bad _ _ (no-sight c.args.t.now c.in_default.ensures) _

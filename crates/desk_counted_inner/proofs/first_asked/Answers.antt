@@ -1,11 +1,11 @@
--- `desk_counted_inner::place_first` meets its contract.
+-- `desk_counted_inner::first_asked` meets its contract.
 use Rattle.words.proofs.Needs.{arith}
-use Rattle.std.specs.Prelude.{Err}
+use Rattle.std.specs.Prelude.{Ok, Err}
 use Rattle.refusal.specs.declared.Refusal.TheVariants.{Line}
 use Rattle.desk_spec.specs.Answers.{FirstPrints}
 use Rattle.desk_texts_inner.proofs.Putting.{put-good, put-bad}
 use Rattle.desk_counts_inner.proofs.Asking.{no-counts, put-counts}
-use Rattle.desk_counted_inner.proofs.place_first.Goals as goal
+use Rattle.desk_counted_inner.proofs.first_asked.Goals as goal
 
 pub returns-in_default : goal.returns-in_default
 returns-in_default c = put-bad _ _ (no-counts c.args.t.now c.in_default.ensures) _
@@ -22,4 +22,4 @@ returns-in_default-word_counts c =
 
 pub returns : goal.returns
 returns c =
-    put-counts FirstPrints c.args.t.now _ _ c.in-Some.ensures _ _ _ _ (put-good _ _ _ _ _ _ _ c.in-Some-word_counts.ensures.1 c.answer_first.ensures)
+    put-counts FirstPrints c.args.t.now _ _ c.in-Some.ensures _ _ (Ok _) _ (put-good _ _ _ _ (Ok _) _ _ c.in-Some-word_counts.ensures.1 c.answer_first.ensures)

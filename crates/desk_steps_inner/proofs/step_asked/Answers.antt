@@ -1,6 +1,6 @@
--- `desk_steps_inner::answer_step` meets its contract.
+-- `desk_steps_inner::step_asked` meets its contract.
 use Rattle.desk_steps_inner.proofs.Steps.{step-shown}
-use Rattle.desk_steps_inner.proofs.answer_step.Goals as goal
+use Rattle.desk_steps_inner.proofs.step_asked.Goals as goal
 
 pub returns-in-Necklace : goal.returns-in-Necklace
 returns-in-Necklace c =

@@ -1,8 +1,8 @@
--- `desk_both_inner::place_both` meets its contract.
+-- `desk_both_inner::both_asked` meets its contract.
 use Rattle.words.proofs.Needs.{arith}
 use Rattle.desk_texts_inner.proofs.Putting.{put-bad}
 use Rattle.desk_words_inner.proofs.Shapes.{no-pair, put-pair}
-use Rattle.desk_both_inner.proofs.place_both.Goals as goal
+use Rattle.desk_both_inner.proofs.both_asked.Goals as goal
 
 pub slice_bounds-ask_words-count : goal.slice_bounds-ask_words-count
 slice_bounds-ask_words-count c = omega (arith, c.in-Some.ensures.1)

@@ -1,8 +1,8 @@
--- `desk_first_inner::answer_first` meets its contract.
+-- `desk_first_inner::first_asked` meets its contract.
 use Rattle.words.proofs.Needs.{arith, length-take}
 use Rattle.desk_texts_inner.proofs.Putting.{answered-on}
 use Rattle.desk_first_inner.proofs.Sums.{first-within}
-use Rattle.desk_first_inner.proofs.answer_first.Goals as goal
+use Rattle.desk_first_inner.proofs.first_asked.Goals as goal
 
 pub slice_bounds-out-end : goal.slice_bounds-out-end
 slice_bounds-out-end c = omega (arith, c.sum_within-n.ensures.most)
