@@ -4,9 +4,9 @@ BEGIN {
     # the toolchain's crates and commands, words of the languages, of C and of the system, and what stands for any name
     split("std io bytes libc check os lib rings", w, " "); for (i in w) foreign[w[i]] = 1
     split("ci must-fail selftest doc version help new check verdict lib run test try fmt tidy plant all expand lemma seed names", w, " "); for (i in w) tool[w[i]] = 1
-    split("requires ensures fn f32 u8 usize stdin stdout rt float lseek read_full rgb memcpy memset valgrind python3 gcc clang flock sha256sum rsvg-convert", w, " "); for (i in w) plain[w[i]] = 1
+    split("requires ensures fn f32 u8 usize bool true false Result Ok Err Some None stdin stdout rt float lseek read_full rgb memcpy memset valgrind python3 gcc clang flock sha256sum rsvg-convert", w, " "); for (i in w) plain[w[i]] = 1
     split("error old: new: faults pathLength stroke-dasharray RINGS_PROVED RINGS_EMULATOR LETTER PATH LIBRARY Lib.antt logic.lock", w, " "); for (i in w) plain[w[i]] = 1
-    split("FIRST_PROOFS.md SHORTER_PROOFS.md Invariants.antt Answers.antt rules .git/gates x86-64 x86_64 float32 Proof search src Option incremental=trusted crate File librings.so.1", w, " "); for (i in w) plain[w[i]] = 1
+    split("inl inr FIRST_PROOFS.md SHORTER_PROOFS.md Invariants.antt Answers.antt rules .git/gates x86-64 x86_64 float32 Proof search src Option incremental=trusted crate File librings.so.1", w, " "); for (i in w) plain[w[i]] = 1
 }
 
 # ---- files and commands

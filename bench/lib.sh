@@ -136,8 +136,8 @@ build_door() (
 # The calls that are measured, under names that C can call. A refusal answers 255.
 calls_source() {
     cat <<'RATTLE'
-use home::Homed;
-use shades::NextAnswer;
+use refusal::Refusal;
+use shades::Next;
 use walk::Arrival;
 use walk::Outcome;
 use walk::Stepped;
@@ -146,17 +146,17 @@ use walk::Walk;
 #[unsafe(no_mangle)]
 pub extern "C" fn bring_home(s: &[u8], k: usize, out: &mut [u8]) -> usize {
     match home::bring_home(s, k, out) {
-        Homed::Home { shift, period } => shift ^ period,
-        Homed::Refused(_) => 255,
+        Ok(home) => home.shift ^ home.period,
+        Err(_) => 255,
     }
 }
 
 #[unsafe(no_mangle)]
 pub extern "C" fn next_ring(s: &[u8], k: usize, counts: &[usize], out: &mut [u8]) -> usize {
     match shades::next_ring(s, k, counts, out) {
-        NextAnswer::Ring => 1,
-        NextAnswer::Done => 0,
-        NextAnswer::Refused(_) => 255,
+        Ok(Next::Ring) => 1,
+        Ok(Next::Done) => 0,
+        Err(_) => 255,
     }
 }
 
@@ -170,19 +170,19 @@ fn step(w: Walk, kind: usize) -> Stepped {
     walk::next_lyndon(w)
 }
 
-fn moves(o: Outcome) -> usize {
-    match o {
-        Outcome::Moved(m) => m,
-        Outcome::Done(m) => m,
-        Outcome::Refused(_) => 255,
+fn moves(outcome: Result<Outcome, Refusal>) -> usize {
+    match outcome {
+        Ok(Outcome::Moved(m)) => m,
+        Ok(Outcome::Done(m)) => m,
+        Err(_) => 255,
     }
 }
 
-fn arrival(a: Arrival) -> usize {
+fn arrival(a: Result<Arrival, Refusal>) -> usize {
     match a {
-        Arrival::Moved => 1,
-        Arrival::Done => 0,
-        Arrival::Refused(_) => 255,
+        Ok(Arrival::Moved) => 1,
+        Ok(Arrival::Done) => 0,
+        Err(_) => 255,
     }
 }
 
@@ -221,15 +221,14 @@ RATTLE
 # The calls on sets that are measured, the same way; a sighting answers the target, 253 where there are several, 254 where there is none.
 chosen_source() {
     cat <<'RATTLE'
-use refusal::Checked;
 use sets::Picked;
 use sight::Sighting;
 
 fn taken(p: Picked) -> usize {
     let answer = p.answer;
     match answer {
-        Checked::Good => p.taken,
-        Checked::Refused(_) => 255,
+        Ok(()) => p.taken,
+        Err(_) => 255,
     }
 }
 
@@ -244,11 +243,11 @@ pub extern "C" fn pick(guarded: usize, n: usize, k: usize, d: usize, wanted: usi
 #[unsafe(no_mangle)]
 pub extern "C" fn sight(rings: &[u8], reading: &[u8], k: usize, most: usize) -> usize {
     match sight::sight(rings, reading, k, most) {
-        Sighting::Front { target, .. } => target,
-        Sighting::Back { target, .. } => target,
-        Sighting::Several => 253,
-        Sighting::Unknown => 254,
-        Sighting::Refused(_) => 255,
+        Ok(Sighting::Front { target, .. }) => target,
+        Ok(Sighting::Back { target, .. }) => target,
+        Ok(Sighting::Several) => 253,
+        Ok(Sighting::Unknown) => 254,
+        Err(_) => 255,
     }
 }
 RATTLE
@@ -268,7 +267,7 @@ build_measured() (
 # build_calls [TOOLCHAIN]: room/calls.a, the library of those calls for C.
 build_calls() {
     say "what is not proved yet is proved first, which may take minutes"
-    calls_source | build_measured calls "${1:-$kit/toolchain}" home walk shades
+    calls_source | build_measured calls "${1:-$kit/toolchain}" refusal home walk shades
 }
 
 # ---- the stack

@@ -3,7 +3,7 @@
 --     BraceletLifted k w r v          the first r sectors of v lead to the next bracelet after w; where r is 0 there is none
 --     Led k c m, Completed k c m v     the first m sectors of c lead to the next bracelet after some reading; it is v, whatever reading that is
 --     NextBraceletSays k w r v        the answer r: v is the next bracelet after w, or there is none
-use Rattle.std.specs.Prelude.{ℕ, ◌-◌, ◌<◌, ◌≡◌, Bool, true, false, List, length}
+use Rattle.std.specs.Prelude.{ℕ, ◌<◌, ◌≡◌, Bool, true, false, List, length}
 use Rattle.std.proofs.Math.Option.{none, some}
 use Rattle.words.specs.Readings.{Reading}
 use Rattle.rings.specs.Steps.{next_of}

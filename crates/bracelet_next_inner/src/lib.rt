@@ -33,10 +33,7 @@ fn lift(s: &mut [u8], k: usize) -> usize
 fn asked(s: &[u8], i: usize, p: usize) -> u8
     requires { i ≤ length s.now }
 {
-    if p < 1 {
-        return 0;
-    }
-    if i < p {
+    if p < 1 || i < p {
         return 0;
     }
     s[i - p]
@@ -49,16 +46,13 @@ fn complete(s: &mut [u8], m: usize, k: usize)
     ensures { Completed k s.old m s.new }
 {
     let top = (k - 1) as u8;
-    let mut i = m;
     let mut p = m;
-    while i < s.len() {
+    for i in m..s.len() {
         let near = asked(s, i, p);
         bracelet_settle_inner::settle(s, i, 0, near, top);
-        let next = i + 1;
         if near < s[i] {
-            p = next;
+            p = i + 1;
         }
-        i = next;
     }
 }
 

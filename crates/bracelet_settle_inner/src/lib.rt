@@ -2,7 +2,7 @@
 
 #![tactic(auto)]
 
-ghost use Rattle.std.specs.Prelude.{◌≡◌, ◌-◌, ◌<◌};
+ghost use Rattle.std.specs.Prelude.{◌<◌};
 ghost use Rattle.bracelet_settle_inner.specs.Shades.{Between, Settles, ShadeSettled};
 
 // A shade to try, of those from low up to but not including high: the one nearest to `near`; with the last of the tries the highest of them; and then the middle one.
@@ -25,15 +25,6 @@ fn between(low: u8, high: u8, near: u8, tries: u8) -> u8
     near
 }
 
-fn one_less(x: u8) -> u8
-    ensures { result ≡ x - 1 }
-{
-    if x < 1 {
-        return 0;
-    }
-    x - 1
-}
-
 // Puts at place m the least shade from `least` on that makes the reading a bracelet, where `top` makes it one and so does each shade above one that does. `near`
 // and the shade beside it are tried first, then whether it is the highest, and only then it is searched for by halves: two or three tests nearly everywhere, and at
 // most seven for 16 shades.
@@ -46,7 +37,7 @@ pub fn settle(s: &mut [u8], m: usize, least: u8, near: u8, top: u8)
     let mut tries = 3;
     while low < high {
         let shade = between(low, high, near, tries);
-        tries = one_less(tries);
+        tries = tries.saturating_sub(1);
         s[m] = shade;
         if bracelet_test_inner::is_bracelet(s) {
             high = shade;

@@ -7,43 +7,34 @@ ghost use Rattle.refusal.specs.Order.{CheckSays};
 ghost use Rattle.refusal.specs.Calls.{numbers};
 ghost use Rattle.check_numbers_inner.specs.Scan.{NoneAbove, Scanned};
 
-use refusal::{Checked, Refusal};
+use refusal::Refusal;
 use rings::{FEWEST_SHADES, MOST_SECTORS, MOST_SHADES};
 
 // The numbers that every call has: 1, 10, 2. A call with one reading gives its length for the second as well.
-pub fn check_numbers(n: usize, second: usize, k: usize) -> Checked
+pub fn check_numbers(n: usize, second: usize, k: usize) -> Result<(), Refusal>
     ensures { CheckSays (numbers n second k) result }
 {
-    if n < 1 {
-        return Checked::Refused(Refusal::Length(0));
-    }
-    if MOST_SECTORS < n {
-        return Checked::Refused(Refusal::Length(0));
+    if n < 1 || MOST_SECTORS < n {
+        return Err(Refusal::Length(0));
     }
     if second != n {
-        return Checked::Refused(Refusal::Pair);
+        return Err(Refusal::Pair);
     }
-    if k < FEWEST_SHADES {
-        return Checked::Refused(Refusal::Shades(0)); // too few
+    if k < FEWEST_SHADES || MOST_SHADES < k {
+        return Err(Refusal::Shades(0));
     }
-    if MOST_SHADES < k {
-        return Checked::Refused(Refusal::Shades(0)); // too many
-    }
-    Checked::Good
+    Ok(())
 }
 
 // A sector that no sector is above. There is no early way out, so that many sectors are looked at at once.
 fn greatest(s: &[u8]) -> u8
     ensures { NoneAbove s.now result }
 {
-    let mut top: u8 = 0;
-    let mut i = 0;
-    while i < s.len() {
-        let here = s[i];
+    let mut top = 0;
+    for &here in s {
         if top < here {
             top = here;
         }
-        i += 1;
     }
     top
 }
@@ -52,15 +43,13 @@ fn greatest(s: &[u8]) -> u8
 pub fn first_bad(s: &[u8], limit: usize) -> usize
     ensures { Scanned s.now limit result }
 {
-    if (greatest(s) as usize) < limit {
+    if usize::from(greatest(s)) < limit {
         return s.len();
     }
-    let mut i = 0;
-    while i < s.len() {
-        if (s[i] as usize) >= limit {
+    for (i, &here) in s.iter().enumerate() {
+        if usize::from(here) >= limit {
             return i;
         }
-        i += 1;
     }
-    i
+    s.len()
 }

@@ -2,7 +2,7 @@
 --     reading-bad, reading-good        one reading
 --     former-bad, former-good          the first of two readings
 --     latter-bad, latter-good          the second of two readings
-use Rattle.words.proofs.Plain.{ℕ, ◌+◌, ◌<◌, ◌≤◌, arith, ◌≡◌, refl, sym, ◌∙◌, List, ◌++◌, length, get_or, length-append, List·get_d-append, get_or-append-add}
+use Rattle.words.proofs.Plain.{ℕ, ◌+◌, ◌<◌, ◌≤◌, arith, refl, sym, ◌∙◌, List, ◌++◌, length, length-append, List·get_d-append, get_or-append-add}
 use Rattle.words.proofs.Sequence.{sec, place}
 use Rattle.refusal.specs.Calls.{Below, ask_reading, ask_two}
 use Rattle.check_numbers_inner.specs.Scan.{Scanned}

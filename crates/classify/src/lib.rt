@@ -4,16 +4,13 @@
 
 ghost use Rattle.classify_spec.specs.Says.{ClassifySays};
 
-pub use classify_spec::Classified;
-use refusal::{Checked, Refusal};
+use refusal::Refusal;
 use rings::Class;
 
 // The class of a reading, or refusal 1, 2 or 3.
-pub fn classify(s: &[u8], k: usize) -> Classified
+pub fn classify(s: &[u8], k: usize) -> Result<Class, Refusal>
     ensures { ClassifySays s.now k result }
 {
-    match check_readings_inner::check_reading(s, k) {
-        Checked::Refused(r) => Classified::Refused(r),
-        Checked::Good => Classified::Is(classify_inner::class_of(s)),
-    }
+    check_readings_inner::check_reading(s, k)?;
+    Ok(classify_inner::class_of(s))
 }

@@ -23,9 +23,8 @@ pub fn scan(s: &[u8]) -> Begun
     ensures { LongestPrenecklace s.now result }
 {
     let n = s.len();
-    let mut j: usize = 0;
-    let mut i: usize = 1;
-    while i < n {
+    let mut j = 0;
+    for i in 1..n {
         let here = s[i];
         let opposite = s[j];
         if here < opposite {
@@ -36,7 +35,6 @@ pub fn scan(s: &[u8]) -> Begun
         } else {
             j = 0;
         }
-        i += 1;
     }
     Begun { end: n, lyn: n - j }
 }
@@ -91,34 +89,19 @@ pub fn value(c: Class) -> usize
 pub fn is_loose(c: Class) -> bool
     ensures { result ≡ is_loose c }
 {
-    match c {
-        Class::Loose(_) => true,
-        Class::Opening(_) => false,
-        Class::Repeating(_) => false,
-        Class::Single => false,
-    }
+    matches!(c, Class::Loose(_))
 }
 
 // Whether a reading of this class is a necklace.
 pub fn is_necklace(c: Class) -> bool
     ensures { result ≡ is_necklace c }
 {
-    match c {
-        Class::Loose(_) => false,
-        Class::Opening(_) => false, // a prenecklace alone
-        Class::Repeating(_) => true,
-        Class::Single => true,
-    }
+    matches!(c, Class::Repeating(_) | Class::Single)
 }
 
 // The place that Loose carries; the other classes give 0.
 pub fn loose_place(c: Class) -> usize
     ensures { result ≡ loose_place c }
 {
-    match c {
-        Class::Loose(p) => p,
-        Class::Opening(_) => 0,
-        Class::Repeating(_) => 0,
-        Class::Single => 0,
-    }
+    if let Class::Loose(p) = c { p } else { 0 }
 }

@@ -3,16 +3,16 @@
 --     sound-joined, damage-joined      behind good records, what b is tells of the whole
 --     turned-joined                    the new catalogues stand behind one another too
 --     damage-lasts                     a refusal other than Cut stays, whatever follows
-use Rattle.words.proofs.Plain.{ℕ, ◌+◌, ◌<◌, ◌≤◌, arith, ◌≡◌, refl, sym, ap, ◌∙◌, subst, inl, inr, List, [], ◌++◌, append_assoc, length, get_or, take, drop}
+use Rattle.words.proofs.Plain.{ℕ, ◌+◌, ◌<◌, ◌≤◌, arith, ◌≡◌, refl, sym, ap, ◌∙◌, inl, inr, List, ◌++◌, length, get_or, drop}
 use Rattle.words.proofs.Plain.{length-append, length-drop, List·get_d-append, take-append-le, drop-append-le}
-use Rattle.refusal.specs.{declared.Refusal.Refusal, declared.Refusal.TheVariants.Cut, Order.Given}
+use Rattle.refusal.specs.{declared.Refusal.Refusal, Order.Given}
 use Rattle.record_spec.specs.{declared.Kind.TheVariants.Front, Order.After9, Order.behind_order}
-use Rattle.record_spec.specs.Layout.{n_of, k_of, sectors_of, body_of}
+use Rattle.record_spec.specs.Layout.{n_of, k_of, sectors_of}
 use Rattle.converter_spec.specs.Sides.{Side, SideMarked, front_ring}
 use Rattle.converter_spec.specs.{Reads.old_order, Converts.Sound.ended, Converts.Sound.more}
 use Rattle.converter_spec.specs.Converts.{Sound, Turned, Damaged, FrontOf}
 use Rattle.converter_spec.specs.{Converts.Turned.done, Converts.Turned.replaced, Converts.Damaged.here, Converts.Damaged.later}
-use Rattle.converter_spec.proofs.Fronts.{front_long, front_bytes, bytes-front}
+use Rattle.converter_spec.proofs.Fronts.{front_long}
 use Rattle.converter_blocks_spec.specs.Blocks.{Lasting}
 
 module _ (a b : List ℕ) (l : 4 ≤ length a) where

@@ -5,7 +5,7 @@
 --     Torn a s q                   the records of a, which begins at s, are good up to q, and there stands the beginning of one more
 --     damage-torn                  Cut at q is that
 --     begun-short                  the beginning of a record has less than 68 bytes
-use Rattle.words.proofs.Plain.{ℕ, ◌+◌, ◌-◌, ◌<◌, ◌≤◌, arith, ◌≡◌, refl, sym, ap, ◌∙◌, inl, inr, List, [], ◌++◌, length, get_or, take, drop, length-drop}
+use Rattle.words.proofs.Plain.{ℕ, ◌+◌, ◌-◌, ◌<◌, ◌≤◌, arith, ◌≡◌, refl, sym, ap, ◌∙◌, inl, inr, List, length, get_or, take, drop, length-drop}
 use Rattle.words.proofs.Plain.{length-take, get_or-take, take-take, drop-drop}
 use Rattle.words.proofs.Split.{lt, eq, gt, tri}
 use Rattle.refusal.specs.{declared.Refusal.Refusal, Numbers.number_of, Numbers.place_of, Order.Given}

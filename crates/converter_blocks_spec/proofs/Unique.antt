@@ -5,13 +5,12 @@
 use Rattle.words.proofs.Plain.{ℕ, ◌+◌, ◌<◌, ◌≤◌, arith, dec_lt, ◌≡◌, refl, sym, ap, ◌∙◌, Bool, true, false, true≢false, List, [], ◌++◌, append-nil, length, take}
 use Rattle.words.proofs.Plain.{drop, length-drop, length-take, take-append-drop, drop_of_length-le}
 use Rattle.refusal.specs.{declared.Refusal.Refusal, declared.Refusal.TheVariants.Cut, Numbers.place_of, Order.Given}
-use Rattle.converter_spec.specs.{Reads.old_order, Converts.Sound.ended, Converts.Sound.more}
+use Rattle.converter_spec.specs.{Reads.old_order}
 use Rattle.converter_spec.specs.Converts.{Sound, Turned, Damaged}
-use Rattle.converter_spec.specs.Converts.Damaged.{here, later}
+use Rattle.converter_spec.specs.Converts.Damaged.{here}
 use Rattle.converter_spec.proofs.Unique.{one-turned, one-damage, sound-damaged}
-use Rattle.converter_blocks_spec.specs.declared.Stretch.{Stretch}
-use Rattle.converter_blocks_spec.specs.declared.Stretch.TheVariants.{Records, Refused}
-use Rattle.converter_blocks_spec.specs.Blocks.{Lasting, Unfinished, nothing, begun, LeftOver, Stays, StretchSays, Unturned, TurnSays}
+use Rattle.std.specs.Prelude.{Result, Ok, Err}
+use Rattle.converter_blocks_spec.specs.Blocks.{nothing, begun, Stays, StretchSays, Unturned, TurnSays}
 use Rattle.converter_blocks_spec.specs.Blocks.Unturned.{room, damaged}
 use Rattle.converter_blocks_spec.proofs.{Joined.damage-joined, Places.broken-moved}
 
@@ -31,38 +30,38 @@ all-long : (b : List ℕ) (m : ℕ) → m ≤ length b → drop m b ≡ [] → m
 all-long b m l e = let z : length (drop m b) ≡ 0 = rw e in omega (arith, z, length-drop m b)
 
 -- an answer, by what the whole block is
-data Told (b : List ℕ) (last : Bool) (v : Stretch) : Type 0 where
-  whole : v ≡ Records (length b) → Sound b → Told b last v
-  torn : (m : ℕ) → v ≡ Records m → last ≡ false → Damaged b 0 (Cut m) → Told b last v
-  bad : (r : Refusal) → v ≡ Refused r → Stays last r → Damaged b 0 r → Told b last v
+data Told (b : List ℕ) (last : Bool) (v : Result ℕ Refusal) : Type 0 where
+  whole : v ≡ Ok (length b) → Sound b → Told b last v
+  torn : (m : ℕ) → v ≡ Ok m → last ≡ false → Damaged b 0 (Cut m) → Told b last v
+  bad : (r : Refusal) → v ≡ Err r → Stays last r → Damaged b 0 r → Told b last v
 
-told : (b : List ℕ) (last : Bool) (v : Stretch) → StretchSays b last v → Told b last v
-told b true (Records m) (l, s, e) = let f = all b m e in whole (ap Records (all-long b m l e)) (rw f at s)
-told b false (Records m) (l, s, nothing e) = let f = all b m e in whole (ap Records (all-long b m l e)) (rw f at s)
-told b false (Records m) (l, s, begun h) =
+told : (b : List ℕ) (last : Bool) (v : Result ℕ Refusal) → StretchSays b last v → Told b last v
+told b true (Ok m) (l, s, e) = let f = all b m e in whole (ap Ok (all-long b m l e)) (rw f at s)
+told b false (Ok m) (l, s, nothing e) = let f = all b m e in whole (ap Ok (all-long b m l e)) (rw f at s)
+told b false (Ok m) (l, s, begun h) =
     elim (dec_lt 0 (length (drop m b))) [
       | yes z ↦ torn m refl refl (torn-damage b m l s z h)
-      | no z ↦ (let e : drop m b ≡ [] = drop_of_length-le b {i = m} (omega (arith, length-drop m b, z)) in let f = all b m e in whole (ap Records (all-long b m l e)) (rw f at s))
+      | no z ↦ (let e : drop m b ≡ [] = drop_of_length-le b {i = m} (omega (arith, length-drop m b, z)) in let f = all b m e in whole (ap Ok (all-long b m l e)) (rw f at s))
     ]
-told b last (Refused r) (d, k) = bad r refl k d
+told b last (Err r) (d, k) = bad r refl k d
 
 -- a refusal that stays is no Cut
 stays-cut : (last : Bool) (r : Refusal) (m : ℕ) → last ≡ false → Stays last r → r ≡ Cut m → ⊥
 stays-cut true r m e k f = absurd (true≢false e)
 stays-cut false r m e k f = k m f
 
-one_told : (b : List ℕ) (last : Bool) (v w : Stretch) → Told b last v → Told b last w → v ≡ w
+one_told : (b : List ℕ) (last : Bool) (v w : Result ℕ Refusal) → Told b last v → Told b last w → v ≡ w
 one_told b last v w (whole e s) (whole f t) = e ∙ sym f
 one_told b last v w (whole e s) (torn m f g d) = absurd (sound-damaged b 0 (Cut m) s d)
 one_told b last v w (whole e s) (bad r f k d) = absurd (sound-damaged b 0 r s d)
 one_told b last v w (torn m e f c) (whole g s) = absurd (sound-damaged b 0 (Cut m) s c)
-one_told b last v w (torn m e f c) (torn n g h d) = e ∙ ap Records (ap place_of (one-damage b 0 (Cut m) (Cut n) c d)) ∙ sym g
+one_told b last v w (torn m e f c) (torn n g h d) = e ∙ ap Ok (ap place_of (one-damage b 0 (Cut m) (Cut n) c d)) ∙ sym g
 one_told b last v w (torn m e f c) (bad r g k d) = absurd (stays-cut last r m f k (one-damage b 0 r (Cut m) d c))
 one_told b last v w (bad q e j c) (whole f s) = absurd (sound-damaged b 0 q s c)
 one_told b last v w (bad q e j c) (torn m f g d) = absurd (stays-cut last q m g j (one-damage b 0 q (Cut m) c d))
-one_told b last v w (bad q e j c) (bad r f k d) = e ∙ ap Refused (one-damage b 0 q r c d) ∙ sym f
+one_told b last v w (bad q e j c) (bad r f k d) = e ∙ ap Err (one-damage b 0 q r c d) ∙ sym f
 
-pub one-stretch : (b : List ℕ) (last : Bool) (v w : Stretch) → StretchSays b last v → StretchSays b last w → v ≡ w
+pub one-stretch : (b : List ℕ) (last : Bool) (v w : Result ℕ Refusal) → StretchSays b last v → StretchSays b last w → v ≡ w
 one-stretch b last v w g h = one_told b last v w (told b last v g) (told b last w h)
 
 -- ---- converting
@@ -71,33 +70,33 @@ one-stretch b last v w g h = one_told b last v w (told b last v g) (told b last 
 joined : (m : ℕ) (d f : List ℕ) → take m d ≡ take m f → drop m d ≡ drop m f → d ≡ f
 joined m d f e g = sym (take-append-drop m d) ∙ ap (λ (t : List ℕ). t ++ drop m d) e ∙ ap (λ (t : List ℕ). take m f ++ t) g ∙ take-append-drop m f
 
-one-unturned : (b : List ℕ) (last : Bool) (m : ℕ) (r q : Refusal) → Unturned b last m r → Unturned b last m q → Refused r ≡ Refused q
-one-unturned b last m r q (room e f) (room g h) = ap Refused (e ∙ sym g)
+one-unturned : (b : List ℕ) (last : Bool) (m : ℕ) (r q : Refusal) → Unturned b last m r → Unturned b last m q → r ≡ q
+one-unturned b last m r q (room e f) (room g h) = e ∙ sym g
 one-unturned b last m r q (room e f) (damaged g h) = absurd (f g)
 one-unturned b last m r q (damaged e f) (room g h) = absurd (h e)
-one-unturned b last m r q (damaged e f) (damaged g h) = one-stretch b last (Refused r) (Refused q) f h
+one-unturned b last m r q (damaged e f) (damaged g h) = one-damage b 0 r q f.0 h.0
 
 -- records are not refused
-clash : (b : List ℕ) (last : Bool) (n m : ℕ) (r : Refusal) → n ≡ length b → StretchSays b last (Records m) → Unturned b last n r → ⊥
+clash : (b : List ℕ) (last : Bool) (n m : ℕ) (r : Refusal) → n ≡ length b → StretchSays b last (Ok m) → Unturned b last n r → ⊥
 clash b last n m r l s (room e f) = f l
-clash b last n m r l s (damaged e f) = let z : ◌≡◌ {A = ℕ} 0 1 = ap which (one-stretch b last (Records m) (Refused r) s f) in omega arith
+clash b last n m r l s (damaged e f) = let z : ◌≡◌ {A = ℕ} 0 1 = ap which (one-stretch b last (Ok m) (Err r) s f) in omega arith
   where
-    which : Stretch → ℕ
-    which (Records i) = 0
-    which (Refused i) = 1
+    which : Result ℕ Refusal → ℕ
+    which (Ok i) = 0
+    which (Err i) = 1
 
 -- one answer, and one output after it
-pub one-turn : (b : List ℕ) (last : Bool) (o : List ℕ) (v w : Stretch) (d f : List ℕ) → TurnSays b last o v d → TurnSays b last o w f → (v ≡ w) × (d ≡ f)
-one-turn b last o (Records m) (Records n) d f (l, s, t, e) (k, r, u, g) =
-    let q = one-stretch b last (Records m) (Records n) s r in
+pub one-turn : (b : List ℕ) (last : Bool) (o : List ℕ) (v w : Result ℕ Refusal) (d f : List ℕ) → TurnSays b last o v d → TurnSays b last o w f → (v ≡ w) × (d ≡ f)
+one-turn b last o (Ok m) (Ok n) d f (l, s, t, e) (k, r, u, g) =
+    let q = one-stretch b last (Ok m) (Ok n) s r in
     let i : n ≡ m = ap bytes_of (sym q) in
     let u' : Turned (take m b) (take m f) = rw i at u in
     let g' : drop m f ≡ drop m o = rw i at g in
     (q, joined m d f (one-turned (take m b) (take m d) (take m f) t u') (e ∙ sym g'))
   where
-    bytes_of : Stretch → ℕ
-    bytes_of (Records i) = i
-    bytes_of (Refused i) = 0
-one-turn b last o (Records m) (Refused r) d f (l, s, t, e) (x, y) = absurd (clash b last (length o) m r l s x)
-one-turn b last o (Refused r) (Records m) d f (x, y) (l, s, t, e) = absurd (clash b last (length o) m r l s x)
-one-turn b last o (Refused r) (Refused q) d f (x, y) (z, w) = (one-unturned b last (length o) r q x z, y ∙ sym w)
+    bytes_of : Result ℕ Refusal → ℕ
+    bytes_of (Ok i) = i
+    bytes_of (Err i) = 0
+one-turn b last o (Ok m) (Err r) d f (l, s, t, e) (x, y) = absurd (clash b last (length o) m r l s x)
+one-turn b last o (Err r) (Ok m) d f (x, y) (l, s, t, e) = absurd (clash b last (length o) m r l s x)
+one-turn b last o (Err r) (Err q) d f (x, y) (z, w) = (ap Err (one-unturned b last (length o) r q x z), y ∙ sym w)

@@ -7,14 +7,12 @@
 --     Unturned b last m r   it is refused with r, where the output has m bytes: 4, and then the block's own refusal
 --     TurnSays b last o v d the answer v: the whole records are converted, at the beginning of the output, and the others of its bytes are as they were
 -- That no two answers satisfy it: proofs/Unique.
-use Rattle.std.specs.Prelude.{ℕ, ◌≤◌, ◌≡◌, Bool, true, false, List, [], length, take, drop}
+use Rattle.std.specs.Prelude.{ℕ, ◌≤◌, ◌≡◌, Bool, true, false, List, [], length, take, drop, Result, Ok, Err}
 use Rattle.refusal.specs.declared.Refusal.{Refusal}
 use Rattle.refusal.specs.declared.Refusal.TheVariants.{Room, Cut}
 use Rattle.refusal.specs.Order.{Given}
 use Rattle.converter_spec.specs.Reads.{old_order}
 use Rattle.converter_spec.specs.Converts.{Sound, Turned, Damaged}
-use Rattle.converter_blocks_spec.specs.declared.Stretch.{Stretch}
-use Rattle.converter_blocks_spec.specs.declared.Stretch.TheVariants.{Records, Refused}
 
 abbrev pub Lasting : Refusal → Type 0
 Lasting r = (p : ℕ) → r ≡ Cut p → ⊥
@@ -32,17 +30,17 @@ abbrev pub Stays : Bool → Refusal → Type 0
 Stays true r = Unit
 Stays false r = Lasting r
 
-abbrev pub StretchSays : List ℕ → Bool → Stretch → Type 0
-StretchSays b last (Records m) = (m ≤ length b) × Sound (take m b) × LeftOver last (drop m b)
-StretchSays b last (Refused r) = Damaged b 0 r × Stays last r
+abbrev pub StretchSays : List ℕ → Bool → Result ℕ Refusal → Type 0
+StretchSays b last (Ok m) = (m ≤ length b) × Sound (take m b) × LeftOver last (drop m b)
+StretchSays b last (Err r) = Damaged b 0 r × Stays last r
 
 -- ---- converting
 
 pub data Unturned (b : List ℕ) (last : Bool) (m : ℕ) (r : Refusal) : Type 0 where
   room : r ≡ Room → (m ≡ length b → ⊥) → Unturned b last m r
-  damaged : m ≡ length b → StretchSays b last (Refused r) → Unturned b last m r
+  damaged : m ≡ length b → StretchSays b last (Err r) → Unturned b last m r
 
 -- a refusal writes nothing
-abbrev pub TurnSays : List ℕ → Bool → List ℕ → Stretch → List ℕ → Type 0
-TurnSays b last o (Records m) d = (length o ≡ length b) × StretchSays b last (Records m) × Turned (take m b) (take m d) × (drop m d ≡ drop m o)
-TurnSays b last o (Refused r) d = Unturned b last (length o) r × (d ≡ o)
+abbrev pub TurnSays : List ℕ → Bool → List ℕ → Result ℕ Refusal → List ℕ → Type 0
+TurnSays b last o (Ok m) d = (length o ≡ length b) × StretchSays b last (Ok m) × Turned (take m b) (take m d) × (drop m d ≡ drop m o)
+TurnSays b last o (Err r) d = Unturned b last (length o) r × (d ≡ o)

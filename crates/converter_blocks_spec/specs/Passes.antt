@@ -4,12 +4,9 @@
 --     ChecksBlocks c p v  the first pass, from p on: v is its verdict
 --     Writes c p u        the second pass, from p on: u is what it writes
 -- That the first tells what converting the whole answers, and the second writes what it writes, however c is cut: proofs/Through.
-use Rattle.std.specs.Prelude.{ℕ, ◌+◌, ◌≤◌, ◌≡◌, Bool, true, false, List, [], ◌++◌, length, take, drop}
+use Rattle.std.specs.Prelude.{ℕ, ◌+◌, ◌≤◌, Bool, true, false, List, ◌++◌, length, take, drop, Result, Ok, Err}
 use Rattle.refusal.specs.declared.Refusal.{Refusal}
 use Rattle.refusal.specs.declared.Refusal.TheVariants as R
-use Rattle.refusal.specs.declared.Checked.{Checked}
-use Rattle.refusal.specs.declared.Checked.TheVariants as C
-use Rattle.converter_blocks_spec.specs.declared.Stretch.TheVariants.{Records, Refused}
 use Rattle.converter_blocks_spec.specs.Blocks.{StretchSays, TurnSays}
 
 abbrev pub moved : ℕ → Refusal → Refusal
@@ -39,12 +36,12 @@ abbrev pub Reaches : List ℕ → ℕ → ℕ → Bool → Type 0
 Reaches c p m true = length c ≤ p + m
 Reaches c p m false = Unit
 
-pub data ChecksBlocks (c : List ℕ) : ℕ → Checked → Type 0 where
-  further : {p : ℕ} {v : Checked} (m e : ℕ) → StretchSays (block_of c p m) false (Records e) → ChecksBlocks c (p + e) v → ChecksBlocks c p v
-  good : {p : ℕ} (m e : ℕ) → Reaches c p m true → StretchSays (block_of c p m) true (Records e) → ChecksBlocks c p C.Good
-  bad : {p : ℕ} (m : ℕ) (last : Bool) (r : Refusal) → Reaches c p m last → StretchSays (block_of c p m) last (Refused r) → ChecksBlocks c p (C.Refused (moved p r))
+pub data ChecksBlocks (c : List ℕ) : ℕ → Result Unit Refusal → Type 0 where
+  further : {p : ℕ} {v : Result Unit Refusal} (m e : ℕ) → StretchSays (block_of c p m) false (Ok e) → ChecksBlocks c (p + e) v → ChecksBlocks c p v
+  good : {p : ℕ} (m e : ℕ) → Reaches c p m true → StretchSays (block_of c p m) true (Ok e) → ChecksBlocks c p (Ok tt)
+  bad : {p : ℕ} (m : ℕ) (last : Bool) (r : Refusal) → Reaches c p m last → StretchSays (block_of c p m) last (Err r) → ChecksBlocks c p (Err (moved p r))
 
 -- what stands of each block's whole records in its output
 pub data Writes (c : List ℕ) : ℕ → List ℕ → Type 0 where
-  part : {p : ℕ} {u : List ℕ} (m e : ℕ) (o d : List ℕ) → TurnSays (block_of c p m) false o (Records e) d → Writes c (p + e) u → Writes c p (take e d ++ u)
-  rest : {p : ℕ} (m e : ℕ) (o d : List ℕ) → Reaches c p m true → TurnSays (block_of c p m) true o (Records e) d → Writes c p (take e d)
+  part : {p : ℕ} {u : List ℕ} (m e : ℕ) (o d : List ℕ) → TurnSays (block_of c p m) false o (Ok e) d → Writes c (p + e) u → Writes c p (take e d ++ u)
+  rest : {p : ℕ} (m e : ℕ) (o d : List ℕ) → Reaches c p m true → TurnSays (block_of c p m) true o (Ok e) d → Writes c p (take e d)

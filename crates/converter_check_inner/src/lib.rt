@@ -7,24 +7,21 @@ ghost use Rattle.record_body_inner.specs.Steps.{Held};
 ghost use Rattle.converter_check_inner.specs.Old.{OldSays};
 
 use record_spec::{FRONT_MARK, HEAD, Kind, MARK, RETIRED_MARK};
-use refusal::{Checked, Refusal};
+use refusal::Refusal;
 
 // The record that `rest` begins with, at `start` of the catalogue.
-pub fn check_old(rest: &[u8], start: usize) -> Checked
+pub fn check_old(rest: &[u8], start: usize) -> Result<(), Refusal>
     requires { Held (start + length rest.now) }
     ensures { OldSays rest.now start result }
 {
     if rest.len() < HEAD {
-        return Checked::Refused(Refusal::Cut(start));
+        return Err(Refusal::Cut(start));
     }
     if rest[0] != MARK {
-        return Checked::Refused(Refusal::Mark(start));
+        return Err(Refusal::Mark(start));
     }
-    if rest[1] == FRONT_MARK {
-        return record_behind_inner::check_behind(Kind::Front, rest, start);
+    match rest[1] {
+        FRONT_MARK | RETIRED_MARK => record_behind_inner::check_behind(Kind::Front, rest, start),
+        _ => Err(Refusal::Mark(start)),
     }
-    if rest[1] == RETIRED_MARK {
-        return record_behind_inner::check_behind(Kind::Front, rest, start);
-    }
-    Checked::Refused(Refusal::Mark(start))
 }

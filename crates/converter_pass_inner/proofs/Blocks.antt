@@ -4,10 +4,10 @@
 --     write-within, write-gone                    the second time
 --     turn-check, turn-write                      by which time it is
 --     at_read                                     by what was read
-use Rattle.words.proofs.Plain.{ℕ, ◌+◌, ◌<◌, ◌≤◌, arith, ◌≡◌, refl, sym, ap, ◌∙◌, Bool, true, false, List, [], ◌++◌, length, take, drop, length-drop}
+use Rattle.words.proofs.Plain.{ℕ, ◌+◌, ◌<◌, ◌≤◌, arith, ◌≡◌, refl, ◌∙◌, Bool, true, false, List, [], ◌++◌, length, take, drop, length-drop}
 use Rattle.words.proofs.Plain.{take-append-le, take_all}
 use Rattle.refusal.specs.{declared.Refusal.Refusal, Numbers.number_of, Numbers.place_of}
-use Rattle.converter_blocks_spec.specs.declared.Stretch.TheVariants as S
+use Rattle.std.specs.Prelude.{Ok, Err}
 use Rattle.converter_blocks_spec.specs.Blocks as O
 use Rattle.converter_blocks_spec.proofs.{Unique.all, Places.damage-placed}
 use Rattle.program_ending_inner.specs.declared.Ending.TheVariants as E
@@ -15,7 +15,7 @@ use Rattle.program_passes_inner.specs.Passes.{ReadTo, Course, gone_by}
 use Rattle.program_passes_inner.specs.Passes.Course.{On, Done, Stopped}
 use Rattle.converter_pass_inner.specs.{Says.BlockBecomes, Says.AtSays, Says.AtSays.read}
 
-pub place-room : (b : List ℕ) (last : Bool) (r : Refusal) → O.StretchSays b last (S.Refused r) → place_of r < length b
+pub place-room : (b : List ℕ) (last : Bool) (r : Refusal) → O.StretchSays b last (Err r) → place_of r < length b
 place-room b last r h = omega (arith, (damage-placed b 0 r h.0).0)
 
 -- all of the last block
@@ -24,21 +24,21 @@ last-length b m l e = let z : length (drop m b) ≡ 0 = rw e in omega (arith, z,
 
 -- ---- the first time
 
-pub check-gone : (p : ℕ) (b d : List ℕ) (m : ℕ) (last : Bool) → O.StretchSays b last (S.Records m) → BlockBecomes false p b last d (gone_by last m)
+pub check-gone : (p : ℕ) (b d : List ℕ) (m : ℕ) (last : Bool) → O.StretchSays b last (Ok m) → BlockBecomes false p b last d (gone_by last m)
 check-gone p b d m true h = let f = all b m h.2 in (refl, last-length b m h.0 h.2, rw f at h.1, tt)
 check-gone p b d m false h = (refl, h, tt)
 
-pub check-refused : (p : ℕ) (b d : List ℕ) (last : Bool) (r : Refusal) (x q : ℕ) → O.StretchSays b last (S.Refused r) → x ≡ number_of r → q ≡ place_of r →
+pub check-refused : (p : ℕ) (b d : List ℕ) (last : Bool) (r : Refusal) (x q : ℕ) → O.StretchSays b last (Err r) → x ≡ number_of r → q ≡ place_of r →
     BlockBecomes false p b last d (Stopped (E.Refused x (p + q)))
 check-refused p b d last r x q h e f = (r, h, rw (e, f) refl)
 
 -- ---- the second time
 
 module _ (p : ℕ) (b o d : List ℕ) (m : ℕ) where
-  pub write-within : (last : Bool) → O.TurnSays b last o (S.Records m) d → m ≤ length o
+  pub write-within : (last : Bool) → O.TurnSays b last o (Ok m) d → m ≤ length o
   write-within last h = omega (arith, h.0, h.1.0)
 
-  pub write-gone : (last : Bool) → O.TurnSays b last o (S.Records m) d → BlockBecomes true p b last d (gone_by last m)
+  pub write-gone : (last : Bool) → O.TurnSays b last o (Ok m) d → BlockBecomes true p b last d (gone_by last m)
   write-gone true h = let f = all b m h.1.2 in (refl, last-length b m h.1.0 h.1.2, rw f at h.1.1, rw f at h.2)
   write-gone false h = (refl, h.1, h.2)
 

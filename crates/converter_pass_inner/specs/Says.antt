@@ -5,11 +5,10 @@
 --     Why w p b last t             why a block is as far as it goes
 --     BlockBecomes w p b last d v  the block b, which begins at the place p of the catalogue, was gone through: v is what becomes of it
 --     AtSays w p b d v             the same of what was read to the block b
-use Rattle.std.specs.Prelude.{ℕ, ◌+◌, ◌<◌, ◌≤◌, ◌≡◌, ◌⊎◌, Bool, true, false, List, length, take}
+use Rattle.std.specs.Prelude.{ℕ, ◌+◌, ◌≤◌, ◌≡◌, ◌⊎◌, Bool, true, false, List, length, take, Ok, Err}
 use Rattle.refusal.specs.declared.Refusal.{Refusal}
 use Rattle.refusal.specs.Numbers.{number_of, place_of}
 use Rattle.converter_spec.specs.Converts.{Sound, Turned}
-use Rattle.converter_blocks_spec.specs.declared.Stretch.TheVariants as S
 use Rattle.converter_blocks_spec.specs.Blocks.{StretchSays}
 use Rattle.program_ending_inner.specs.declared.Ending.{Ending}
 use Rattle.program_ending_inner.specs.declared.Ending.TheVariants as E
@@ -29,11 +28,11 @@ Kept false b d = Unit
 Kept true b d = Turned b d
 
 abbrev pub Why : Bool → ℕ → List ℕ → Bool → Ending → Type 0
-Why false p b last t = (r : Refusal) × StretchSays b last (S.Refused r) × (t ≡ E.Refused (number_of r) (p + place_of r))
+Why false p b last t = (r : Refusal) × StretchSays b last (Err r) × (t ≡ E.Refused (number_of r) (p + place_of r))
 Why true p b last t = (t ≡ E.Changed) ⊎ (t ≡ E.Unwritten)
 
 abbrev pub BlockBecomes : Bool → ℕ → List ℕ → Bool → List ℕ → Course → Type 0
-BlockBecomes w p b last d (On m) = (last ≡ false) × StretchSays b false (S.Records m) × Kept w (take m b) (take m d)
+BlockBecomes w p b last d (On m) = (last ≡ false) × StretchSays b false (Ok m) × Kept w (take m b) (take m d)
 BlockBecomes w p b last d (Done m) = (last ≡ true) × (m ≡ length b) × Sound b × Kept w b (take m d)
 BlockBecomes w p b last d (Stopped t) = Why w p b last t
 

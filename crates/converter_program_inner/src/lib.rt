@@ -9,7 +9,7 @@ ghost use Rattle.converter_pass_inner.specs.Says.{BuffersFit};
 ghost use Rattle.converter_program_inner.specs.Says.{PassSays, WrittenSays, ThroughSays};
 
 use program_ending_inner::Ending;
-use program_passes_inner::Pass;
+use program_passes_inner::{LIMIT, Turn};
 use std::fs::File;
 use std::rt::HostRuntime;
 
@@ -17,17 +17,27 @@ use std::rt::HostRuntime;
 const STDERR_FILENO: i32 = 2;
 
 // Once through the catalogue.
-fn go_once(input: &mut File, writing: bool, block: &mut [u8], new: &mut [u8]) -> Pass
+fn go_once(
+    input: &mut File,
+    writing: bool,
+    block: &mut [u8],
+    new: &mut [u8],
+) -> Result<usize, Ending>
     requires { BuffersFit block.old new.old }
     ensures { PassSays writing (finish_of result) }
 {
     let mut at = 0;
     loop {
-        let t = converter_pass_inner::take_at(input, writing, at, block, new);
-        if !program_passes_inner::goes_on(at, t) {
-            return program_passes_inner::finish(at, t);
+        let left = LIMIT - at;
+        match converter_pass_inner::take_at(input, writing, at, block, new)? {
+            Turn::On(used) => {
+                if left <= used {
+                    return Err(Ending::TooLong);
+                }
+                at += used;
+            }
+            Turn::Over(used) => return Ok(at + used),
         }
-        at += t.used;
     }
 }
 
@@ -36,11 +46,10 @@ fn write_to(input: &mut File, end: usize, block: &mut [u8], new: &mut [u8]) -> E
     requires { BuffersFit block.old new.old }
     ensures { WrittenSays end result }
 {
-    let second = go_once(input, true, block, new);
-    if second.through {
-        return program_passes_inner::same_end(end, second.at);
+    match go_once(input, true, block, new) {
+        Ok(again) => program_passes_inner::same_end(end, again),
+        Err(why) => why,
     }
-    second.why
 }
 
 // Both times. What does not stand at the beginning of a file cannot be read twice from there.
@@ -51,11 +60,10 @@ fn go_through(input: Option<File>, block: &mut [u8], new: &mut [u8]) -> Ending
     let Some(mut file) = input else {
         return Ending::NoFile;
     };
-    let first = go_once(&mut file, false, block, new);
-    if first.through {
-        return write_to(&mut file, first.at, block, new);
+    match go_once(&mut file, false, block, new) {
+        Ok(end) => write_to(&mut file, end, block, new),
+        Err(ended) => ended,
     }
-    first.why
 }
 
 // The program: the old catalogue from standard input, the new one on standard output; on standard error why not, or why not all of it.

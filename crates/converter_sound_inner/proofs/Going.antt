@@ -5,7 +5,8 @@
 --     going-found, going-ended        a record that is refused is the damage; where the catalogue ends there is none
 use Rattle.words.proofs.Plain.{ℕ, ◌+◌, ◌-◌, ◌<◌, ◌≤◌, arith, ◌≡◌, ap, ◌∙◌, List, length, get_or, take, drop, length-drop, drop_of_length-le, get_or-drop, drop-drop}
 use Rattle.words.proofs.Plain.{take_all}
-use Rattle.refusal.specs.{declared.Refusal.Refusal, declared.Checked.TheVariants.Good, declared.Checked.TheVariants.Refused}
+use Rattle.std.specs.Prelude.{Ok, Err}
+use Rattle.refusal.specs.declared.Refusal.{Refusal}
 use Rattle.record_spec.specs.Layout.{n_of}
 use Rattle.converter_spec.specs.{Converts.Sound, Converts.Damaged, Converts.Sound.ended, Converts.Sound.more}
 use Rattle.converter_spec.specs.Converts.Damaged.{here, later}
@@ -26,21 +27,21 @@ part c p = take_all (length c - p) (drop p c) (simp length-drop (omega arith))
 
 module _ (c : List ℕ) (p : ℕ) (g : Going c p) where
   -- a record that is refused is the damage
-  pub going-found : (r : Refusal) → p < length c → OldSays (take (length c - p) (drop p c)) p (Refused r) → Damaged c 0 r
+  pub going-found : (r : Refusal) → p < length c → OldSays (take (length c - p) (drop p c)) p (Err r) → Damaged c 0 r
   going-found r l h = g.damaged r (here (simp length-drop (omega arith)) (let q = part c p in rw q at h))
 
   size : n_of (drop p c) ≡ get_or c (p + 2) 0
   size = get_or-drop p c 2 0
 
   -- where a record that is good ends
-  pub going-room : OldSays (take (length c - p) (drop p c)) p Good → (p + 2 < length c) × (p + (4 + get_or c (p + 2) 0) ≤ length c)
+  pub going-room : OldSays (take (length c - p) (drop p c)) p (Ok tt) → (p + 2 < length c) × (p + (4 + get_or c (p + 2) 0) ≤ length c)
   going-room h = room (let q = part c p in rw q at h)
     where
-      room : OldSays (drop p c) p Good → (p + 2 < length c) × (p + (4 + get_or c (p + 2) 0) ≤ length c)
+      room : OldSays (drop p c) p (Ok tt) → (p + 2 < length c) × (p + (4 + get_or c (p + 2) 0) ≤ length c)
       room (x, m, a) = omega (arith, size, a.0.1, length-drop p c)
 
   -- behind it
-  pub going_on : (e : ℕ) → e ≡ p + (4 + get_or c (p + 2) 0) → OldSays (take (length c - p) (drop p c)) p Good → Going c e
+  pub going_on : (e : ℕ) → e ≡ p + (4 + get_or c (p + 2) 0) → OldSays (take (length c - p) (drop p c)) p (Ok tt) → Going c e
   going_on e k h = on (let q = part c p in rw q at h)
     where
       ends : p + (4 + n_of (drop p c)) ≡ e
@@ -52,7 +53,7 @@ module _ (c : List ℕ) (p : ℕ) (g : Going c p) where
       ahead : drop (4 + n_of (drop p c)) (drop p c) ≡ drop e c
       ahead = drop-drop (4 + n_of (drop p c)) p c ∙ ap (λ (i : ℕ). drop i c) ends
 
-      on : OldSays (drop p c) p Good → Going c e
+      on : OldSays (drop p c) p (Ok tt) → Going c e
       on (x, m, a) =
           record {
             inside = omega (arith, size, a.0.1, length-drop p c);

@@ -4,7 +4,7 @@
 --     front_long, front_bytes                        a front record is there, and is its bytes and what follows
 --     front-good                                     it is good
 --     bytes-front                                    a part that begins with those bytes begins with the front record
-use Rattle.words.proofs.Plain.{ℕ, ◌+◌, ◌<◌, ◌≤◌, arith, ◌≡◌, refl, sym, ap, ◌∙◌, subst, true, List, ◌++◌, length, get_or, drop, length-take, length-drop, take_at}
+use Rattle.words.proofs.Plain.{ℕ, ◌+◌, ◌<◌, ◌≤◌, arith, ◌≡◌, refl, sym, ap, ◌∙◌, true, List, ◌++◌, length, drop, length-take, length-drop}
 use Rattle.words.specs.Readings.{Reading}
 use Rattle.rings.specs.Necklace.{necklace}
 use Rattle.ring_home_laws.proofs.Alike.{length-mirrored, mirrored-reading, mirrored-necklace}

@@ -10,14 +10,14 @@
 --     damage-read                   a catalogue that is refused for its damage is refused as the old reader did, at one of its starts
 use Rattle.words.proofs.Plain.{ℕ, ◌+◌, ◌<◌, ◌≤◌, arith, ◌≡◌, refl, sym, ap, ◌∙◌, subst, inr, List, [], ◌++◌, length, drop, length-drop, drop-drop}
 use Rattle.refusal.specs.declared.Refusal.{Refusal}
-use Rattle.record_spec.specs.{declared.Kind.TheVariants.Front, declared.Entry.Entry}
-use Rattle.record_spec.specs.{declared.Entry.TheVariants.Record, declared.Entry.TheVariants.End, Order.After9, Says.ReadSays}
-use Rattle.record_spec.specs.Layout.{Marked, n_of, k_of, sectors_of}
+use Rattle.std.specs.Prelude.{Result, Ok, Option, None}
+use Rattle.record_spec.specs.{declared.Kind.TheVariants.Front, declared.Record.Record}
+use Rattle.record_spec.specs.{Order.After9, Says.ReadSays}
+use Rattle.record_spec.specs.Says.{entry as record_entry}
+use Rattle.record_spec.specs.Layout.{n_of, k_of, sectors_of}
 use Rattle.record_spec.proofs.Unique.{one-read}
-use Rattle.converter_spec.specs.declared.Conversion.{Conversion}
-use Rattle.converter_spec.specs.declared.Conversion.TheVariants.{Converted, Refused}
 use Rattle.converter_spec.specs.Sides.{Side, SideMarked, front_ring}
-use Rattle.converter_spec.specs.{Sides.Side.front, Sides.Side.back, Reads.OldReadSays}
+use Rattle.converter_spec.specs.{Sides.Side.front, Reads.OldReadSays}
 use Rattle.converter_spec.specs.Reads.OldEntry.{entry, end, refused}
 use Rattle.converter_spec.specs.Converts.{Turned, Damaged, ConvertSays, FrontRecords}
 use Rattle.converter_spec.specs.Converts.Turned.{done, replaced}
@@ -47,11 +47,11 @@ front-through u (none e) = done e e
 front-through u (one m a r) = replaced front m a (record { marked = m; sectors = refl; shades = refl; ring = refl }) (front-through (drop (4 + n_of u) u) r)
 
 -- whatever the converter answers for it
-pub front-converts : (c b : List ℕ) (r : Conversion) (d : List ℕ) → FrontRecords c → length b ≡ length c → ConvertSays c b r d → (r ≡ Converted) × (d ≡ c)
-front-converts c b r d f l h = one-convert c b r Converted d c h (l, front-through c f)
+pub front-converts : (c b : List ℕ) (r : Result Unit Refusal) (d : List ℕ) → FrontRecords c → length b ≡ length c → ConvertSays c b r d → (r ≡ Ok tt) × (d ≡ c)
+front-converts c b r d f l h = one-convert c b r (Ok tt) d c h (l, front-through c f)
 
 -- converting twice changes nothing more
-pub twice : (c b d o : List ℕ) (r : Conversion) (e : List ℕ) → ConvertSays c b Converted d → length o ≡ length d → ConvertSays d o r e → (r ≡ Converted) × (e ≡ d)
+pub twice : (c b d o : List ℕ) (r : Result Unit Refusal) (e : List ℕ) → ConvertSays c b (Ok tt) d → length o ≡ length d → ConvertSays d o r e → (r ≡ Ok tt) × (e ≡ d)
 twice c b d o r e g l h = front-converts d o r e (turned-front c d g.1) l h
 
 -- ---- its records
@@ -79,15 +79,15 @@ start-inside c s (after {s = p} x i m a) = omega (arith, a.0.1, length-drop p c,
 
 -- what both readers give at s, with an output that holds b: a record of the same n, k and front ring, behind which is a start; or the end
 pub data Alike (c d : List ℕ) (s : ℕ) (b : List ℕ) : Type 0 where
-  both : (n k : ℕ) (x : Side) (o : List ℕ) → OldReadSays c s b (entry n k x (s + 4 + n)) o → ReadSays d s b (Record n k Front (s + 4 + n)) o → Start c (s + 4 + n) → Alike c d s b
-  over : OldReadSays c s b end b → ReadSays d s b End b → Alike c d s b
+  both : (n k : ℕ) (x : Side) (o : List ℕ) → OldReadSays c s b (entry n k x (s + 4 + n)) o → ReadSays d s b (record_entry n k Front (s + 4 + n)) o → Start c (s + 4 + n) → Alike c d s b
+  over : OldReadSays c s b end b → ReadSays d s b (Ok None) b → Alike c d s b
 
 module _ (c d : List ℕ) (s : ℕ) (h : Turned c d) (i : Start c s) where
   -- at each start: what the old reader gave of the old catalogue, the reader gives of the new one, as a front record
-  pub reads-alike : (b : List ℕ) (n k : ℕ) (x : Side) (next : ℕ) (o : List ℕ) → OldReadSays c s b (entry n k x next) o → ReadSays d s b (Record n k Front next) o
+  pub reads-alike : (b : List ℕ) (n k : ℕ) (x : Side) (next : ℕ) (o : List ℕ) → OldReadSays c s b (entry n k x next) o → ReadSays d s b (record_entry n k Front next) o
   reads-alike b n k x next o g = step (turned-at c d s h i)
     where
-      step : Turned (drop s c) (drop s d) → ReadSays d s b (Record n k Front next) o
+      step : Turned (drop s c) (drop s d) → ReadSays d s b (record_entry n k Front next) o
       step (done e f) = absurd (some_left (drop s c) g.2.good e)
       step (replaced y m a f r) = (
         g.0,
@@ -110,13 +110,13 @@ module _ (c d : List ℕ) (s : ℕ) (h : Turned c d) (i : Start c s) where
               ∙ ap (λ (v : List ℕ). v ++ drop n b) f.ring
 
   -- and the end
-  pub ends-alike : (b o : List ℕ) → OldReadSays c s b end o → ReadSays d s b End o
+  pub ends-alike : (b o : List ℕ) → OldReadSays c s b end o → ReadSays d s b (Ok None) o
   ends-alike b o g = (g.0, g.1 ∙ sym (turned-length c d h), g.2)
 
   -- whatever the reader answers there
-  pub read_through : (b : List ℕ) (n k : ℕ) (x : Side) (next : ℕ) (o : List ℕ) (r : Entry) (u : List ℕ) → OldReadSays c s b (entry n k x next) o →
-      ReadSays d s b r u → (r ≡ Record n k Front next) × (u ≡ o)
-  read_through b n k x next o r u g f = one-read d s b r (Record n k Front next) u o f (reads-alike b n k x next o g)
+  pub read_through : (b : List ℕ) (n k : ℕ) (x : Side) (next : ℕ) (o : List ℕ) (r : Result (Option Record) Refusal) (u : List ℕ) → OldReadSays c s b (entry n k x next) o →
+      ReadSays d s b r u → (r ≡ record_entry n k Front next) × (u ≡ o)
+  read_through b n k x next o r u g f = one-read d s b r (record_entry n k Front next) u o f (reads-alike b n k x next o g)
 
   -- from start to end
   pub alike : (b : List ℕ) → length b ≡ 64 → Alike c d s b

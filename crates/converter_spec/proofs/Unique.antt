@@ -10,8 +10,7 @@ use Rattle.refusal.proofs.Unique.{one-refusal, never_both}
 use Rattle.record_spec.specs.{declared.Kind.TheVariants.Front, Order.After9}
 use Rattle.record_spec.specs.Layout.{n_of, k_of, sectors_of}
 use Rattle.record_spec.proofs.Laid.{bytes}
-use Rattle.converter_spec.specs.declared.Conversion.{Conversion}
-use Rattle.converter_spec.specs.declared.Conversion.TheVariants.{Converted, Refused}
+use Rattle.std.specs.Prelude.{Result, Ok, Err}
 use Rattle.converter_spec.specs.Sides.{Side, SideMarked, front_ring}
 use Rattle.converter_spec.specs.{Reads.old_order, Converts.Sound.ended, Converts.Sound.more}
 use Rattle.converter_spec.specs.Converts.{Sound, Turned, Damaged, Unconverted, ConvertSays}
@@ -77,8 +76,8 @@ module _ (c : List ℕ) (m : ℕ) where
   never u r e h (damaged g d) = sound-damaged c 0 r (turned-sound c u h) d
 
 -- one answer, and one output after it
-pub one-convert : (c b : List ℕ) (r q : Conversion) (d f : List ℕ) → ConvertSays c b r d → ConvertSays c b q f → (r ≡ q) × (d ≡ f)
-one-convert c b Converted Converted d f g h = (refl, one-turned c d f g.1 h.1)
-one-convert c b Converted (Refused q) d f g h = absurd (never c (length b) d q g.0 g.1 h.0)
-one-convert c b (Refused r) Converted d f g h = absurd (never c (length b) f r h.0 h.1 g.0)
-one-convert c b (Refused r) (Refused q) d f g h = (ap Refused (one-refused c (length b) r q g.0 h.0), g.1 ∙ sym h.1)
+pub one-convert : (c b : List ℕ) (r q : Result Unit Refusal) (d f : List ℕ) → ConvertSays c b r d → ConvertSays c b q f → (r ≡ q) × (d ≡ f)
+one-convert c b (Ok _) (Ok _) d f g h = (refl, one-turned c d f g.1 h.1)
+one-convert c b (Ok _) (Err q) d f g h = absurd (never c (length b) d q g.0 g.1 h.0)
+one-convert c b (Err r) (Ok _) d f g h = absurd (never c (length b) f r h.0 h.1 g.0)
+one-convert c b (Err r) (Err q) d f g h = (ap Err (one-refused c (length b) r q g.0 h.0), g.1 ∙ sym h.1)

@@ -10,17 +10,13 @@
 --     FrontRecords u          u is front records end to end, each of them good as they are now
 -- That a front record is its own front record, so that it comes through byte for byte, and what else follows: proofs/Through. That no two answers satisfy it, the
 -- output included: proofs/Unique.
-use Rattle.std.specs.Prelude.{ℕ, ◌+◌, ◌<◌, ◌≡◌, List, [], length, drop}
-use Rattle.refusal.specs.declared.Checked.{Checked}
-use Rattle.refusal.specs.declared.Checked.TheVariants as C
+use Rattle.std.specs.Prelude.{ℕ, ◌+◌, ◌<◌, ◌≡◌, List, [], length, drop, Result, Ok, Err}
 use Rattle.refusal.specs.declared.Refusal.{Refusal}
 use Rattle.refusal.specs.declared.Refusal.TheVariants.{Room}
 use Rattle.refusal.specs.Order.{Given}
 use Rattle.record_spec.specs.declared.Kind.TheVariants.{Front}
 use Rattle.record_spec.specs.Layout.{Marked, n_of, k_of, sectors_of}
 use Rattle.record_spec.specs.Order.{After9}
-use Rattle.converter_spec.specs.declared.Conversion.{Conversion}
-use Rattle.converter_spec.specs.declared.Conversion.TheVariants.{Converted, Refused}
 use Rattle.converter_spec.specs.Sides.{Side, SideMarked, front_ring}
 use Rattle.converter_spec.specs.Reads.{old_order}
 
@@ -49,9 +45,9 @@ pub data Damaged : List ℕ → ℕ → Refusal → Type 0 where
 
 -- ---- either
 
-abbrev pub SoundSays : List ℕ → Checked → Type 0
-SoundSays c C.Good = Sound c
-SoundSays c (C.Refused r) = Damaged c 0 r
+abbrev pub SoundSays : List ℕ → Result Unit Refusal → Type 0
+SoundSays c (Ok _) = Sound c
+SoundSays c (Err r) = Damaged c 0 r
 
 -- ---- the call
 
@@ -60,9 +56,9 @@ pub data Unconverted (c : List ℕ) (m : ℕ) (r : Refusal) : Type 0 where
   damaged : m ≡ length c → Damaged c 0 r → Unconverted c m r
 
 -- a refusal writes nothing
-abbrev pub ConvertSays : List ℕ → List ℕ → Conversion → List ℕ → Type 0
-ConvertSays c b Converted d = (length b ≡ length c) × Turned c d
-ConvertSays c b (Refused r) d = Unconverted c (length b) r × (d ≡ b)
+abbrev pub ConvertSays : List ℕ → List ℕ → Result Unit Refusal → List ℕ → Type 0
+ConvertSays c b (Ok _) d = (length b ≡ length c) × Turned c d
+ConvertSays c b (Err r) d = Unconverted c (length b) r × (d ≡ b)
 
 -- ---- what comes out
 

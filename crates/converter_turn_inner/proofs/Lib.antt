@@ -1,3 +1,2 @@
--- One record written as a front record (Fronting), and the invariant of going through a catalogue, with its turns (Going).
-pub mod Fronting
+-- The loop over the records of a catalogue (Going).
 pub mod Going

@@ -13,10 +13,10 @@ pub fn write_all(old: &[u8], out: &mut [u8])
     requires { Sound old.now × (length out.old ≡ length old.now) }
     ensures { Turned old.now out.new }
 {
+    // by hand: where the next record begins is told by the record itself, so no range and no iterator gives the places
     let mut at = 0;
     while at < old.len() {
-        let n = old[at + 2] as usize;
-        let e = at + HEAD + n;
+        let e = at + HEAD + usize::from(old[at + 2]);
         put_front(&old[at..e], &mut out[at..e]);
         at = e;
     }
@@ -27,10 +27,9 @@ fn put_front(part: &[u8], out: &mut [u8])
     requires { (4 < length part.now) × (length out.old ≡ length part.now) }
     ensures { Fronted part.now out.new }
 {
-    byte_moves_inner::copy(part, out);
-    if part[1] != RETIRED_MARK {
-        return;
+    out.copy_from_slice(part);
+    if part[1] == RETIRED_MARK {
+        out[1] = FRONT_MARK;
+        converter_sides_inner::turn_over(&part[HEAD..], &mut out[HEAD..]);
     }
-    out[1] = FRONT_MARK;
-    converter_sides_inner::turn_over(&part[HEAD..], &mut out[HEAD..]);
 }

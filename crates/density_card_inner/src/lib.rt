@@ -12,12 +12,7 @@ use density_spec::Card;
 pub fn is_good(card: Card) -> bool
     ensures { result ≡ good_card card }
 {
-    if card.dark >= 0.0 {
-        if card.dark < card.light {
-            return card.light <= 1.0;
-        }
-    }
-    false
+    card.dark >= 0.0 && card.dark < card.light && card.light <= 1.0
 }
 
 // Cut j: every operation rounded once, in the order that the client gives.

@@ -10,20 +10,16 @@ ghost use Rattle.density_spec.specs.Says.{ShadeSays};
 use density_spec::{Card, Sector};
 
 // The number of cuts not above x.
-fn cuts_not_above(card: Card, k: u8, x: f32) -> u8
+pub fn cuts_not_above(card: Card, k: u8, x: f32) -> u8
     requires { Shaded k }
     ensures { result ≡ shade_of card k x }
 {
-    let last = k - 1;
-    let mut shade: u8 = 0;
-    let mut i: u8 = 0;
-    while i < last {
-        let j = i + 1;
+    let mut shade = 0;
+    for j in 1..k {
         let level = density_card_inner::cut_level(card, k, j);
         if level <= x {
             shade += 1;
         }
-        i = j;
     }
     shade
 }
@@ -36,10 +32,7 @@ pub fn read(card: Card, k: u8, x: f32) -> Sector
     if x != x {
         return Sector::NotANumber;
     }
-    if x < 0.0 {
-        return Sector::Outside(x);
-    }
-    if 1.0 < x {
+    if x < 0.0 || 1.0 < x {
         return Sector::Outside(x);
     }
     Sector::Shade(cuts_not_above(card, k, x))

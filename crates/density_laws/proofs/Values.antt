@@ -2,8 +2,8 @@
 --     Kind, kind        a value is no number, out or in; only one of them: density_spec, Unique
 --     in-from, in-to    a value that is in is from 0 to 1: 0 <= x, x <= 1
 --     from-to-in        and each such value is in
-use Rattle.words.proofs.Plain.{◌≡◌, refl, inl, inr, true, false, T}
-use lib.Ieee.{Float, binary32, of_bits, of_fields, lt, le, ne}
+use Rattle.words.proofs.Plain.{◌≡◌, refl, inl, inr, false, T}
+use lib.Ieee.{Float, of_bits, of_fields, lt, le, ne}
 use Rattle.words.proofs.Split.{passes, fails, test}
 use Rattle.density_spec.specs.Cuts.{NoNumber, Out, In, zero32, one32}
 use Rattle.density_laws.proofs.Floats.{le-lt, lt-le, le-number}

@@ -2,39 +2,27 @@
 
 #![tactic(auto)]
 
-ghost use Rattle.std.specs.Prelude.{◌≡◌, map, length};
+ghost use Rattle.std.specs.Prelude.{◌≡◌, map, length, MatchOption};
 ghost use Rattle.words.specs.Readings.{Shaded};
 ghost use Rattle.density_spec.specs.Cuts.{shade_of};
-ghost use Rattle.density_ring_inner.specs.Scan.{Readable, Searched};
+ghost use Rattle.density_ring_inner.specs.Scan.{Readable, FirstBare};
 
 use density_spec::{Card, Sector};
 
-// The first place whose value has no shade, or the number of values.
-pub fn first_unreadable(values: &[f32], k: u8, card: Card) -> usize
+// The first place whose value has no shade.
+pub fn first_unreadable(values: &[f32], k: u8, card: Card) -> Option<usize>
     requires { Shaded k }
-    ensures { Searched values.now result }
+    ensures { MatchOption result (Readable values.now) (FirstBare values.now) }
 {
-    let mut i = 0;
-    while i < values.len() {
-        let Sector::Shade(_) = density_cuts_inner::read(card, k, values[i]) else {
-            return i;
-        };
-        i += 1;
-    }
-    i
+    values.iter().position(|&x| !matches!(density_cuts_inner::read(card, k, x), Sector::Shade(_)))
 }
 
-// Writes the shade of each value, where each has one.
+// Writes the shade of each value.
 pub fn write_shades(values: &[f32], k: u8, card: Card, out: &mut [u8])
-    requires { Shaded k × Readable values.now × (length out.old ≡ length values.now) }
+    requires { Shaded k × (length out.old ≡ length values.now) }
     ensures { out.new ≡ map (shade_of card k) values.now }
 {
-    let mut i = 0;
-    while i < values.len() {
-        let Sector::Shade(shade) = density_cuts_inner::read(card, k, values[i]) else {
-            return;
-        };
-        out[i] = shade;
-        i += 1;
+    for (i, &x) in values.iter().enumerate() {
+        out[i] = density_cuts_inner::cuts_not_above(card, k, x);
     }
 }

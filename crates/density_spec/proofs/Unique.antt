@@ -4,16 +4,16 @@
 --     one-sector    one sector
 --     one-ring      a ring: one answer, and one output after it
 -- A value that is not a number is one value here: its sign and its payload are outside the floats of the logic, and no answer carries it.
-use Rattle.words.proofs.Plain.{ℕ, ◌≡◌, refl, sym, ap, ◌∙◌, ◌⊎◌, inl, inr, List, length}
+use Rattle.words.proofs.Plain.{ℕ, ◌≡◌, refl, sym, ap, ◌∙◌, inl, inr, List, length}
+use Rattle.std.specs.Prelude.{Result, Ok, Err}
 use lib.Ieee.{Float, ne}
 use lib.Ieee as I
 use Rattle.words.proofs.Split.{clash}
+use Rattle.refusal.specs.declared.Refusal.{Refusal}
 use Rattle.refusal.proofs.Unique.{never_both, one-refusal}
-use Rattle.density_spec.specs.{declared.Card.Card, declared.Sector.Sector, declared.SectorRead.SectorRead}
+use Rattle.density_spec.specs.{declared.Card.Card, declared.Sector.Sector}
 use Rattle.density_spec.specs.declared.Sector.TheVariants.{Shade, Outside, NotANumber}
-use Rattle.density_spec.specs.declared.SectorRead.TheVariants as S
-use Rattle.density_spec.specs.{declared.RingRead.RingRead, Order.sector_order, Order.ring_order}
-use Rattle.density_spec.specs.declared.RingRead.TheVariants as R
+use Rattle.density_spec.specs.Order.{sector_order, ring_order}
 use Rattle.density_spec.specs.Cuts.{In, Out, zero32, one32}
 use Rattle.density_spec.specs.Says.{ShadeSays, SectorSays, RingSays}
 
@@ -34,16 +34,16 @@ one_told c k x NotANumber (Shade t) p q = clash (ne x x) p q.0.0
 one_told c k x NotANumber (Outside z) p q = clash (ne x x) p q.0.0
 one_told c k x NotANumber NotANumber p q = refl
 
-pub one-sector : (x : Float) (k : ℕ) (c : Card) (a b : SectorRead) → SectorSays x k c a → SectorSays x k c b → a ≡ b
-one-sector x k c (S.Is s) (S.Is t) p q = ap S.Is (one_told c k x s t p.1 q.1)
-one-sector x k c (S.Is s) (S.Refused r) p q = absurd (never_both (sector_order k c) r q p.0)
-one-sector x k c (S.Refused r) (S.Is t) p q = absurd (never_both (sector_order k c) r p q.0)
-one-sector x k c (S.Refused r) (S.Refused t) p q = ap S.Refused (one-refusal (sector_order k c) r t p q)
+pub one-sector : (x : Float) (k : ℕ) (c : Card) (a b : Result Sector Refusal) → SectorSays x k c a → SectorSays x k c b → a ≡ b
+one-sector x k c (Ok s) (Ok t) p q = ap Ok (one_told c k x s t p.1 q.1)
+one-sector x k c (Ok s) (Err r) p q = absurd (never_both (sector_order k c) r q p.0)
+one-sector x k c (Err r) (Ok t) p q = absurd (never_both (sector_order k c) r p q.0)
+one-sector x k c (Err r) (Err t) p q = ap Err (one-refusal (sector_order k c) r t p q)
 
 -- ---- a ring
 
-pub one-ring : (xs : List Float) (k : ℕ) (c : Card) (b : List ℕ) (x y : RingRead) (u v : List ℕ) → RingSays xs k c b x u → RingSays xs k c b y v → (x ≡ y) × (u ≡ v)
-one-ring xs k c b R.Written R.Written u v p q = (refl, p.1 ∙ sym q.1)
-one-ring xs k c b R.Written (R.Refused r) u v p q = absurd (never_both (ring_order xs k c (length b)) r q.0 p.0)
-one-ring xs k c b (R.Refused r) R.Written u v p q = absurd (never_both (ring_order xs k c (length b)) r p.0 q.0)
-one-ring xs k c b (R.Refused r) (R.Refused t) u v p q = (ap R.Refused (one-refusal (ring_order xs k c (length b)) r t p.0 q.0), p.1 ∙ sym q.1)
+pub one-ring : (xs : List Float) (k : ℕ) (c : Card) (b : List ℕ) (x y : Result Unit Refusal) (u v : List ℕ) → RingSays xs k c b x u → RingSays xs k c b y v → (x ≡ y) × (u ≡ v)
+one-ring xs k c b (Ok _) (Ok _) u v p q = (refl, p.1 ∙ sym q.1)
+one-ring xs k c b (Ok _) (Err r) u v p q = absurd (never_both (ring_order xs k c (length b)) r q.0 p.0)
+one-ring xs k c b (Err r) (Ok _) u v p q = absurd (never_both (ring_order xs k c (length b)) r p.0 q.0)
+one-ring xs k c b (Err r) (Err t) u v p q = (ap Err (one-refusal (ring_order xs k c (length b)) r t p.0 q.0), p.1 ∙ sym q.1)

@@ -2,8 +2,6 @@
 
 #![tactic(auto)]
 
-use refusal::Refusal;
-
 // The reference card: the reflectances of its dark and of its light field.
 #[derive(Clone, Copy)]
 pub struct Card {
@@ -17,18 +15,4 @@ pub enum Sector {
     Shade(u8),
     Outside(f32),
     NotANumber,
-}
-
-// What `sector_shade` answers.
-#[derive(Clone, Copy)]
-pub enum SectorRead {
-    Is(Sector),
-    Refused(Refusal),
-}
-
-// What `ring_shades` answers: the shades are in the output, or the call is refused.
-#[derive(Clone, Copy)]
-pub enum RingRead {
-    Written,
-    Refused(Refusal),
 }

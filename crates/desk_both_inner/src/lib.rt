@@ -8,32 +8,39 @@ ghost use Rattle.desk_spec.specs.declared.Both.TheVariants as asks;
 ghost use Rattle.desk_spec.specs.declared.Verb.TheVariants as verbs;
 ghost use Rattle.desk_spec.specs.Questions.{Replies};
 ghost use Rattle.desk_spec.specs.Answers.{BothSays, VerbSays};
-ghost use Rattle.desk_texts_inner.specs.Says.{desk_room};
+ghost use Rattle.desk_texts_inner.specs.Says.{desk_room, Answered};
 ghost use Rattle.desk_words_inner.specs.Says.{SpeltBoth, ReadsBoth, BothAsked};
 
 use desk_spec::Both;
-use desk_words_inner::Head;
+use refusal::Refusal;
 
 // The answer to each question.
-fn answer_same(k: usize, a: &[u8], b: &[u8], buf: &mut [u8], at: usize) -> usize
+fn answer_same(k: usize, a: &[u8], b: &[u8], buf: &mut [u8], at: usize) -> Result<usize, Refusal>
     requires { at + desk_room ≤ length buf.old }
-    ensures { Puts (BothSays asks.Same k a.now b.now) desk_room buf.old at result buf.new }
+    ensures { Answered (BothSays asks.Same k a.now b.now) buf.old at result buf.new }
 {
-    let x = home::same_ring(a, b, k);
-    desk_texts_inner::place_told(buf, at, x)
+    let yes = home::same_ring(a, b, k)?;
+    Ok(desk_texts_inner::place_told(buf, at, yes))
 }
 
-fn answer_apart(k: usize, a: &[u8], b: &[u8], buf: &mut [u8], at: usize) -> usize
+fn answer_apart(k: usize, a: &[u8], b: &[u8], buf: &mut [u8], at: usize) -> Result<usize, Refusal>
     requires { at + desk_room ≤ length buf.old }
-    ensures { Puts (BothSays asks.Apart k a.now b.now) desk_room buf.old at result buf.new }
+    ensures { Answered (BothSays asks.Apart k a.now b.now) buf.old at result buf.new }
 {
-    let x = home::apart(a, b, k);
-    desk_texts_inner::place_distance(buf, at, x)
+    let d = home::apart(a, b, k)?;
+    Ok(desk_texts_inner::place_distance(buf, at, d))
 }
 
-fn answer_both(v: Both, k: usize, a: &[u8], b: &[u8], buf: &mut [u8], at: usize) -> usize
+fn answer_both(
+    v: Both,
+    k: usize,
+    a: &[u8],
+    b: &[u8],
+    buf: &mut [u8],
+    at: usize,
+) -> Result<usize, Refusal>
     requires { at + desk_room ≤ length buf.old }
-    ensures { Puts (BothSays v k a.now b.now) desk_room buf.old at result buf.new }
+    ensures { Answered (BothSays v k a.now b.now) buf.old at result buf.new }
 {
     match v {
         Both::Same => answer_same(k, a, b, buf, at),
@@ -51,17 +58,17 @@ fn ask_both(
     b: &mut [u8],
     buf: &mut [u8],
     at: usize,
-) -> usize
+) -> Result<usize, Refusal>
     requires a_len { length a.old ≡ length s.now }
     requires b_len { length b.old ≡ length t.now }
     requires desk_room_in_bounds { at + desk_room ≤ length buf.old }
-    ensures { Puts (BothAsked v k s.now t.now) desk_room buf.old at result buf.new }
+    ensures { Answered (BothAsked v k s.now t.now) buf.old at result buf.new }
 {
     if !text_spell_inner::spell(s, a) {
-        return desk_texts_inner::place_malformed(buf, at);
+        return Err(Refusal::Line);
     }
     if !text_spell_inner::spell(t, b) {
-        return desk_texts_inner::place_malformed(buf, at);
+        return Err(Refusal::Line);
     }
     answer_both(v, k, a, b, buf, at)
 }
@@ -75,15 +82,15 @@ fn ask_words(
     b: &mut [u8],
     buf: &mut [u8],
     at: usize,
-) -> usize
+) -> Result<usize, Refusal>
     requires t_in_bounds { length t.now ≤ length a.old }
     requires t_in_bounds_2 { length t.now ≤ length b.old }
     requires desk_room_in_bounds { at + desk_room ≤ length buf.old }
-    ensures { Puts (Replies (ReadsBoth t.now) (SpeltBoth v k)) desk_room buf.old at result buf.new }
+    ensures { Answered (Replies (ReadsBoth t.now) (SpeltBoth v k)) buf.old at result buf.new }
 {
     let e = text_spell_inner::piece_end(t, b' ');
     if t.len() <= e {
-        return desk_texts_inner::place_malformed(buf, at);
+        return Err(Refusal::Line);
     }
     let m = t.len() - (e + 1);
     ask_both(
@@ -98,18 +105,26 @@ fn ask_words(
     )
 }
 
+// What the text behind the verb prints, the line of a refusal left out.
+fn both_asked(v: Both, t: &[u8], buf: &mut [u8], at: usize) -> Result<usize, Refusal>
+    requires t_len_bound { length t.now ≤ 4095 }
+    requires desk_room_in_bounds { at + desk_room ≤ length buf.old }
+    ensures { Answered (VerbSays (verbs.Both v) t.now) buf.old at result buf.new }
+{
+    let Some((k, e)) = desk_words_inner::head_of(t) else {
+        return Err(Refusal::Line);
+    };
+    let mut a = [0u8; 4095];
+    let mut b = [0u8; 4095];
+    ask_words(v, k, &t[e..], &mut a, &mut b, buf, at)
+}
+
 // What the text behind the verb prints.
 pub fn place_both(v: Both, t: &[u8], buf: &mut [u8], at: usize) -> usize
     requires t_len_bound { length t.now ≤ 4095 }
     requires desk_room_in_bounds { at + desk_room ≤ length buf.old }
     ensures { Puts (VerbSays (verbs.Both v) t.now) desk_room buf.old at result buf.new }
 {
-    match desk_words_inner::head_of(t) {
-        Head::Malformed => desk_texts_inner::place_malformed(buf, at),
-        Head::Number(k, e) => {
-            let mut a = [0u8; 4095];
-            let mut b = [0u8; 4095];
-            ask_words(v, k, &t[e..], &mut a, &mut b, buf, at)
-        }
-    }
+    let said = both_asked(v, t, buf, at);
+    desk_texts_inner::place_said(buf, at, said)
 }

@@ -2,15 +2,16 @@
 --     no-counts, no-after            there is no number in front
 --     put-counts                     a number and counts
 --     no_words, no-spelt, put-spelt, put-words, put-after    a number, a reading and counts
-use Rattle.words.proofs.Plain.{ℕ, ◌+◌, ◌-◌, ◌<◌, ◌≤◌, arith, ◌≡◌, refl, sym, ap, ◌∙◌, List, [], ◌∷◌, map, length, take, drop}
+use Rattle.words.proofs.Plain.{ℕ, ◌+◌, ◌-◌, ◌<◌, ◌≤◌, arith, ◌≡◌, sym, ap, ◌∙◌, List, [], ◌∷◌, map, length, take, drop}
 use Rattle.text_spec.specs.{Decimal.decimal, Text.hex_of}
-use Rattle.stream_spec.specs.Blocks.{Puts}
-use Rattle.text_words_spec.specs.Words.{pieces, PieceAt, Nibbles, Spelt}
+use Rattle.std.specs.Prelude.{Result, Some, None}
+use Rattle.refusal.specs.declared.Refusal.{Refusal}
+use Rattle.text_words_spec.specs.Words.{pieces, PieceAt, Spelt}
 use Rattle.text_words_spec.proofs.Pieces.{pieces_more, pieces-single, more-two, more-first, more-rest}
 use Rattle.desk_spec.specs.Questions.{CountsSpelt, ReadsCounts, ReadsAfter, Replies}
-use Rattle.desk_texts_inner.specs.Says.{desk_room}
+use Rattle.desk_texts_inner.specs.Says.{Answered}
 use Rattle.desk_texts_inner.proofs.Putting.{put_as}
-use Rattle.desk_words_inner.specs.{declared.Head.TheVariants.Number, declared.Head.TheVariants.Malformed, Says.HeadSays}
+use Rattle.desk_words_inner.specs.Says.{HeadSays}
 use Rattle.desk_words_inner.proofs.{Heads.rest-words, Shapes.rest_all}
 use Rattle.desk_counts_inner.specs.Says.{WordCounts, ReadsRing, AfterAsked}
 
@@ -21,10 +22,10 @@ one_word t u cs e s =
     record { alone = e ∙ ap (λ (x : List ℕ). x ∷ []) (sym q); counts = rw q s }
 
 module _ (t : List ℕ) where
-  pub no-counts : HeadSays t Malformed → (q : ℕ × List ℕ) → ReadsCounts t q → ⊥
+  pub no-counts : HeadSays t None → (q : ℕ × List ℕ) → ReadsCounts t q → ⊥
   no-counts h q x = h q.0 x.word [] x.short x.words
 
-  pub no-after : HeadSays t Malformed → (q : ℕ × List ℕ × List ℕ) → ReadsAfter t q → ⊥
+  pub no-after : HeadSays t None → (q : ℕ × List ℕ × List ℕ) → ReadsAfter t q → ⊥
   no-after h q x = h q.0 (map hex_of q.1) (x.word ∷ []) x.short x.words
 
   -- one word, or none
@@ -36,9 +37,9 @@ module _ (t : List ℕ) where
   no-spelt s n q x = n q.0 x.0
 
 -- what is asked of k and counts, and of k, a reading and counts
-module _ (Says : ℕ → List ℕ → List ℕ → Type 0) (t : List ℕ) (k at : ℕ) (h : HeadSays t (Number k at)) where
-  pub put-counts : (b : List ℕ) (p r : ℕ) (b' : List ℕ) →
-      Puts (Replies (WordCounts (take (length t - at) (drop at t))) (Says k)) desk_room b p r b' → Puts (Replies (ReadsCounts t) (λ q. Says q.0 q.1)) desk_room b p r b'
+module _ (Says : ℕ → List ℕ → List ℕ → Type 0) (t : List ℕ) (k at : ℕ) (h : HeadSays t (Some (k, at))) where
+  pub put-counts : (b : List ℕ) (p : ℕ) (r : Result ℕ Refusal) (b' : List ℕ) →
+      Answered (Replies (WordCounts (take (length t - at) (drop at t))) (Says k)) b p r b' → Answered (Replies (ReadsCounts t) (λ q. Says q.0 q.1)) b p r b'
   put-counts b p r b' x = put_as _ _ _ _ on back b p r b' (rw (rest_all t at) at x)
     where
       on : (cs : List ℕ) → WordCounts (drop at t) cs → (q : ℕ × List ℕ) × ReadsCounts t q × ((u : List ℕ) → Says k cs u → Says q.0 q.1 u)
@@ -49,13 +50,13 @@ module _ (Says : ℕ → List ℕ → List ℕ → Type 0) (t : List ℕ) (k at 
 
 module _ (Says : ℕ → List ℕ → List ℕ → List ℕ → Type 0) (t : List ℕ) where
   -- the reading is spelt
-  pub put-spelt : (k : ℕ) (s w : List ℕ) → Spelt s w → (b : List ℕ) (p r : ℕ) (b' : List ℕ) →
-      Puts (Replies (WordCounts t) (Says k w)) desk_room b p r b' → Puts (AfterAsked Says k s t) desk_room b p r b'
+  pub put-spelt : (k : ℕ) (s w : List ℕ) → Spelt s w → (b : List ℕ) (p : ℕ) (r : Result ℕ Refusal) (b' : List ℕ) →
+      Answered (Replies (WordCounts t) (Says k w)) b p r b' → Answered (AfterAsked Says k s t) b p r b'
   put-spelt k s w y b p r b' x = put_as _ _ _ _ (λ cs z. ((w, cs), (y, z), λ u a. a)) (λ q z. (q.1, z.1)) b p r b' x
 
   -- two words
-  pub put-words : (k e : ℕ) → PieceAt 32 t e → e < length t → (b : List ℕ) (p r : ℕ) (b' : List ℕ) →
-      Puts (AfterAsked Says k (take e t) (take (length t - (e + 1)) (drop (e + 1) t))) desk_room b p r b' → Puts (Replies (ReadsRing t) (λ q. Says k q.0 q.1)) desk_room b p r b'
+  pub put-words : (k e : ℕ) → PieceAt 32 t e → e < length t → (b : List ℕ) (p : ℕ) (r : Result ℕ Refusal) (b' : List ℕ) →
+      Answered (AfterAsked Says k (take e t) (take (length t - (e + 1)) (drop (e + 1) t))) b p r b' → Answered (Replies (ReadsRing t) (λ q. Says k q.0 q.1)) b p r b'
   put-words k e p h b at r b' x = put_as _ _ _ _ on back b at r b' (rw (rest_all t (e + 1)) at x)
     where
       on : (q : List ℕ × List ℕ) → Spelt (take e t) q.0 × WordCounts (drop (e + 1) t) q.1 →
@@ -82,9 +83,9 @@ module _ (Says : ℕ → List ℕ → List ℕ → List ℕ → Type 0) (t : Lis
       )
 
   -- and a number in front of them
-  pub put-after : (j at : ℕ) → HeadSays t (Number j at) → (b : List ℕ) (p r : ℕ) (b' : List ℕ) →
-      Puts (Replies (ReadsRing (take (length t - at) (drop at t))) (λ q. Says j q.0 q.1)) desk_room b p r b' →
-      Puts (Replies (ReadsAfter t) (λ q. Says q.0 q.1 q.2)) desk_room b p r b'
+  pub put-after : (j at : ℕ) → HeadSays t (Some (j, at)) → (b : List ℕ) (p : ℕ) (r : Result ℕ Refusal) (b' : List ℕ) →
+      Answered (Replies (ReadsRing (take (length t - at) (drop at t))) (λ q. Says j q.0 q.1)) b p r b' →
+      Answered (Replies (ReadsAfter t) (λ q. Says q.0 q.1 q.2)) b p r b'
   put-after j at h b p r b' x = put_as _ _ _ _ on back b p r b' (rw (rest_all t at) at x)
     where
       on : (q : List ℕ × List ℕ) → ReadsRing (drop at t) q → (y : ℕ × List ℕ × List ℕ) × ReadsAfter t y × ((u : List ℕ) → Says j q.0 q.1 u → Says y.0 y.1 y.2 u)

@@ -3,7 +3,7 @@
 --     begun-none, begun_more     the loop: nothing is read, or one count more
 --     begun-last, begun-bad, begun-end    its end: the last count, or none there
 --     word-listed, word-bad      the counts of a text that is one word
-use Rattle.words.proofs.Plain.{ℕ, zero, suc, ◌+◌, ◌-◌, ◌<◌, ◌≤◌, add-one, arith, dec_lt, ◌≡◌, refl, sym, ap, ◌∙◌, List, [], ◌∷◌, ◌++◌, map, length, get_or, take}
+use Rattle.words.proofs.Plain.{ℕ, zero, suc, ◌+◌, ◌<◌, ◌≤◌, add-one, arith, dec_lt, ◌≡◌, refl, sym, ap, ◌∙◌, List, [], ◌∷◌, ◌++◌, map, length, get_or, take}
 use Rattle.words.proofs.Plain.{drop, set, length-take, length-set, length-map, length-drop, take-suc-set, get_or-take, get_or-drop, get_or-set_same, get_or-set_other}
 use Rattle.words.proofs.Plain.{drop-drop, drop_at, length-take-le}
 use Rattle.text_spec.specs.Decimal.{decimal}
@@ -11,10 +11,8 @@ use Rattle.text_spec.proofs.Digits.{decimal-digits}
 use Rattle.text_words_spec.specs.Words.{pieces, PieceAt}
 use Rattle.text_words_spec.proofs.Pieces.{pieces_more, pieces-one, pieces-plain, pieces-some, pieces-single, behind-same}
 use Rattle.desk_spec.specs.Questions.{CountsSpelt}
-use Rattle.desk_words_inner.specs.declared.Head.TheVariants as H
+use Rattle.std.specs.Prelude.{Option, Some, None}
 use Rattle.desk_words_inner.specs.Says.{HeadAtSays}
-use Rattle.desk_counts_inner.specs.declared.Listed.{Listed}
-use Rattle.desk_counts_inner.specs.declared.Listed.TheVariants.{Counts, Malformed}
 use Rattle.desk_counts_inner.specs.Says.{LastSays, ListedSays, WordCounts, WordSays}
 
 pub record Begun (t cs : List ℕ) (m at : ℕ) : Type 0 where
@@ -47,7 +45,7 @@ module _ (cs : List ℕ) (m x : ℕ) (h : m < length cs) where
       ]
 
 module _ (t cs : List ℕ) (m at : ℕ) (b : Begun t cs m at) where
-  pub begun_more : m < length cs → (x e : ℕ) → HeadAtSays 44 (drop at t) (H.Number x e) → Begun t (set cs m x) (m + 1) (at + e)
+  pub begun_more : m < length cs → (x e : ℕ) → HeadAtSays 44 (drop at t) (Some (x, e)) → Begun t (set cs m x) (m + 1) (at + e)
   begun_more h x e p =
       record {
         within = omega (arith, p.1, b.within, length-drop at t);
@@ -67,7 +65,7 @@ module _ (t cs : List ℕ) (m at : ℕ) (b : Begun t cs m at) where
   plain : (x : ℕ) → pieces 44 (decimal x) ≡ decimal x ∷ []
   plain x = pieces-plain 44 (decimal x) (λ i h e. omega (arith, e, (decimal-digits x i h).0))
 
-  pub begun-last : m < length cs → (x : ℕ) → x < 1000 → drop at t ≡ decimal x → (j : ℕ) → j ≡ m + 1 → (c : List ℕ) → c ≡ set cs m x → ListedSays t (Counts j) c
+  pub begun-last : m < length cs → (x : ℕ) → x < 1000 → drop at t ≡ decimal x → (j : ℕ) → j ≡ m + 1 → (c : List ℕ) → c ≡ set cs m x → ListedSays t (Some j) c
   begun-last h x l e j q c s = rw (q, s) (omega (arith, h, length-set cs m x), record { each = short; numbers = long })
     where
       short : (i : ℕ) → i < length (take (m + 1) (set cs m x)) → get_or (take (m + 1) (set cs m x)) i 0 < 1000
@@ -98,7 +96,7 @@ module _ (t cs : List ℕ) (m at : ℕ) (b : Begun t cs m at) where
       ∙ ap (λ (y : List (List ℕ)). drop m y) (sym b.words ∙ s.numbers)
       ∙ drop-map m ds
 
-  pub begun-bad : HeadAtSays 44 (drop at t) H.Malformed → ((x : ℕ) → x < 1000 → drop at t ≡ decimal x → ⊥) → (ds : List ℕ) → CountsSpelt t ds → ⊥
+  pub begun-bad : HeadAtSays 44 (drop at t) None → ((x : ℕ) → x < 1000 → drop at t ≡ decimal x → ⊥) → (ds : List ℕ) → CountsSpelt t ds → ⊥
   begun-bad n f ds s = go (drop m ds) (behind ds s) (λ i h. rw (get_or-drop m ds i 0) (s.each (m + i) (omega (arith, h, length-drop m ds))))
     where
       go : (es : List ℕ) → pieces 44 (drop at t) ≡ map decimal es → ((i : ℕ) → i < length es → get_or es i 0 < 1000) → ⊥
@@ -106,16 +104,16 @@ module _ (t cs : List ℕ) (m at : ℕ) (b : Begun t cs m at) where
       go (x ∷ []) e g = f x (g 0 (omega arith)) (pieces-single 44 (drop at t) (decimal x) e)
       go (x ∷ y ∷ es) e g = n x (decimal y) (map decimal es) (g 0 (omega arith)) e
 
-  pub begun-end : m < length cs → HeadAtSays 44 (drop at t) H.Malformed → (r : Listed) (c : List ℕ) → LastSays (drop at t) cs m r c → ListedSays t r c
-  begun-end h n (Counts j) c s = begun-last h s.1.0 s.1.1 s.1.2 j s.0 c s.1.3
-  begun-end h n Malformed c s = begun-bad n s
+  pub begun-end : m < length cs → HeadAtSays 44 (drop at t) None → (r : Option ℕ) (c : List ℕ) → LastSays (drop at t) cs m r c → ListedSays t r c
+  begun-end h n (Some j) c s = begun-last h s.1.0 s.1.1 s.1.2 j s.0 c s.1.3
+  begun-end h n None c s = begun-bad n s
 
 -- ---- a text that is one word
 
 module _ (t : List ℕ) (e : ℕ) (p : PieceAt 32 t e) where
-  pub word-listed : length t ≤ e → (r : Listed) (c : List ℕ) → ListedSays t r c → WordSays t r c
-  word-listed h (Counts j) c s = (s.0, record { alone = pieces-one 32 t e p h; counts = s.1 })
-  word-listed h Malformed c s = λ cs w. s cs w.counts
+  pub word-listed : length t ≤ e → (r : Option ℕ) (c : List ℕ) → ListedSays t r c → WordSays t r c
+  word-listed h (Some j) c s = (s.0, record { alone = pieces-one 32 t e p h; counts = s.1 })
+  word-listed h None c s = λ cs w. s cs w.counts
 
   -- two words or more
   pub word-bad : e < length t → (cs : List ℕ) → WordCounts t cs → ⊥

@@ -10,11 +10,5 @@ pub fn all_eight(u: &[u8], l: usize, m: usize) -> bool
     requires { l ≤ m }
     ensures { AllEight u.now l m result }
 {
-    if m - l != 8 {
-        return false;
-    }
-    if m < 24 {
-        return false;
-    }
-    desk_rings_inner::each_long(u, 8)
+    m - l == 8 && 24 <= m && desk_rings_inner::each_long(u, 8)
 }

@@ -3,14 +3,14 @@
 --     summed-none, summed-more, summed-over, summed-all    the loop
 --     given-long, first-long          an output of more than 64 places is refused alike, whatever its length
 --     first-within                    what an output of SumWithin places prints
-use Rattle.words.proofs.Plain.{ℕ, ◌+◌, ◌-◌, ◌<◌, ◌≤◌, arith, dec_lt, ◌≡◌, refl, sym, ap, ◌∙◌, inl, List, length, get_or, take, drop, length-replicate}
+use Rattle.words.proofs.Plain.{ℕ, ◌+◌, ◌-◌, ◌<◌, ◌≤◌, arith, dec_lt, ◌≡◌, refl, ap, ◌∙◌, inl, List, length, get_or, take, drop, length-replicate}
 use Rattle.words.proofs.Plain.{drop_of_length-le}
 use Rattle.words.specs.Sum.{sum_of}
 use Rattle.refusal.specs.{declared.Refusal.Refusal, declared.Refusal.TheVariants.Length, Order.Given, Calls.counted_first}
 use Rattle.refusal.proofs.Unique.{one-refusal}
 use Rattle.check_counts_inner.proofs.Sum.{sum-at}
-use Rattle.shades_spec.specs.{declared.FirstAnswer.FirstAnswer, Answers.FirstSays}
-use Rattle.shades_spec.specs.declared.FirstAnswer.TheVariants as F
+use Rattle.std.specs.Prelude.{Result, Ok, Err}
+use Rattle.shades_spec.specs.Answers.{FirstSays}
 use Rattle.desk_spec.specs.{Texts.first_ring_text, Answers.FirstPrints, Answers.blank}
 use Rattle.desk_words_inner.proofs.Shapes.{take-blank}
 use Rattle.desk_first_inner.specs.Says.{SumWithin, FirstIn}
@@ -47,15 +47,15 @@ given-long n k cs h = inl (inl (inl (inl (inl (inl (refl, λ s. omega (arith, h,
 
 -- by the answer in an output of one such length, the answer in one of another
 module _ (k : ℕ) (cs o p : List ℕ) (h : 64 < length o) (g : 64 < length p) where
-  long-says : (a : FirstAnswer) (c : List ℕ) → FirstSays k cs o a c → FirstSays k cs p a p
-  long-says F.Ring c s = absurd (omega (arith, h, s.0.0.0.0.0.0.0.1))
-  long-says (F.Refused r) c s =
+  long-says : (a : Result Unit Refusal) (c : List ℕ) → FirstSays k cs o a c → FirstSays k cs p a p
+  long-says (Ok _) c s = absurd (omega (arith, h, s.0.0.0.0.0.0.0.1))
+  long-says (Err r) c s =
       let e = one-refusal (counted_first (length o) k cs) r (Length 0) s.0 (given-long (length o) k cs h) in
       (rw e (given-long (length p) k cs g), refl)
 
-  no-ring : (a : FirstAnswer) (c : List ℕ) → FirstSays k cs o a c → first_ring_text a c ≡ first_ring_text a p
-  no-ring F.Ring c s = absurd (omega (arith, h, s.0.0.0.0.0.0.0.1))
-  no-ring (F.Refused r) c s = refl
+  no-ring : (a : Result Unit Refusal) (c : List ℕ) → FirstSays k cs o a c → first_ring_text a c ≡ first_ring_text a p
+  no-ring (Ok _) c s = absurd (omega (arith, h, s.0.0.0.0.0.0.0.1))
+  no-ring (Err r) c s = refl
 
   pub first-long : (t : List ℕ) → FirstIn k cs o t → FirstIn k cs p t
   first-long t x =

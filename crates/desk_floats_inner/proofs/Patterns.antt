@@ -5,7 +5,7 @@
 --     not-a-number                every other is what is not a number
 --     pattern-bytes               the pattern of digits by its four bytes
 --     floats-more                 one float more
-use Rattle.words.proofs.Plain.{ℕ, suc, ◌+◌, ◌*◌, ◌%◌, ◌/◌, ◌<◌, arith, ◌≡◌, refl, sym, ap, ◌∙◌, Bool, true, false, not, ◌&&◌, List, T, eqb, length, get_or, set}
+use Rattle.words.proofs.Plain.{ℕ, ◌+◌, ◌*◌, ◌%◌, ◌/◌, ◌<◌, arith, ◌≡◌, refl, ap, ◌∙◌, Bool, true, false, not, ◌&&◌, List, T, eqb, length, get_or, set}
 use Rattle.words.proofs.Plain.{take, drop, get_or-take, get_or-drop, get_or-set_same, get_or-set_other, ne_eqb, eq-eqb}
 use lib.Ieee.{Float, nan, inf, fin, binary32, is_nan, nan_bits, ne, of_bits, of_fields, odd, div}
 use Rattle.words.proofs.Split.{clash, lt, eq, gt, tri}

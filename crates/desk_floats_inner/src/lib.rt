@@ -15,7 +15,7 @@ fn byte_at(s: &[u8], at: usize) -> u32
     requires at_in_bounds { at + 2 ≤ length s.now }
     ensures { (result ≡ get_or s.now at 0 * 16 + get_or s.now (at + 1) 0) × (result < 256) }
 {
-    s[at] as u32 * 16 + s[at + 1] as u32
+    u32::from(s[at]) * 16 + u32::from(s[at + 1])
 }
 
 // The number of eight digits.
@@ -44,16 +44,13 @@ pub fn of_pattern(bits: u32) -> f32
     0.0 / 0.0
 }
 
-// Writes the floats of the first n patterns.
-pub fn write_floats(s: &[u8], n: usize, out: &mut [f32])
+// Writes the floats of the first patterns, as many as there is room for.
+pub fn write_floats(s: &[u8], out: &mut [f32])
     requires nibbles { Nibbles s.now }
-    requires n_in_bounds { 8 * n ≤ length s.now }
-    requires n_in_bounds_2 { n ≤ length out.old }
-    ensures { FloatsSay s.now n out.new }
+    requires out_in_bounds { 8 * length out.old ≤ length s.now }
+    ensures { FloatsSay s.now (length out.old) out.new }
 {
-    let mut i = 0;
-    while i < n {
+    for i in 0..out.len() {
         out[i] = of_pattern(pattern_at(s, 8 * i));
-        i += 1;
     }
 }

@@ -1,5 +1,5 @@
 -- Only the first 4096 bytes of a line tell what it prints: a longer line is malformed.
-use Rattle.words.proofs.Plain.{ℕ, ◌<◌, ◌≤◌, arith, dec_lt, ◌≡◌, sym, List, length, take, length-take, take_all}
+use Rattle.words.proofs.Plain.{ℕ, ◌<◌, arith, dec_lt, List, length, take, length-take, take_all}
 use Rattle.stream_spec.specs.Texts.{Tells}
 use Rattle.desk_spec.specs.{Questions.good, Questions.bad, Answers.DeskAnswers}
 use Rattle.desk_spec.proofs.Unique.{one_answer}

@@ -6,23 +6,14 @@ ghost use Rattle.std.specs.Prelude.{◌+◌, ◌<◌, ◌≤◌, ◌≡◌, leng
 ghost use Rattle.stream_spec.specs.Blocks.{Puts};
 ghost use Rattle.text_spec.specs.Ascii.{space};
 ghost use Rattle.text_words_spec.specs.Words.{PieceAt};
-ghost use Rattle.desk_spec.specs.Verbs.{or_else, both_of, count_of, strip_of, camera_of, shades_of, verb_of};
+ghost use Rattle.desk_spec.specs.Verbs.{both_of, count_of, strip_of, camera_of, shades_of, verb_of};
 ghost use Rattle.desk_spec.specs.Answers.{VerbSays, DeskAnswers};
-ghost use Rattle.desk_texts_inner.specs.Says.{desk_room};
+ghost use Rattle.desk_texts_inner.specs.Says.{desk_room, Answered};
 
-use desk_spec::{Both, Found, Verb};
+use desk_spec::{Both, Verb};
+use refusal::Refusal;
 
-// The first that is known.
-fn or_else(f: Found, next: Found) -> Found
-    ensures { result ≡ or_else f next }
-{
-    match f {
-        Found::Known(v) => Found::Known(v),
-        Found::Unknown => next,
-    }
-}
-
-fn both_of(t: &[u8]) -> Found
+fn both_of(t: &[u8]) -> Option<Verb>
     ensures { result ≡ both_of t.now }
 {
     desk_names_inner::or_either(
@@ -31,70 +22,45 @@ fn both_of(t: &[u8]) -> Found
         Verb::Both(Both::Same),
         b"apart",
         Verb::Both(Both::Apart),
-        Found::Unknown,
+        None,
     )
 }
 
-fn count_of(t: &[u8]) -> Found
+fn count_of(t: &[u8]) -> Option<Verb>
     ensures { result ≡ count_of t.now }
 {
-    desk_names_inner::or_either(
-        t,
-        b"many",
-        Verb::Many,
-        b"stock",
-        Verb::Stock,
-        Found::Unknown,
-    )
+    desk_names_inner::or_either(t, b"many", Verb::Many, b"stock", Verb::Stock, None)
 }
 
-fn strip_of(t: &[u8]) -> Found
+fn strip_of(t: &[u8]) -> Option<Verb>
     ensures { result ≡ strip_of t.now }
 {
-    desk_names_inner::or_named(t, b"strip", Verb::Strip, Found::Unknown)
+    desk_names_inner::or_named(t, b"strip", Verb::Strip, None)
 }
 
-fn camera_of(t: &[u8]) -> Found
+fn camera_of(t: &[u8]) -> Option<Verb>
     ensures { result ≡ camera_of t.now }
 {
-    desk_names_inner::or_either(
-        t,
-        b"sight",
-        Verb::Sight,
-        b"shade",
-        Verb::Shade,
-        Found::Unknown,
-    )
+    desk_names_inner::or_either(t, b"sight", Verb::Sight, b"shade", Verb::Shade, None)
 }
 
-fn shades_of(t: &[u8]) -> Found
+fn shades_of(t: &[u8]) -> Option<Verb>
     ensures { result ≡ shades_of t.now }
 {
-    desk_names_inner::or_either(
-        t,
-        b"first",
-        Verb::First,
-        b"after",
-        Verb::After,
-        Found::Unknown,
-    )
+    desk_names_inner::or_either(t, b"first", Verb::First, b"after", Verb::After, None)
 }
 
 // The verb of a word, group after group.
-fn verb_of(t: &[u8]) -> Found
+fn verb_of(t: &[u8]) -> Option<Verb>
     ensures { result ≡ verb_of t.now }
 {
-    let a = desk_names_inner::about_of(t);
-    let b = both_of(t);
-    let c = count_of(t);
-    let d = desk_names_inner::step_of(t);
-    let e = strip_of(t);
-    let f = camera_of(t);
-    let g = shades_of(t);
-    or_else(
-        a,
-        or_else(b, or_else(c, or_else(d, or_else(e, or_else(f, g))))),
-    )
+    desk_names_inner::about_of(t)
+        .or(both_of(t))
+        .or(count_of(t))
+        .or(desk_names_inner::step_of(t))
+        .or(strip_of(t))
+        .or(camera_of(t))
+        .or(shades_of(t))
 }
 
 // What the text behind a verb prints.
@@ -110,37 +76,46 @@ fn place_verb(v: Verb, t: &[u8], buf: &mut [u8], at: usize) -> usize
         Verb::Stock => desk_count_inner::place_stock(t, buf, at),
         Verb::Strip => desk_strip_inner::place_strip(t, buf, at),
         Verb::Sight => desk_sight_inner::place_sight(t, buf, at),
-        Verb::First => desk_counted_inner::place_counted(false, t, buf, at),
-        Verb::After => desk_counted_inner::place_counted(true, t, buf, at),
+        Verb::First => desk_counted_inner::place_first(t, buf, at),
+        Verb::After => desk_counted_inner::place_after(t, buf, at),
         Verb::Shade => desk_shade_inner::place_shade(t, buf, at),
     }
 }
 
 // What a line prints whose first word ends at the place e.
-fn place_word(line: &[u8], e: usize, buf: &mut [u8], at: usize) -> usize
+fn place_word(line: &[u8], e: usize, buf: &mut [u8], at: usize) -> Result<usize, Refusal>
     requires line_len_bound { length line.now ≤ 4095 }
     requires piece_at { PieceAt space line.now e }
     requires e_in_bounds { e < length line.now }
     requires desk_room_in_bounds { at + desk_room ≤ length buf.old }
-    ensures { Puts (DeskAnswers line.now) desk_room buf.old at result buf.new }
+    ensures { Answered (DeskAnswers line.now) buf.old at result buf.new }
 {
-    match verb_of(&line[..e]) {
-        Found::Unknown => desk_texts_inner::place_malformed(buf, at),
-        Found::Known(v) => place_verb(v, &line[e + 1..], buf, at),
-    }
+    let Some(v) = verb_of(&line[..e]) else {
+        return Err(Refusal::Line);
+    };
+    Ok(place_verb(v, &line[e + 1..], buf, at))
 }
 
-// What a line prints, its newline left out.
+// What a line prints, the line of a refusal left out.
+fn answer_line(line: &[u8], buf: &mut [u8], at: usize) -> Result<usize, Refusal>
+    requires { at + desk_room ≤ length buf.old }
+    ensures { Answered (DeskAnswers line.now) buf.old at result buf.new }
+{
+    if 4095 < line.len() {
+        return Err(Refusal::Line);
+    }
+    let e = text_spell_inner::piece_end(line, b' ');
+    if line.len() <= e {
+        return Err(Refusal::Line);
+    }
+    place_word(line, e, buf, at)
+}
+
+// What a line prints, its newline left out. A line that cannot be read is refused as any other.
 pub fn place_answer(line: &[u8], buf: &mut [u8], at: usize) -> usize
     requires { at + desk_room ≤ length buf.old }
     ensures { Puts (DeskAnswers line.now) desk_room buf.old at result buf.new }
 {
-    if 4095 < line.len() {
-        return desk_texts_inner::place_malformed(buf, at);
-    }
-    let e = text_spell_inner::piece_end(line, b' ');
-    if line.len() <= e {
-        return desk_texts_inner::place_malformed(buf, at);
-    }
-    place_word(line, e, buf, at)
+    let said = answer_line(line, buf, at);
+    desk_texts_inner::place_said(buf, at, said)
 }

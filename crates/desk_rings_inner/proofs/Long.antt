@@ -9,7 +9,7 @@ use Rattle.words.proofs.Split.{passes, fails, test}
 use Rattle.text_spec.specs.Text.{hex_of}
 use Rattle.text_words_spec.specs.Words.{Nibbles}
 use Rattle.desk_spec.specs.{Questions.EachNibbles, Sights.AsLong}
-use Rattle.desk_rings_inner.specs.Says.{ReadsRings, EachSays}
+use Rattle.desk_rings_inner.specs.Says.{EachSays}
 use Rattle.desk_rings_inner.proofs.Spaced.{spaced, digits-plain, pieces-spaced}
 
 unfoldable pub long_from : ℕ → ℕ → List ℕ → Bool

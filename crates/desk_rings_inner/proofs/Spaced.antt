@@ -6,9 +6,9 @@
 use Rattle.words.proofs.Plain.{ℕ, zero, suc, ◌+◌, ◌<◌, add-one, arith, ◌≡◌, refl, sym, ap, ◌∙◌, ◌⊎◌, inl, inr, List, [], ◌∷◌, ◌++◌, map, append_assoc, length}
 use Rattle.words.proofs.Plain.{get_or, take, drop, split_at, eq-eqb, ne_eqb}
 use Rattle.text_spec.specs.Text.{hex_of}
-use Rattle.text_words_spec.specs.Words.{onto, pieces, PieceAt, Nibbles}
+use Rattle.text_words_spec.specs.Words.{onto, pieces, Nibbles}
 use Rattle.text_words_spec.proofs.Pieces.{pieces-single, piece-end, more-two, more-first, more-rest}
-use Rattle.text_words_spec.proofs.Spelling.{spelt-plain, hex-kinds, map_at}
+use Rattle.text_words_spec.proofs.Spelling.{spelt-plain, hex-kinds}
 use Rattle.desk_spec.specs.Questions.{EachNibbles, words_of}
 
 -- the words, a space behind each

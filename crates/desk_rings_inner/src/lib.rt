@@ -5,48 +5,32 @@
 ghost use Rattle.std.specs.Prelude.{◌≤◌, length};
 ghost use Rattle.desk_rings_inner.specs.Says.{SpeltSays, EachSays};
 
-// The sectors of all words lie end to end: up to which place those of the rings do, and up to which those of the reading; or a word is no reading.
-#[derive(Clone, Copy)]
-pub enum Words {
-    Spelt(usize, usize),
-    Malformed,
-}
-
-// Writes the sectors of all words, one after another.
-pub fn spell_words(u: &[u8], out: &mut [u8]) -> Words
+// Writes the sectors of all words, one after another: up to which place those of the rings lie, and up to which those of the reading; or a word is no reading.
+pub fn spell_words(u: &[u8], out: &mut [u8]) -> Option<(usize, usize)>
     requires { length u.now ≤ length out.old }
     ensures { SpeltSays u.now result out.new }
 {
-    let mut i = 0;
     let mut m = 0;
     let mut c = 0;
-    while i < u.len() {
-        let a = u[i];
-        i += 1;
+    for &a in u {
         if a == b' ' {
             c = 0;
             continue;
         }
-        let v = text_spell_inner::value_of(a);
-        if 15 < v {
-            return Words::Malformed;
-        }
+        let v = text_spell_inner::value_of(a)?;
         out[m] = v;
         m += 1;
         c += 1;
     }
-    Words::Spelt(m - c, m)
+    Some((m - c, m))
 }
 
 // Whether each word but the last has n sectors.
 pub fn each_long(u: &[u8], n: usize) -> bool
     ensures { EachSays u.now n result }
 {
-    let mut i = 0;
     let mut c = 0;
-    while i < u.len() {
-        let a = u[i];
-        i += 1;
+    for &a in u {
         if a != b' ' {
             c += 1;
             continue;

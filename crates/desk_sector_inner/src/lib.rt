@@ -5,11 +5,11 @@
 ghost use Rattle.std.specs.Prelude.{◌+◌, ◌/◌, ◌%◌, ◌<◌, ◌≤◌, ◌≡◌, false, length};
 ghost use Rattle.std.specs.Float.Ieee.{ne};
 ghost use Rattle.density_spec.specs.declared.Sector.TheVariants as tells;
-ghost use Rattle.desk_spec.specs.Texts.{told_sector_text, sector_text, shades_text};
-ghost use Rattle.desk_texts_inner.specs.Says.{desk_room, longest_ring, LinePrinted};
-ghost use Rattle.desk_sector_inner.specs.Says.{OwnBits, OwnBitsRead};
+ghost use Rattle.desk_spec.specs.Texts.{told_sector_text};
+ghost use Rattle.desk_texts_inner.specs.Says.{desk_room, LinePrinted};
+ghost use Rattle.desk_sector_inner.specs.Says.{OwnBits};
 
-use density_spec::{RingRead, Sector, SectorRead};
+use density_spec::Sector;
 
 fn digit(bits: u32, weight: u32) -> u8
     requires { 0 < weight }
@@ -24,7 +24,7 @@ fn place_outside(buf: &mut [u8], at: usize, x: f32) -> usize
     requires desk_room_in_bounds { at + desk_room ≤ length buf.old }
     ensures { LinePrinted buf.old at (told_sector_text (tells.Outside x)) result buf.new }
 {
-    let b = f32::to_bits(x);
+    let b = x.to_bits();
     let digits = [
         digit(b, 0x1000_0000),
         digit(b, 0x0100_0000),
@@ -38,36 +38,14 @@ fn place_outside(buf: &mut [u8], at: usize, x: f32) -> usize
     desk_texts_inner::place_ring_line(buf, at, b"outside @\n", &digits)
 }
 
-fn place_sector(buf: &mut [u8], at: usize, a: Sector) -> usize
+pub fn place_sector(buf: &mut [u8], at: usize, a: Sector) -> usize
     requires own_bits { OwnBits a }
     requires desk_room_in_bounds { at + desk_room ≤ length buf.old }
     ensures { LinePrinted buf.old at (told_sector_text a) result buf.new }
 {
     match a {
-        Sector::Shade(s) => desk_texts_inner::place_number(buf, at, b"shade %\n", s as usize),
+        Sector::Shade(s) => desk_texts_inner::place_number(buf, at, b"shade %\n", usize::from(s)),
         Sector::Outside(x) => place_outside(buf, at, x),
         Sector::NotANumber => desk_texts_inner::place_words(buf, at, b"not a number\n"),
-    }
-}
-
-pub fn place_sector_read(buf: &mut [u8], at: usize, a: SectorRead) -> usize
-    requires own_bits_read { OwnBitsRead a }
-    requires desk_room_in_bounds { at + desk_room ≤ length buf.old }
-    ensures { LinePrinted buf.old at (sector_text a) result buf.new }
-{
-    match a {
-        SectorRead::Is(s) => place_sector(buf, at, s),
-        SectorRead::Refused(r) => desk_texts_inner::place_refusal(buf, at, r),
-    }
-}
-
-pub fn place_ring_read(buf: &mut [u8], at: usize, a: RingRead, ring: &[u8]) -> usize
-    requires ring_len_bound { length ring.now ≤ longest_ring }
-    requires desk_room_in_bounds { at + desk_room ≤ length buf.old }
-    ensures { LinePrinted buf.old at (shades_text a ring.now) result buf.new }
-{
-    match a {
-        RingRead::Written => desk_texts_inner::place_ring(buf, at, ring),
-        RingRead::Refused(r) => desk_texts_inner::place_refusal(buf, at, r),
     }
 }

@@ -2,20 +2,21 @@
 --     no_floats, no-eight            where they are none, or no such
 --     spelt-floats, put-floats       where they are such
 --     no-shade, put-shade            k stands in front of them
-use Rattle.words.proofs.Plain.{ℕ, ◌+◌, ◌-◌, ◌*◌, ◌<◌, ◌≤◌, arith, ◌≡◌, refl, sym, ap, subst, ◌∙◌, true, false, List, [], ◌∷◌, ◌++◌, map, append-nil, length}
+use Rattle.words.proofs.Plain.{ℕ, ◌+◌, ◌-◌, ◌*◌, ◌≤◌, arith, ◌≡◌, sym, ap, subst, ◌∙◌, true, false, List, [], ◌∷◌, ◌++◌, map, append-nil, length}
 use Rattle.words.proofs.Plain.{take, drop, length-drop, length-append, length-take-le, take-add}
 use Rattle.text_spec.specs.{Decimal.decimal, Text.hex_of}
 use Rattle.text_words_spec.specs.Words.{Nibbles}
-use Rattle.stream_spec.specs.Blocks.{Puts}
+use Rattle.std.specs.Prelude.{Result, Some, None}
+use Rattle.refusal.specs.declared.Refusal.{Refusal}
 use Rattle.strip_spec.specs.Strip.{joined}
 use Rattle.strip_spec.proofs.Joined.{joined-append}
 use Rattle.sight_spec.specs.Rings.{rings_in}
 use Rattle.desk_spec.specs.{Floats.float_of, Sights.AsLong, Answers.ShadesSays}
 use Rattle.desk_spec.specs.Questions.{EachNibbles, ReadsShade, Replies}
 use Rattle.desk_spec.proofs.{Sights.length-alike, Sights.rings-joined, Questions.words-one}
-use Rattle.desk_texts_inner.specs.Says.{desk_room}
-use Rattle.desk_texts_inner.proofs.Putting.{puts-on, put-good, put_as}
-use Rattle.desk_words_inner.specs.{declared.Head.TheVariants.Number, declared.Head.TheVariants.Malformed, Says.HeadSays}
+use Rattle.desk_texts_inner.specs.Says.{Answered}
+use Rattle.desk_texts_inner.proofs.Putting.{answered-on, put-good, put_as}
+use Rattle.desk_words_inner.specs.Says.{HeadSays}
 use Rattle.desk_words_inner.proofs.{Heads.rest-words, Shapes.rest_all}
 use Rattle.desk_rings_inner.specs.Says.{ReadsRings, EndToEnd}
 use Rattle.desk_eight_inner.specs.Says.{AllEight}
@@ -104,19 +105,19 @@ module _ (u s : List ℕ) (l m : ℕ) (p : EndToEnd u s l m) where
     told : rings_in 8 (take m s) ≡ all
     told = ap (rings_in 8) end_to_end_lem ∙ rings-joined 8 all (omega arith) all-eight
 
-    pub put-floats : (k : ℕ) (b : List ℕ) (at r : ℕ) (b' : List ℕ) → Puts (FloatsTold k (take m s)) desk_room b at r b' → Puts (Replies (ReadsFloats u) (ShadesAsked k)) desk_room b at r b'
-    put-floats k b at r b' x = put-good (ReadsFloats u) (ShadesAsked k) b at r b' all asked (puts-on _ _ (λ t z. subst (λ ts. ShadesAsked k ts t) told z) b at r b' x)
+    pub put-floats : (k : ℕ) (b : List ℕ) (at : ℕ) (r : Result ℕ Refusal) (b' : List ℕ) → Answered (FloatsTold k (take m s)) b at r b' → Answered (Replies (ReadsFloats u) (ShadesAsked k)) b at r b'
+    put-floats k b at r b' x = put-good (ReadsFloats u) (ShadesAsked k) b at r b' all asked (answered-on _ _ (λ t z. subst (λ ts. ShadesAsked k ts t) told z) b at r b' x)
 
 -- ---- k in front of them
 
 module _ (t : List ℕ) where
-  pub no-shade : HeadSays t Malformed → (q : ℕ × List (List ℕ)) → ReadsShade t q → ⊥
+  pub no-shade : HeadSays t None → (q : ℕ × List (List ℕ)) → ReadsShade t q → ⊥
   no-shade h (k, []) x = absurd (omega (arith, x.three))
   no-shade h (k, v ∷ vs) x = h k (map hex_of v) (map (map hex_of) vs) x.short x.words
 
-  module _ (j at : ℕ) (h : HeadSays t (Number j at)) (b : List ℕ) (p r : ℕ) (b' : List ℕ) where
-    pub put-shade : Puts (Replies (ReadsFloats (take (length t - at) (drop at t))) (ShadesAsked j)) desk_room b p r b' →
-        Puts (Replies (ReadsShade t) (λ q. ShadesSays q.0 (map float_of q.1))) desk_room b p r b'
+  module _ (j at : ℕ) (h : HeadSays t (Some (j, at))) (b : List ℕ) (p : ℕ) (r : Result ℕ Refusal) (b' : List ℕ) where
+    pub put-shade : Answered (Replies (ReadsFloats (take (length t - at) (drop at t))) (ShadesAsked j)) b p r b' →
+        Answered (Replies (ReadsShade t) (λ q. ShadesSays q.0 (map float_of q.1))) b p r b'
     put-shade x = put_as _ _ _ _ on back b p r b' (rw (rest_all t at) at x)
       where
         on : (ts : List (List ℕ)) → ReadsFloats (drop at t) ts → (y : ℕ × List (List ℕ)) × ReadsShade t y × ((u : List ℕ) → ShadesAsked j ts u → ShadesSays y.0 (map float_of y.1) u)

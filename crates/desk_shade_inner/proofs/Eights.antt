@@ -3,8 +3,8 @@
 --     last_of                           some words have a last one
 --     nibbles-joined                    the digits of all words
 --     floats-all                        the floats are those of the words
-use Rattle.words.proofs.Plain.{ℕ, zero, suc, ◌*◌, ◌/◌, ◌<◌, ◌≤◌, arith, ◌≡◌, refl, sym, ap, ◌∙◌, List, [], ◌∷◌, ◌++◌, map, length, get_or, take, length-map}
-use Rattle.words.proofs.Plain.{ext_get_or, get_or-take, length-take-le}
+use Rattle.words.proofs.Plain.{ℕ, zero, suc, ◌/◌, ◌<◌, arith, ◌≡◌, refl, sym, ap, ◌∙◌, List, [], ◌∷◌, ◌++◌, map, length, get_or, length-map}
+use Rattle.words.proofs.Plain.{ext_get_or}
 use lib.Ieee.{Float, nan}
 use Rattle.text_words_spec.specs.Words.{Nibbles}
 use Rattle.strip_spec.specs.Strip.{joined}
@@ -58,11 +58,9 @@ float_at [] j h = absurd (omega arith)
 float_at (t ∷ ts) zero h = refl
 float_at (t ∷ ts) (suc j) h = float_at ts j (omega arith)
 
-pub floats-all : (s : List ℕ) (xs : List Float) → length xs ≡ 512 → length s ≤ 4095 → FloatsSay s (length s / 8) xs → take (length s / 8) xs ≡ map float_of (rings_in 8 s)
-floats-all s xs z h f =
-    let n = length s / 8 in
-    let l = length-first 8 s n in
-    let m = length-take-le n xs (omega (arith, z, h)) in
-    ext_get_or nan (take n xs) (map float_of (rings_in 8 s)) (m ∙ sym l ∙ sym (length-map (rings_in 8 s) float_of)) (λ j g.
+pub floats-all : (s : List ℕ) (xs : List Float) (n : ℕ) → length xs ≡ n → FloatsSay s n xs → n ≡ length s / 8 → xs ≡ map float_of (rings_in 8 s)
+floats-all s xs n m f e =
+    let l : length (rings_in 8 s) ≡ n = length-first 8 s (length s / 8) ∙ sym e in
+    ext_get_or nan xs (map float_of (rings_in 8 s)) (m ∙ sym l ∙ sym (length-map (rings_in 8 s) float_of)) (λ j g.
     let i : j < n = omega (arith, g, m) in
-    get_or-take n xs j nan i ∙ f j i ∙ ap float_of (sym (first-at 8 s n j i)) ∙ sym (float_at (rings_in 8 s) j (omega (arith, i, l))))
+    f j i ∙ ap float_of (sym (first-at 8 s (length s / 8) j (omega (arith, i, e)))) ∙ sym (float_at (rings_in 8 s) j (omega (arith, i, l))))

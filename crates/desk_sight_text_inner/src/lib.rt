@@ -2,7 +2,7 @@
 
 #![tactic(auto)]
 
-ghost use Rattle.std.specs.Prelude.{◌+◌, ◌≤◌, length};
+ghost use Rattle.std.specs.Prelude.{◌+◌, ◌≤◌, length, Ok};
 ghost use Rattle.desk_spec.specs.Texts.{sight_text};
 ghost use Rattle.desk_texts_inner.specs.Says.{desk_room, LinePrinted};
 
@@ -11,7 +11,7 @@ use sight_spec::Sighting;
 // The line of an answer.
 pub fn place_sighting(buf: &mut [u8], at: usize, a: Sighting) -> usize
     requires { at + desk_room ≤ length buf.old }
-    ensures { LinePrinted buf.old at (sight_text a) result buf.new }
+    ensures { LinePrinted buf.old at (sight_text (Ok a)) result buf.new }
 {
     match a {
         Sighting::Front {
@@ -36,6 +36,5 @@ pub fn place_sighting(buf: &mut [u8], at: usize, a: Sighting) -> usize
         ),
         Sighting::Several => desk_texts_inner::place_words(buf, at, b"several\n"),
         Sighting::Unknown => desk_texts_inner::place_words(buf, at, b"unknown\n"),
-        Sighting::Refused(r) => desk_texts_inner::place_refusal(buf, at, r),
     }
 }

@@ -1,7 +1,7 @@
 -- Floats by their bits, worked out by hand.
-use Rattle.words.proofs.Plain.{◌≡◌, refl, true, false, List, [], ◌∷◌}
-use lib.IntN.{pos, negsuc}
-use lib.Ieee.{fin, inf, of_bits, of_fields, odd, to_bits, size, span, climb}
+use Rattle.words.proofs.Plain.{◌≡◌, refl, true, false, [], ◌∷◌}
+use lib.IntN.{negsuc}
+use lib.Ieee.{fin, of_bits, of_fields, odd, to_bits, size, span, climb}
 use Rattle.desk_spec.specs.Floats.{pattern_of, float_of, digits_of}
 
 -- 3fc00000 is 1.5, that is 3 / 2

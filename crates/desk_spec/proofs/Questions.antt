@@ -5,17 +5,18 @@
 --     one-reading, one-pair, one-numbers, one_byte, one-sight, one-counts, one-after, one-shade    a text asks one question of a shape
 --     known-one                      a word is one verb's name
 --     place-one, one_line            a line has one verb and one text behind it
-use Rattle.words.proofs.Plain.{ℕ, suc, ◌+◌, ◌<◌, arith, ◌≡◌, refl, sym, ap, ◌∙◌, List, [], ◌∷◌, ◌++◌, map, length, get_or, take, drop}
+use Rattle.words.proofs.Plain.{ℕ, suc, ◌+◌, arith, ◌≡◌, refl, sym, ap, ◌∙◌, List, [], ◌∷◌, map, take, drop}
 use Rattle.text_spec.specs.{Decimal.decimal, Text.hex_of}
 use Rattle.text_spec.proofs.Digits.{decimal-one}
 use Rattle.words.proofs.Split.{lt, eq, gt, tri}
-use Rattle.text_words_spec.specs.Words.{pieces, PieceAt, Nibbles, Spelt}
+use Rattle.text_words_spec.specs.Words.{pieces, PieceAt, Nibbles}
 use Rattle.line_spec.proofs.Lines.{fields-one}
 use Rattle.text_words_spec.proofs.Pieces.{first-same, behind-same, none-some}
 use Rattle.text_words_spec.proofs.Spelling.{spelt-one}
-use Rattle.desk_spec.specs.{declared.Verb.Verb, declared.Found.Found}
+use Rattle.std.specs.Prelude.{Option, Some, None}
+use Rattle.desk_spec.specs.declared.Verb.{Verb}
 use Rattle.desk_spec.specs.declared.Verb.TheVariants as Asks
-use Rattle.desk_spec.specs.{declared.Found.TheVariants.Known, declared.Found.TheVariants.Unknown, Verbs.verb_of}
+use Rattle.desk_spec.specs.Verbs.{verb_of}
 use Rattle.desk_spec.specs.Answers.{LineReads}
 use Rattle.desk_spec.specs.Questions.{ReadsReading, ReadsPair, ReadsNumbers, ReadsByte, ReadsSight, EachNibbles, words_of, CountsSpelt, ReadsCounts, ReadsAfter, ReadsShade}
 
@@ -119,11 +120,11 @@ module _ (t : List ℕ) where
 -- ---- a line
 
 -- the verb that is known; `Stock` where none is
-abbrev verb_in : Found → Verb
-verb_in (Known v) = v
-verb_in Unknown = Asks.Stock
+abbrev verb_in : Option Verb → Verb
+verb_in (Some v) = v
+verb_in None = Asks.Stock
 
-pub known-one : (u v : Verb) → Known u ≡ Known v → u ≡ v
+pub known-one : (u v : Verb) → Some u ≡ Some v → u ≡ v
 known-one u v e = ap verb_in e
 
 -- a first piece ends at one place

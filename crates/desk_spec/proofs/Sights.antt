@@ -2,21 +2,23 @@
 --     one-sighted      the question has one answer
 --     length-alike     how many sectors rings of n sectors have, end to end
 --     rings-joined     where each ring has n sectors, the rings that are looked at end to end are the words: none is cut elsewhere
-use Rattle.words.proofs.Plain.{ℕ, zero, suc, ◌+◌, ◌*◌, ◌/◌, ◌<◌, arith, ◌≡◌, refl, sym, ap, ◌∙◌, List, [], ◌∷◌, ◌++◌, length, get_or, drop, length-append}
+use Rattle.words.proofs.Plain.{ℕ, zero, suc, ◌+◌, ◌*◌, ◌/◌, ◌<◌, arith, ◌≡◌, sym, ap, ◌∙◌, List, [], ◌∷◌, length, get_or, length-append}
 use Rattle.words.proofs.Plain.{take_at, drop-append-add, ext_get_or}
 use native.Mathlib.Nat.{mul-suc, mul-zero, mul-div_cancel_left}
 use Rattle.refusal.proofs.Unique.{one-refusal}
 use Rattle.strip_spec.specs.Strip.{joined}
-use Rattle.sight_spec.specs.{declared.Sighting.Sighting, declared.Sighting.TheVariants.Refused, Rings.ring_at, Rings.rings_in}
+use Rattle.sight_spec.specs.{declared.Sighting.Sighting, Rings.ring_at, Rings.rings_in}
 use Rattle.sight_spec.proofs.{Rings.length-first, Rings.first-at, Unique.one-sight}
+use Rattle.std.specs.Prelude.{Result, Err}
+use Rattle.refusal.specs.declared.Refusal.{Refusal}
 use Rattle.desk_spec.specs.Sights.{AsLong, lengths_order, SightedSays, alike, unlike}
 
 -- the question has one answer
-pub one-sighted : (ts : List (List ℕ)) (r : List ℕ) (k e : ℕ) (a b : Sighting) → SightedSays ts r k e a → SightedSays ts r k e b → a ≡ b
+pub one-sighted : (ts : List (List ℕ)) (r : List ℕ) (k e : ℕ) (a b : Result Sighting Refusal) → SightedSays ts r k e a → SightedSays ts r k e b → a ≡ b
 one-sighted ts r k e a b (alike l x) (alike m y) = one-sight (joined ts) r k e a b x y
 one-sighted ts r k e a b (alike l x) (unlike m q g d) = absurd (m l)
 one-sighted ts r k e a b (unlike l p f c) (alike m y) = absurd (l m)
-one-sighted ts r k e a b (unlike l p f c) (unlike m q g d) = c ∙ ap Refused (one-refusal (lengths_order r ts) p q f g) ∙ sym d
+one-sighted ts r k e a b (unlike l p f c) (unlike m q g d) = c ∙ ap Err (one-refusal (lengths_order r ts) p q f g) ∙ sym d
 
 -- ---- end to end
 

@@ -4,24 +4,23 @@
 --     one-stepped, one-step, one-about, one-both, one-many, one-strip, one_seen, one-first, one-after-ring, one-shades    a question prints one text
 --     one-verb        and so does what stands behind a verb
 --     one_answer      and a line
-use Rattle.words.proofs.Plain.{ℕ, ◌^◌, arith, ◌≡◌, refl, sym, ap, ◌∙◌, Bool, List, length}
+use Rattle.words.proofs.Plain.{ℕ, ◌^◌, arith, ◌≡◌, sym, ap, ◌∙◌, Bool, List, length}
 use lib.Ieee.{Float}
 use Rattle.rings.specs.Necklace.{necklace, lyndon}
 use Rattle.classify_spec.proofs.Unique.{one_answer as one_class}
-use Rattle.home_spec.specs.declared.Homed.{Homed}
+use Rattle.std.specs.Prelude.{Result}
+use Rattle.refusal.specs.declared.Refusal.{Refusal}
+use Rattle.home_spec.specs.declared.Home.{Home as Homed}
 use Rattle.home_spec.proofs.Unique.{one-homed, one_told, one-distance}
-use Rattle.strip_spec.specs.declared.Written.{Written}
 use Rattle.strip_spec.proofs.Unique.{one-telling, one-writing}
-use Rattle.how_many_spec.specs.declared.Counted.{Counted}
 use Rattle.how_many_spec.proofs.Unique.{one-count}
 use Rattle.walk_spec.specs.declared.Outcome.{Outcome}
 use Rattle.walk_bracelet_spec.specs.declared.Arrival.{Arrival}
 use Rattle.walk_reading_spec.proofs.Unique.{one-step-from, one-bracelet-from}
-use Rattle.shades_spec.specs.{declared.FirstAnswer.FirstAnswer, declared.NextAnswer.NextAnswer}
+use Rattle.shades_spec.specs.declared.Next.{Next}
 use Rattle.shades_spec.proofs.Unique.{one-first as one-first-ring, one-next}
 use Rattle.desk_spec.specs.{declared.Step.Step, declared.About.About, declared.Both.Both}
 use Rattle.desk_spec.specs.declared.Step.TheVariants.{Necklace, Lyndon, Prenecklace, Bracelet}
-use Rattle.density_spec.specs.declared.RingRead.{RingRead}
 use Rattle.density_spec.proofs.Unique.{one-sector, one-ring}
 use Rattle.desk_spec.specs.declared.About.TheVariants.{Class, Home, Even, Place}
 use Rattle.desk_spec.specs.declared.About.TheVariants as OfOne
@@ -53,19 +52,19 @@ one-asked Reads Says one says t u (bad m x) (bad n y) = x ∙ sym y
 
 pub one-stepped : (kind : List ℕ → Bool) (k : ℕ) (w t u : List ℕ) → KindPrints kind k w t → KindPrints kind k w u → t ≡ u
 one-stepped kind k w t u x y =
-    one-shows {A = Outcome × List ℕ} _ _ (λ a b p q. let e = one-step-from kind w k (blank (length w)) a.0 b.0 a.1 b.1 p q in λ i. (e.0 i, e.1 i)) t u x y
+    one-shows {A = Result Outcome Refusal × List ℕ} _ _ (λ a b p q. let e = one-step-from kind w k (blank (length w)) a.0 b.0 a.1 b.1 p q in λ i. (e.0 i, e.1 i)) t u x y
 
 pub one-step : (v : Step) (k : ℕ) (w t u : List ℕ) → StepPrints v k w t → StepPrints v k w u → t ≡ u
 one-step Necklace k w t u x y = one-stepped _ k w t u x y
 one-step Lyndon k w t u x y = one-stepped _ k w t u x y
 one-step Prenecklace k w t u x y = one-stepped _ k w t u x y
 one-step Bracelet k w t u x y =
-    one-shows {A = Arrival × List ℕ} _ _ (λ a b p q. let e = one-bracelet-from w k (blank (length w)) a.0 b.0 a.1 b.1 p q in λ i. (e.0 i, e.1 i)) t u x y
+    one-shows {A = Result Arrival Refusal × List ℕ} _ _ (λ a b p q. let e = one-bracelet-from w k (blank (length w)) a.0 b.0 a.1 b.1 p q in λ i. (e.0 i, e.1 i)) t u x y
 
 pub one-about : (v : About) (k : ℕ) (w t u : List ℕ) → AboutSays v k w t → AboutSays v k w u → t ≡ u
 one-about Class k w t u x y = one-shows _ _ (one_class w k) t u x y
 one-about Home k w t u x y =
-    one-shows {A = Homed × List ℕ} _ _ (λ a b p q. let e = one-homed w k (blank (length w)) a.0 b.0 a.1 b.1 p q in λ i. (e.0 i, e.1 i)) t u x y
+    one-shows {A = Result Homed Refusal × List ℕ} _ _ (λ a b p q. let e = one-homed w k (blank (length w)) a.0 b.0 a.1 b.1 p q in λ i. (e.0 i, e.1 i)) t u x y
 one-about Even k w t u x y = one-shows _ _ (one_told (one_reading w k) (even_handed w)) t u x y
 one-about Place k w t u x y = one-shows _ _ (one-telling w k) t u x y
 one-about (OfOne.Step v) k w t u x y = one-step v k w t u x y
@@ -78,12 +77,12 @@ one-both Apart k a b t u x y = one-shows _ _ (one-distance a b k) t u x y
 
 pub one-many : (k n : ℕ) (t u : List ℕ) → ManySays k n t → ManySays k n u → t ≡ u
 one-many k n t u x y =
-    one-shows {A = Counted × Counted} _ _
+    one-shows {A = Result ℕ Refusal × Result ℕ Refusal} _ _
     (λ a b p q. let e = one-count necklace k n a.0 b.0 p.0 q.0 in let f = one-count lyndon k n a.1 b.1 p.1 q.1 in λ i. (e i, f i)) t u x y
 
 pub one-strip : (k n : ℕ) (t u : List ℕ) → StripPrints k n t → StripPrints k n u → t ≡ u
 one-strip k n t u x y =
-    one-shows {A = Written × List ℕ} _ _ (λ a b p q. let e = one-writing n k (blank (k ^ n)) a.0 b.0 a.1 b.1 p q in λ i. (e.0 i, e.1 i)) t u x y
+    one-shows {A = Result Unit Refusal × List ℕ} _ _ (λ a b p q. let e = one-writing n k (blank (k ^ n)) a.0 b.0 a.1 b.1 p q in λ i. (e.0 i, e.1 i)) t u x y
 
 -- ---- a reading among rings
 
@@ -94,11 +93,11 @@ one_seen k e ts r t u x y = one-shows _ _ (one-sighted ts r k e) t u x y
 
 pub one-first : (k : ℕ) (cs t u : List ℕ) → FirstPrints k cs t → FirstPrints k cs u → t ≡ u
 one-first k cs t u x y =
-    one-shows {A = FirstAnswer × List ℕ} _ _ (λ a b p q. let e = one-first-ring k cs _ a.0 b.0 a.1 b.1 p q in λ i. (e.0 i, e.1 i)) t u x y
+    one-shows {A = Result Unit Refusal × List ℕ} _ _ (λ a b p q. let e = one-first-ring k cs _ a.0 b.0 a.1 b.1 p q in λ i. (e.0 i, e.1 i)) t u x y
 
 pub one-after-ring : (k : ℕ) (w cs t u : List ℕ) → AfterPrints k w cs t → AfterPrints k w cs u → t ≡ u
 one-after-ring k w cs t u x y =
-    one-shows {A = NextAnswer × List ℕ} _ _ (λ a b p q. let e = one-next w k cs (blank (length w)) a.0 b.0 a.1 b.1 p q in λ i. (e.0 i, e.1 i)) t u x y
+    one-shows {A = Result Next Refusal × List ℕ} _ _ (λ a b p q. let e = one-next w k cs (blank (length w)) a.0 b.0 a.1 b.1 p q in λ i. (e.0 i, e.1 i)) t u x y
 
 -- ---- shades
 
@@ -107,7 +106,7 @@ one-shades k xs t u (one_value l x) (one_value m y) = one-shows _ _ (one-sector 
 one-shades k xs t u (one_value l x) (several_values m y) = absurd (omega arith)
 one-shades k xs t u (several_values l x) (one_value m y) = absurd (omega arith)
 one-shades k xs t u (several_values l x) (several_values m y) =
-    one-shows {A = RingRead × List ℕ} _ _ (λ a b p q. let e = one-ring _ k _ _ a.0 b.0 a.1 b.1 p q in λ i. (e.0 i, e.1 i)) t u x y
+    one-shows {A = Result Unit Refusal × List ℕ} _ _ (λ a b p q. let e = one-ring _ k _ _ a.0 b.0 a.1 b.1 p q in λ i. (e.0 i, e.1 i)) t u x y
 
 -- ---- a line
 

@@ -14,32 +14,29 @@
 --     DeskAnswers s text          what the line s prints, its newline left out
 -- An output that a call asks for is as long as the reading, that of a strip as long as the strip, that of a first ring as long as the sum of the counts, and 0 before.
 -- That a line prints one text: proofs/Unique.
-use Rattle.std.specs.Prelude.{ℕ, ◌+◌, ◌^◌, ◌<◌, ◌≤◌, ◌≡◌, Bool, List, map, length, take, drop, replicate, get_or, Float}
+use Rattle.std.specs.Prelude.{ℕ, ◌+◌, ◌^◌, ◌<◌, ◌≤◌, ◌≡◌, Bool, List, map, length, take, drop, replicate, get_or, Float, Result, Some}
 use Rattle.std.specs.Float.{nan}
 use Rattle.text_spec.specs.Ascii.{space}
 use Rattle.text_words_spec.specs.Words.{PieceAt}
 use Rattle.rings.specs.Necklace.{necklace, lyndon}
 use Rattle.rings.specs.Prenecklace.{prenecklace}
 use Rattle.rings.specs.Alike.{same_ring, even_handed}
+use Rattle.refusal.specs.declared.Refusal.{Refusal}
 use Rattle.refusal.specs.Calls.{one_reading, two_readings}
 use Rattle.classify_spec.specs.Says.{ClassifySays}
 use Rattle.home_spec.specs.Says.{HomeSays, ToldSays, DistanceSays}
-use Rattle.home_spec.specs.declared.Homed.{Homed}
-use Rattle.strip_spec.specs.declared.Written.{Written}
+use Rattle.home_spec.specs.declared.Home.{Home as Homed}
 use Rattle.strip_spec.specs.Says.{StripSays, PlaceSays}
-use Rattle.how_many_spec.specs.declared.Counted.{Counted}
 use Rattle.how_many_spec.specs.Says.{CountSays}
 use Rattle.stock_spec.specs.Stock.{home_byte}
 use Rattle.walk_spec.specs.declared.Outcome.{Outcome}
 use Rattle.walk_bracelet_spec.specs.declared.Arrival.{Arrival}
 use Rattle.walk_reading_spec.specs.Says.{StepFromSays, BraceletFromSays}
 use Rattle.words.specs.Sum.{sum_of}
-use Rattle.shades_spec.specs.declared.FirstAnswer.{FirstAnswer}
-use Rattle.shades_spec.specs.declared.NextAnswer.{NextAnswer}
+use Rattle.shades_spec.specs.declared.Next.{Next}
 use Rattle.shades_spec.specs.Answers.{FirstSays, NextSays}
 use Rattle.desk_spec.specs.declared.Step.{Step}
 use Rattle.desk_spec.specs.declared.Step.TheVariants.{Necklace, Lyndon, Prenecklace, Bracelet}
-use Rattle.density_spec.specs.declared.RingRead.{RingRead}
 use Rattle.density_spec.specs.Says.{SectorSays, RingSays}
 use Rattle.desk_spec.specs.declared.About.{About}
 use Rattle.desk_spec.specs.declared.About.TheVariants.{Class, Home, Even, Place}
@@ -48,7 +45,6 @@ use Rattle.desk_spec.specs.declared.Both.{Both}
 use Rattle.desk_spec.specs.declared.Both.TheVariants.{Same, Apart}
 use Rattle.desk_spec.specs.declared.Verb.{Verb}
 use Rattle.desk_spec.specs.declared.Verb.TheVariants as Asks
-use Rattle.desk_spec.specs.declared.Found.TheVariants.{Known}
 use Rattle.desk_spec.specs.Verbs.{verb_of}
 use Rattle.desk_spec.specs.Questions.{ReadsReading, ReadsPair, ReadsNumbers, ReadsByte, ReadsSight, ReadsCounts, ReadsAfter, Replies, ReadsShade}
 use Rattle.desk_spec.specs.Texts.{class_text, home_text, told_text, distance_text, place_text, many_text, stock_text, step_text, arrival_text, strip_text, sight_text}
@@ -70,19 +66,19 @@ blank n = replicate n 0
 
 -- to the next of a kind, with the moves
 abbrev pub KindPrints : (List ℕ → Bool) → ℕ → List ℕ → List ℕ → Type 0
-KindPrints kind k w text = AnswerShows {A = Outcome × List ℕ} (λ x. StepFromSays kind w k (blank (length w)) x.0 x.1) (λ x. step_text x.0 x.1) text
+KindPrints kind k w text = AnswerShows {A = Result Outcome Refusal × List ℕ} (λ x. StepFromSays kind w k (blank (length w)) x.0 x.1) (λ x. step_text x.0 x.1) text
 
 abbrev pub StepPrints : Step → ℕ → List ℕ → List ℕ → Type 0
 StepPrints Necklace k w text = KindPrints necklace k w text
 StepPrints Lyndon k w text = KindPrints lyndon k w text
 StepPrints Prenecklace k w text = KindPrints prenecklace k w text
-StepPrints Bracelet k w text = AnswerShows {A = Arrival × List ℕ} (λ x. BraceletFromSays w k (blank (length w)) x.0 x.1) (λ x. arrival_text x.0 x.1) text
+StepPrints Bracelet k w text = AnswerShows {A = Result Arrival Refusal × List ℕ} (λ x. BraceletFromSays w k (blank (length w)) x.0 x.1) (λ x. arrival_text x.0 x.1) text
 
 -- ---- one reading
 
 abbrev pub AboutSays : About → ℕ → List ℕ → List ℕ → Type 0
 AboutSays Class k w text = AnswerShows (λ a. ClassifySays w k a) class_text text
-AboutSays Home k w text = AnswerShows {A = Homed × List ℕ} (λ x. HomeSays w k (blank (length w)) x.0 x.1) (λ x. home_text x.0 x.1) text
+AboutSays Home k w text = AnswerShows {A = Result Homed Refusal × List ℕ} (λ x. HomeSays w k (blank (length w)) x.0 x.1) (λ x. home_text x.0 x.1) text
 AboutSays Even k w text = AnswerShows (λ a. ToldSays (one_reading w k) (even_handed w) a) told_text text
 AboutSays Place k w text = AnswerShows (λ a. PlaceSays w k a) place_text text
 AboutSays (OfOne.Step v) k w text = StepPrints v k w text
@@ -96,10 +92,10 @@ BothSays Apart k a b text = AnswerShows (λ r. DistanceSays a b k r) distance_te
 -- ---- numbers
 
 abbrev pub ManySays : ℕ → ℕ → List ℕ → Type 0
-ManySays k n text = AnswerShows {A = Counted × Counted} (λ x. CountSays necklace k n x.0 × CountSays lyndon k n x.1) (λ x. many_text x.0 x.1) text
+ManySays k n text = AnswerShows {A = Result ℕ Refusal × Result ℕ Refusal} (λ x. CountSays necklace k n x.0 × CountSays lyndon k n x.1) (λ x. many_text x.0 x.1) text
 
 abbrev pub StripPrints : ℕ → ℕ → List ℕ → Type 0
-StripPrints k n text = AnswerShows {A = Written × List ℕ} (λ x. StripSays n k (blank (k ^ n)) x.0 x.1) (λ x. strip_text x.0 x.1) text
+StripPrints k n text = AnswerShows {A = Result Unit Refusal × List ℕ} (λ x. StripSays n k (blank (k ^ n)) x.0 x.1) (λ x. strip_text x.0 x.1) text
 
 -- ---- a reading among rings
 
@@ -109,10 +105,10 @@ SeenSays k e ts r text = AnswerShows (λ a. SightedSays ts r k e a) sight_text t
 -- ---- counts
 
 abbrev pub FirstPrints : ℕ → List ℕ → List ℕ → Type 0
-FirstPrints k cs text = AnswerShows {A = FirstAnswer × List ℕ} (λ x. FirstSays k cs (blank (sum_of cs)) x.0 x.1) (λ x. first_ring_text x.0 x.1) text
+FirstPrints k cs text = AnswerShows {A = Result Unit Refusal × List ℕ} (λ x. FirstSays k cs (blank (sum_of cs)) x.0 x.1) (λ x. first_ring_text x.0 x.1) text
 
 abbrev pub AfterPrints : ℕ → List ℕ → List ℕ → List ℕ → Type 0
-AfterPrints k w cs text = AnswerShows {A = NextAnswer × List ℕ} (λ x. NextSays w k cs (blank (length w)) x.0 x.1) (λ x. next_ring_text x.0 x.1) text
+AfterPrints k w cs text = AnswerShows {A = Result Next Refusal × List ℕ} (λ x. NextSays w k cs (blank (length w)) x.0 x.1) (λ x. next_ring_text x.0 x.1) text
 
 -- ---- shades
 
@@ -120,7 +116,7 @@ AfterPrints k w cs text = AnswerShows {A = NextAnswer × List ℕ} (λ x. NextSa
 pub data ShadesSays (k : ℕ) (xs : List Float) (text : List ℕ) : Type 0 where
   one_value : length xs ≡ 3 → AnswerShows (λ a. SectorSays (get_or xs 2 nan) k (first_card xs) a) sector_text text → ShadesSays k xs text
   several_values : 3 < length xs →
-      AnswerShows {A = RingRead × List ℕ} (λ a. RingSays (drop 2 xs) k (first_card xs) (blank (length (drop 2 xs))) a.0 a.1) (λ a. shades_text a.0 a.1) text → ShadesSays k xs text
+      AnswerShows {A = Result Unit Refusal × List ℕ} (λ a. RingSays (drop 2 xs) k (first_card xs) (blank (length (drop 2 xs))) a.0 a.1) (λ a. shades_text a.0 a.1) text → ShadesSays k xs text
 
 -- ---- a line
 
@@ -144,7 +140,7 @@ pub record LineReads (s : List ℕ) (q : Verb × List ℕ) : Type 0 where
   pub at : ℕ
   pub ends : PieceAt space s at
   pub inside : at < length s
-  pub verb : verb_of (take at s) ≡ Known q.0
+  pub verb : verb_of (take at s) ≡ Some q.0
   pub behind : q.1 ≡ drop (at + 1) s
 
 abbrev pub DeskAnswers : List ℕ → List ℕ → Type 0

@@ -16,7 +16,7 @@
 --     sight_text              front 3 turned 5 misread 1; back 3 turned 5 misread 1; several; unknown
 --     first_ring_text a c      ring 000111, where c is the ring
 --     next_ring_text a c       ring 001011, where c is the ring; done
-use Rattle.std.specs.Prelude.{ℕ, List, [], ◌∷◌, length}
+use Rattle.std.specs.Prelude.{ℕ, Bool, true, false, List, [], ◌∷◌, length, Result, Ok, Err}
 use Rattle.text_spec.specs.Ascii.{ascii}
 use Rattle.text_fill_spec.specs.Filled.{filled_text}
 use Rattle.rings.specs.declared.Class.{Class}
@@ -24,36 +24,17 @@ use Rattle.rings.specs.declared.Class.TheVariants.{Loose, Opening, Repeating, Si
 use Rattle.refusal.specs.declared.Refusal.{Refusal}
 use Rattle.refusal.specs.declared.Refusal.TheVariants.{Line}
 use Rattle.refusal.specs.Numbers.{number_of, place_of}
-use Rattle.classify_spec.specs.declared.Classified.{Classified}
-use Rattle.classify_spec.specs.declared.Classified.TheVariants as K
-use Rattle.home_spec.specs.declared.Homed.{Homed}
-use Rattle.home_spec.specs.declared.Homed.TheVariants as H
-use Rattle.home_spec.specs.declared.Told.{Told}
-use Rattle.home_spec.specs.declared.Told.TheVariants as T
-use Rattle.home_spec.specs.declared.Distance.{Distance}
-use Rattle.home_spec.specs.declared.Distance.TheVariants as D
-use Rattle.strip_spec.specs.declared.Written.{Written}
-use Rattle.strip_spec.specs.declared.Written.TheVariants as W
-use Rattle.strip_spec.specs.declared.Position.{Position}
-use Rattle.strip_spec.specs.declared.Position.TheVariants as P
-use Rattle.how_many_spec.specs.declared.Counted.{Counted}
-use Rattle.how_many_spec.specs.declared.Counted.TheVariants as C
+use Rattle.home_spec.specs.declared.Home.{Home}
 use Rattle.walk_spec.specs.declared.Outcome.{Outcome}
 use Rattle.walk_spec.specs.declared.Outcome.TheVariants as O
 use Rattle.walk_bracelet_spec.specs.declared.Arrival.{Arrival}
 use Rattle.walk_bracelet_spec.specs.declared.Arrival.TheVariants as A
 use Rattle.sight_spec.specs.declared.Sighting.{Sighting}
 use Rattle.sight_spec.specs.declared.Sighting.TheVariants as S
-use Rattle.shades_spec.specs.declared.FirstAnswer.{FirstAnswer}
-use Rattle.shades_spec.specs.declared.FirstAnswer.TheVariants as F
-use Rattle.shades_spec.specs.declared.NextAnswer.{NextAnswer}
-use Rattle.shades_spec.specs.declared.NextAnswer.TheVariants as N
+use Rattle.shades_spec.specs.declared.Next.{Next}
+use Rattle.shades_spec.specs.declared.Next.TheVariants as N
 use Rattle.density_spec.specs.declared.Sector.{Sector}
 use Rattle.density_spec.specs.declared.Sector.TheVariants as Tells
-use Rattle.density_spec.specs.declared.SectorRead.{SectorRead}
-use Rattle.density_spec.specs.declared.SectorRead.TheVariants as Sectors
-use Rattle.density_spec.specs.declared.RingRead.{RingRead}
-use Rattle.density_spec.specs.declared.RingRead.TheVariants as Rings
 use Rattle.desk_spec.specs.Floats.{digits_of}
 
 -- a text with numbers alone
@@ -76,74 +57,74 @@ name_text (Opening p) = plain_text (ascii "opening %\n") (p ∷ [])
 name_text (Repeating p) = plain_text (ascii "repeating %\n") (p ∷ [])
 name_text Single = plain_text (ascii "single\n") []
 
-abbrev pub class_text : Classified → List ℕ
-class_text (K.Is c) = name_text c
-class_text (K.Refused r) = refusal_text r
+abbrev pub class_text : Result Class Refusal → List ℕ
+class_text (Ok c) = name_text c
+class_text (Err r) = refusal_text r
 
-abbrev pub home_text : Homed → List ℕ → List ℕ
-home_text (H.Home i p) c = counted_ring_text (ascii "home @ shift % period %\n") (i ∷ p ∷ []) c
-home_text (H.Refused r) c = refusal_text r
+abbrev pub home_text : Result Home Refusal → List ℕ → List ℕ
+home_text (Ok h) c = counted_ring_text (ascii "home @ shift % period %\n") (h.shift ∷ h.period ∷ []) c
+home_text (Err r) c = refusal_text r
 
-abbrev pub told_text : Told → List ℕ
-told_text T.Yes = plain_text (ascii "yes\n") []
-told_text T.No = plain_text (ascii "no\n") []
-told_text (T.Refused r) = refusal_text r
+abbrev pub told_text : Result Bool Refusal → List ℕ
+told_text (Ok true) = plain_text (ascii "yes\n") []
+told_text (Ok false) = plain_text (ascii "no\n") []
+told_text (Err r) = refusal_text r
 
-abbrev pub distance_text : Distance → List ℕ
-distance_text (D.Apart x) = plain_text (ascii "apart %\n") (x ∷ [])
-distance_text (D.Refused r) = refusal_text r
+abbrev pub distance_text : Result ℕ Refusal → List ℕ
+distance_text (Ok x) = plain_text (ascii "apart %\n") (x ∷ [])
+distance_text (Err r) = refusal_text r
 
-abbrev pub place_text : Position → List ℕ
-place_text (P.Place p) = plain_text (ascii "place %\n") (p ∷ [])
-place_text (P.Refused r) = refusal_text r
+abbrev pub place_text : Result ℕ Refusal → List ℕ
+place_text (Ok p) = plain_text (ascii "place %\n") (p ∷ [])
+place_text (Err r) = refusal_text r
 
-abbrev pub many_text : Counted → Counted → List ℕ
-many_text (C.Rings x) (C.Rings y) = plain_text (ascii "% %\n") (x ∷ y ∷ [])
-many_text (C.Rings x) (C.Refused r) = refusal_text r
-many_text (C.Refused r) b = refusal_text r
+abbrev pub many_text : Result ℕ Refusal → Result ℕ Refusal → List ℕ
+many_text (Ok x) (Ok y) = plain_text (ascii "% %\n") (x ∷ y ∷ [])
+many_text (Ok x) (Err r) = refusal_text r
+many_text (Err r) b = refusal_text r
 
 abbrev pub stock_text : ℕ → List ℕ
 stock_text b = plain_text (ascii "%\n") (b ∷ [])
 
-abbrev pub step_text : Outcome → List ℕ → List ℕ
-step_text (O.Moved m) c = counted_ring_text (ascii "next @ moves %\n") (m ∷ []) c
-step_text (O.Done m) c = plain_text (ascii "done moves %\n") (m ∷ [])
-step_text (O.Refused r) c = refusal_text r
+abbrev pub step_text : Result Outcome Refusal → List ℕ → List ℕ
+step_text (Ok (O.Moved m)) c = counted_ring_text (ascii "next @ moves %\n") (m ∷ []) c
+step_text (Ok (O.Done m)) c = plain_text (ascii "done moves %\n") (m ∷ [])
+step_text (Err r) c = refusal_text r
 
-abbrev pub arrival_text : Arrival → List ℕ → List ℕ
-arrival_text A.Moved c = counted_ring_text (ascii "next @\n") [] c
-arrival_text A.Done c = plain_text (ascii "done\n") []
-arrival_text (A.Refused r) c = refusal_text r
+abbrev pub arrival_text : Result Arrival Refusal → List ℕ → List ℕ
+arrival_text (Ok A.Moved) c = counted_ring_text (ascii "next @\n") [] c
+arrival_text (Ok A.Done) c = plain_text (ascii "done\n") []
+arrival_text (Err r) c = refusal_text r
 
-abbrev pub strip_text : Written → List ℕ → List ℕ
-strip_text W.Strip c = counted_ring_text (ascii "@\n") [] c
-strip_text (W.Refused r) c = refusal_text r
+abbrev pub strip_text : Result Unit Refusal → List ℕ → List ℕ
+strip_text (Ok _) c = counted_ring_text (ascii "@\n") [] c
+strip_text (Err r) c = refusal_text r
 
-abbrev pub sight_text : Sighting → List ℕ
-sight_text (S.Front t i x) = plain_text (ascii "front % turned % misread %\n") (t ∷ i ∷ x ∷ [])
-sight_text (S.Back t i x) = plain_text (ascii "back % turned % misread %\n") (t ∷ i ∷ x ∷ [])
-sight_text S.Several = plain_text (ascii "several\n") []
-sight_text S.Unknown = plain_text (ascii "unknown\n") []
-sight_text (S.Refused r) = refusal_text r
+abbrev pub sight_text : Result Sighting Refusal → List ℕ
+sight_text (Ok (S.Front t i x)) = plain_text (ascii "front % turned % misread %\n") (t ∷ i ∷ x ∷ [])
+sight_text (Ok (S.Back t i x)) = plain_text (ascii "back % turned % misread %\n") (t ∷ i ∷ x ∷ [])
+sight_text (Ok S.Several) = plain_text (ascii "several\n") []
+sight_text (Ok S.Unknown) = plain_text (ascii "unknown\n") []
+sight_text (Err r) = refusal_text r
 
-abbrev pub first_ring_text : FirstAnswer → List ℕ → List ℕ
-first_ring_text F.Ring c = counted_ring_text (ascii "ring @\n") [] c
-first_ring_text (F.Refused r) c = refusal_text r
+abbrev pub first_ring_text : Result Unit Refusal → List ℕ → List ℕ
+first_ring_text (Ok _) c = counted_ring_text (ascii "ring @\n") [] c
+first_ring_text (Err r) c = refusal_text r
 
-abbrev pub next_ring_text : NextAnswer → List ℕ → List ℕ
-next_ring_text N.Ring c = counted_ring_text (ascii "ring @\n") [] c
-next_ring_text N.Done c = plain_text (ascii "done\n") []
-next_ring_text (N.Refused r) c = refusal_text r
+abbrev pub next_ring_text : Result Next Refusal → List ℕ → List ℕ
+next_ring_text (Ok N.Ring) c = counted_ring_text (ascii "ring @\n") [] c
+next_ring_text (Ok N.Done) c = plain_text (ascii "done\n") []
+next_ring_text (Err r) c = refusal_text r
 
 abbrev pub told_sector_text : Sector → List ℕ
 told_sector_text (Tells.Shade s) = plain_text (ascii "shade %\n") (s ∷ [])
 told_sector_text (Tells.Outside x) = counted_ring_text (ascii "outside @\n") [] (digits_of x)
 told_sector_text Tells.NotANumber = plain_text (ascii "not a number\n") []
 
-abbrev pub sector_text : SectorRead → List ℕ
-sector_text (Sectors.Is s) = told_sector_text s
-sector_text (Sectors.Refused r) = refusal_text r
+abbrev pub sector_text : Result Sector Refusal → List ℕ
+sector_text (Ok s) = told_sector_text s
+sector_text (Err r) = refusal_text r
 
-abbrev pub shades_text : RingRead → List ℕ → List ℕ
-shades_text Rings.Written c = counted_ring_text (ascii "ring @\n") [] c
-shades_text (Rings.Refused r) c = refusal_text r
+abbrev pub shades_text : Result Unit Refusal → List ℕ → List ℕ
+shades_text (Ok _) c = counted_ring_text (ascii "ring @\n") [] c
+shades_text (Err r) c = refusal_text r

@@ -41,10 +41,3 @@ pub enum Verb {
     After,
     Shade,
 }
-
-// The verb of a word, if it is one's name.
-#[derive(Clone, Copy)]
-pub enum Found {
-    Known(Verb),
-    Unknown,
-}

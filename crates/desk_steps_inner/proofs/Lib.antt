@@ -1,2 +1,3 @@
--- How long a ring is that a step wrote (Rings).
+-- How long a ring is that a step wrote (Rings), and what the step prints (Steps).
 pub mod Rings
+pub mod Steps

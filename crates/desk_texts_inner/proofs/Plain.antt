@@ -2,7 +2,6 @@
 --     slots-few       no character stands more often in a text than the text has characters
 --     plain-short     so a short text with no ring has room in a line
 use Prim.Native.Nat.{ℕ, ◌≤◌}
-use mathlib.Core.Path.{◌≡◌}
 use mathlib.Core.List.{List, [], ◌∷◌}
 use native.Mathlib.Omega.{arith}
 use lib.Dec.{eqb}

@@ -2,17 +2,14 @@
 
 #![tactic(auto)]
 
-ghost use Rattle.std.specs.Prelude.{◌+◌, ◌≤◌, [], ◌∷◌, length};
+ghost use Rattle.std.specs.Prelude.{◌+◌, ◌≤◌, [], ◌∷◌, length, Ok};
 ghost use Rattle.text_fill_spec.specs.Filled.{filled_text, longest};
-ghost use Rattle.desk_spec.specs.Texts.{plain_text, counted_ring_text, refusal_text, malformed_text, name_text, class_text, home_text, told_text, distance_text, place_text, many_text, stock_text};
-ghost use Rattle.desk_texts_inner.specs.Says.{desk_room, longest_ring, longest_plain, ring_line_text, done_text, LinePrinted};
+ghost use Rattle.desk_spec.specs.Texts.{plain_text, counted_ring_text, refusal_text, malformed_text, name_text, home_text, told_text, distance_text, place_text, many_text, stock_text};
+ghost use Rattle.desk_texts_inner.specs.Says.{desk_room, longest_ring, longest_plain, ring_line_text, done_text, LinePrinted, SaidPrinted};
 
-use classify_spec::Classified;
-use home_spec::{Distance, Homed, Told};
-use how_many_spec::Counted;
+use home_spec::Home;
 use refusal::Refusal;
 use rings::Class;
-use strip_spec::Position;
 
 // A filled text that is no longer than a line.
 pub fn place_line(
@@ -101,8 +98,19 @@ pub fn place_malformed(buf: &mut [u8], at: usize) -> usize
     place_refusal(buf, at, Refusal::Line)
 }
 
+// What was said where it is not refused, and the refusal's line where it is.
+pub fn place_said(buf: &mut [u8], at: usize, said: Result<usize, Refusal>) -> usize
+    requires { at + desk_room ≤ length buf.old }
+    ensures { SaidPrinted buf.old at said result buf.new }
+{
+    match said {
+        Ok(end) => end,
+        Err(r) => place_refusal(buf, at, r),
+    }
+}
+
 // A class.
-fn place_class(buf: &mut [u8], at: usize, c: Class) -> usize
+pub fn place_class(buf: &mut [u8], at: usize, c: Class) -> usize
     requires { at + desk_room ≤ length buf.old }
     ensures { LinePrinted buf.old at (name_text c) result buf.new }
 {
@@ -114,82 +122,56 @@ fn place_class(buf: &mut [u8], at: usize, c: Class) -> usize
     }
 }
 
-pub fn place_classified(buf: &mut [u8], at: usize, a: Classified) -> usize
-    requires { at + desk_room ≤ length buf.old }
-    ensures { LinePrinted buf.old at (class_text a) result buf.new }
-{
-    match a {
-        Classified::Is(c) => place_class(buf, at, c),
-        Classified::Refused(r) => place_refusal(buf, at, r),
-    }
-}
-
-pub fn place_homed(buf: &mut [u8], at: usize, a: Homed, ring: &[u8]) -> usize
+pub fn place_homed(buf: &mut [u8], at: usize, h: Home, ring: &[u8]) -> usize
     requires ring_len_bound { length ring.now ≤ longest_ring }
     requires desk_room_in_bounds { at + desk_room ≤ length buf.old }
-    ensures { LinePrinted buf.old at (home_text a ring.now) result buf.new }
+    ensures { LinePrinted buf.old at (home_text (Ok h) ring.now) result buf.new }
 {
-    match a {
-        Homed::Home { shift, period } => place_line(
-            buf,
-            at,
-            b"home @ shift % period %\n",
-            &[shift, period],
-            ring.len(),
-            ring,
-        ),
-        Homed::Refused(r) => place_refusal(buf, at, r),
-    }
+    place_line(
+        buf,
+        at,
+        b"home @ shift % period %\n",
+        &[h.shift, h.period],
+        ring.len(),
+        ring,
+    )
 }
 
-pub fn place_told(buf: &mut [u8], at: usize, a: Told) -> usize
+pub fn place_told(buf: &mut [u8], at: usize, yes: bool) -> usize
     requires { at + desk_room ≤ length buf.old }
-    ensures { LinePrinted buf.old at (told_text a) result buf.new }
+    ensures { LinePrinted buf.old at (told_text (Ok yes)) result buf.new }
 {
-    match a {
-        Told::Yes => place_words(buf, at, b"yes\n"),
-        Told::No => place_words(buf, at, b"no\n"),
-        Told::Refused(r) => place_refusal(buf, at, r),
+    if yes {
+        return place_words(buf, at, b"yes\n");
     }
+    place_words(buf, at, b"no\n")
 }
 
-pub fn place_distance(buf: &mut [u8], at: usize, a: Distance) -> usize
+pub fn place_distance(buf: &mut [u8], at: usize, d: usize) -> usize
     requires { at + desk_room ≤ length buf.old }
-    ensures { LinePrinted buf.old at (distance_text a) result buf.new }
+    ensures { LinePrinted buf.old at (distance_text (Ok d)) result buf.new }
 {
-    match a {
-        Distance::Apart(x) => place_number(buf, at, b"apart %\n", x),
-        Distance::Refused(r) => place_refusal(buf, at, r),
-    }
+    place_number(buf, at, b"apart %\n", d)
 }
 
-pub fn place_position(buf: &mut [u8], at: usize, a: Position) -> usize
+pub fn place_position(buf: &mut [u8], at: usize, p: usize) -> usize
     requires { at + desk_room ≤ length buf.old }
-    ensures { LinePrinted buf.old at (place_text a) result buf.new }
+    ensures { LinePrinted buf.old at (place_text (Ok p)) result buf.new }
 {
-    match a {
-        Position::Place(p) => place_number(buf, at, b"place %\n", p),
-        Position::Refused(r) => place_refusal(buf, at, r),
-    }
+    place_number(buf, at, b"place %\n", p)
 }
 
 // How many rings there are, and those that look different at each turn.
-pub fn place_many(buf: &mut [u8], at: usize, a: Counted, b: Counted) -> usize
+pub fn place_many(buf: &mut [u8], at: usize, all: usize, lyndon: usize) -> usize
     requires { at + desk_room ≤ length buf.old }
-    ensures { LinePrinted buf.old at (many_text a b) result buf.new }
+    ensures { LinePrinted buf.old at (many_text (Ok all) (Ok lyndon)) result buf.new }
 {
-    match a {
-        Counted::Refused(r) => place_refusal(buf, at, r),
-        Counted::Rings(x) => match b {
-            Counted::Refused(r) => place_refusal(buf, at, r),
-            Counted::Rings(y) => place_plain(buf, at, b"% %\n", &[x, y]),
-        },
-    }
+    place_plain(buf, at, b"% %\n", &[all, lyndon])
 }
 
 pub fn place_stock(buf: &mut [u8], at: usize, b: u8) -> usize
     requires { at + desk_room ≤ length buf.old }
     ensures { LinePrinted buf.old at (stock_text b) result buf.new }
 {
-    place_number(buf, at, b"%\n", b as usize)
+    place_number(buf, at, b"%\n", usize::from(b))
 }

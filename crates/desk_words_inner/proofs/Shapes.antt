@@ -7,16 +7,16 @@
 use Rattle.words.proofs.Plain.{ℕ, zero, suc, ◌+◌, ◌-◌, ◌<◌, ◌≤◌, arith, ◌≡◌, refl, sym, ap, ◌∙◌, List, [], ◌∷◌, map, length, take, drop, length-replicate}
 use Rattle.words.proofs.Plain.{length-drop, take_all}
 use Rattle.text_spec.specs.{Decimal.decimal, Text.hex_of}
-use Rattle.stream_spec.specs.Blocks.{Puts}
 use Rattle.text_words_spec.specs.Words.{pieces, PieceAt, Spelt}
 use Rattle.text_words_spec.proofs.Pieces.{pieces_more, pieces-single, more-two, more-first, more-rest}
 use Rattle.text_words_spec.proofs.Spelling.{spelt-plain}
-use Rattle.line_spec.specs.{declared.Parsed.TheVariants.Pair, declared.Parsed.TheVariants.Line, Line.FieldsSays}
+use Rattle.std.specs.Prelude.{Result, Some, None}
+use Rattle.refusal.specs.declared.Refusal.{Refusal}
+use Rattle.line_spec.specs.Line.{FieldsSays}
 use Rattle.desk_spec.specs.Questions.{ReadsReading, ReadsPair, ReadsNumbers, Replies}
 use Rattle.desk_spec.specs.{declared.Both.Both, Answers.BothSays, Answers.blank}
-use Rattle.desk_texts_inner.specs.Says.{desk_room}
+use Rattle.desk_texts_inner.specs.Says.{Answered}
 use Rattle.desk_texts_inner.proofs.Putting.{put_as}
-use Rattle.desk_words_inner.specs.declared.Head.TheVariants.{Number, Malformed}
 use Rattle.desk_words_inner.specs.Says.{ReadsBoth, SpeltBoth, BothAsked, HeadSays}
 use Rattle.desk_words_inner.proofs.Heads.{rest-words}
 
@@ -29,16 +29,16 @@ one_word : (t w : List ℕ) → Spelt t w → pieces 32 t ≡ map hex_of w ∷ [
 one_word t w s = spelt-plain 32 t w (omega arith) s ∙ ap (λ (x : List ℕ). x ∷ []) s.digits
 
 module _ (t : List ℕ) where
-  pub no-reading : HeadSays t Malformed → (q : ℕ × List ℕ) → ReadsReading t q → ⊥
+  pub no-reading : HeadSays t None → (q : ℕ × List ℕ) → ReadsReading t q → ⊥
   no-reading h q x = h q.0 (map hex_of q.1) [] x.short x.words
 
-  pub no-pair : HeadSays t Malformed → (q : ℕ × List ℕ × List ℕ) → ReadsPair t q → ⊥
+  pub no-pair : HeadSays t None → (q : ℕ × List ℕ × List ℕ) → ReadsPair t q → ⊥
   no-pair h q x = h q.0 (map hex_of q.1) (map hex_of q.2 ∷ []) x.short x.words
 
-  module _ (k at : ℕ) (h : HeadSays t (Number k at)) where
+  module _ (k at : ℕ) (h : HeadSays t (Some (k, at))) where
     -- one reading
-    pub put-reading : (Says : ℕ → List ℕ → List ℕ → Type 0) (b : List ℕ) (p r : ℕ) (b' : List ℕ) →
-        Puts (Replies (Spelt (take (length t - at) (drop at t))) (Says k)) desk_room b p r b' → Puts (Replies (ReadsReading t) (λ q. Says q.0 q.1)) desk_room b p r b'
+    pub put-reading : (Says : ℕ → List ℕ → List ℕ → Type 0) (b : List ℕ) (p : ℕ) (r : Result ℕ Refusal) (b' : List ℕ) →
+        Answered (Replies (Spelt (take (length t - at) (drop at t))) (Says k)) b p r b' → Answered (Replies (ReadsReading t) (λ q. Says q.0 q.1)) b p r b'
     put-reading Says b p r b' x = put_as _ _ _ _ on back b p r b' (rw (rest_all t at) at x)
       where
         on : (w : List ℕ) → Spelt (drop at t) w → (q : ℕ × List ℕ) × ReadsReading t q × ((u : List ℕ) → Says k w u → Says q.0 q.1 u)
@@ -50,10 +50,10 @@ module _ (t : List ℕ) where
 -- ---- two numbers
 
 module _ (t : List ℕ) where
-  pub numbers : (k n : ℕ) → FieldsSays t (Pair k n) → ReadsNumbers t (k, n)
+  pub numbers : (k n : ℕ) → FieldsSays t (Some (k, n)) → ReadsNumbers t (k, n)
   numbers k n f = record { short = f.0; second = f.1; words = f.2 }
 
-  pub no-numbers : FieldsSays t Line → (q : ℕ × ℕ) → ReadsNumbers t q → ⊥
+  pub no-numbers : FieldsSays t None → (q : ℕ × ℕ) → ReadsNumbers t q → ⊥
   no-numbers f q x = f q.0 q.1 x.short x.second x.words
 
 -- ---- outputs
@@ -85,8 +85,8 @@ module _ (v : Both) (k : ℕ) (t : List ℕ) where
   no_both e p h q x = omega (arith, h, more-two 32 t e p _ _ _ x.words)
 
   -- two words
-  pub put_both : (e : ℕ) → PieceAt 32 t e → e < length t → (b : List ℕ) (p r : ℕ) (b' : List ℕ) →
-      Puts (BothAsked v k (take e t) (take (length t - (e + 1)) (drop (e + 1) t))) desk_room b p r b' → Puts (Replies (ReadsBoth t) (SpeltBoth v k)) desk_room b p r b'
+  pub put_both : (e : ℕ) → PieceAt 32 t e → e < length t → (b : List ℕ) (p : ℕ) (r : Result ℕ Refusal) (b' : List ℕ) →
+      Answered (BothAsked v k (take e t) (take (length t - (e + 1)) (drop (e + 1) t))) b p r b' → Answered (Replies (ReadsBoth t) (SpeltBoth v k)) b p r b'
   put_both e p h b at r b' x = put_as _ _ _ _ on back b at r b' (rw (rest_all t (e + 1)) at x)
     where
       on : (q : List ℕ × List ℕ) → Spelt (take e t) q.0 × Spelt (drop (e + 1) t) q.1 → (y : List ℕ × List ℕ) × ReadsBoth t y × ((u : List ℕ) → SpeltBoth v k q u → SpeltBoth v k y u)
@@ -111,8 +111,8 @@ module _ (v : Both) (k : ℕ) (t : List ℕ) where
       )
 
   -- and a number in front of them
-  pub put-pair : (j at : ℕ) → HeadSays t (Number j at) → (b : List ℕ) (p r : ℕ) (b' : List ℕ) →
-      Puts (Replies (ReadsBoth (take (length t - at) (drop at t))) (SpeltBoth v j)) desk_room b p r b' → Puts (Replies (ReadsPair t) (λ q. BothSays v q.0 q.1 q.2)) desk_room b p r b'
+  pub put-pair : (j at : ℕ) → HeadSays t (Some (j, at)) → (b : List ℕ) (p : ℕ) (r : Result ℕ Refusal) (b' : List ℕ) →
+      Answered (Replies (ReadsBoth (take (length t - at) (drop at t))) (SpeltBoth v j)) b p r b' → Answered (Replies (ReadsPair t) (λ q. BothSays v q.0 q.1 q.2)) b p r b'
   put-pair j at h b p r b' x = put_as _ _ _ _ on back b p r b' (rw (rest_all t at) at x)
     where
       on : (q : List ℕ × List ℕ) → ReadsBoth (drop at t) q → (y : ℕ × List ℕ × List ℕ) × ReadsPair t y × ((u : List ℕ) → SpeltBoth v j q u → BothSays v y.0 y.1 y.2 u)

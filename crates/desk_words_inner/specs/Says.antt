@@ -3,7 +3,7 @@
 --     SpeltBoth v k q   what the question about them prints; BothAsked v k s t, the same where s and t are their digits
 --     HeadAtSays sep t r    t is a number, a separator and what stands behind it; or there is no number with a piece behind it
 --     HeadSays t r      the same of words, between spaces
-use Rattle.std.specs.Prelude.{ℕ, ◌<◌, ◌≤◌, ◌≡◌, List, [], ◌∷◌, map, length, drop}
+use Rattle.std.specs.Prelude.{ℕ, ◌<◌, ◌≤◌, ◌≡◌, List, [], ◌∷◌, map, length, drop, Option, Some, None}
 use Rattle.text_spec.specs.Ascii.{space}
 use Rattle.text_spec.specs.Decimal.{decimal}
 use Rattle.text_spec.specs.Text.{hex_of}
@@ -11,14 +11,12 @@ use Rattle.text_words_spec.specs.Words.{pieces, Nibbles, Spelt}
 use Rattle.desk_spec.specs.declared.Both.{Both}
 use Rattle.desk_spec.specs.Questions.{ThreeDigits, Replies}
 use Rattle.desk_spec.specs.Answers.{BothSays}
-use Rattle.desk_words_inner.specs.declared.Head.{Head}
-use Rattle.desk_words_inner.specs.declared.Head.TheVariants.{Number, Malformed}
 
-abbrev pub HeadAtSays : ℕ → List ℕ → Head → Type 0
-HeadAtSays sep t (Number k at) = ThreeDigits k × (at ≤ length t) × (pieces sep t ≡ decimal k ∷ pieces sep (drop at t)) × (0 < at)
-HeadAtSays sep t Malformed = (k : ℕ) (u : List ℕ) (us : List (List ℕ)) → ThreeDigits k → pieces sep t ≡ decimal k ∷ u ∷ us → ⊥
+abbrev pub HeadAtSays : ℕ → List ℕ → Option (ℕ × ℕ) → Type 0
+HeadAtSays sep t (Some h) = ThreeDigits h.0 × (h.1 ≤ length t) × (pieces sep t ≡ decimal h.0 ∷ pieces sep (drop h.1 t)) × (0 < h.1)
+HeadAtSays sep t None = (k : ℕ) (u : List ℕ) (us : List (List ℕ)) → ThreeDigits k → pieces sep t ≡ decimal k ∷ u ∷ us → ⊥
 
-abbrev pub HeadSays : List ℕ → Head → Type 0
+abbrev pub HeadSays : List ℕ → Option (ℕ × ℕ) → Type 0
 HeadSays t r = HeadAtSays space t r
 
 -- two readings

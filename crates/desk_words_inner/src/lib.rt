@@ -4,30 +4,20 @@
 
 ghost use Rattle.desk_words_inner.specs.Says.{HeadAtSays, HeadSays};
 
-use line_spec::Numeral;
-
 // A number and a further piece behind it: the number, and where the text goes on behind its separator; or that there are none.
-#[derive(Clone, Copy)]
-pub enum Head {
-    Number(usize, usize),
-    Malformed,
-}
-
-pub fn head_at(t: &[u8], sep: u8) -> Head
+pub fn head_at(t: &[u8], sep: u8) -> Option<(usize, usize)>
     ensures { HeadAtSays sep t.now result }
 {
     let e = text_spell_inner::piece_end(t, sep);
     if t.len() <= e {
-        return Head::Malformed;
+        return None;
     }
-    match line::parse_number(&t[..e]) {
-        Numeral::Malformed => Head::Malformed,
-        Numeral::Value(k) => Head::Number(k, e + 1),
-    }
+    let k = line::parse_number(&t[..e])?;
+    Some((k, e + 1))
 }
 
 // The same of words, between spaces.
-pub fn head_of(t: &[u8]) -> Head
+pub fn head_of(t: &[u8]) -> Option<(usize, usize)>
     ensures { HeadSays t.now result }
 {
     head_at(t, b' ')

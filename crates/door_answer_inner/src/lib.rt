@@ -3,7 +3,7 @@
 #![tactic(auto)]
 
 ghost use Rattle.std.specs.Prelude.{◌≡◌};
-ghost use Rattle.door_spec.specs.Flat.{answered, refused_by};
+ghost use Rattle.door_spec.specs.Flat.{answered, refused_by, flat_number, flat_done, flat_told};
 
 use door_spec::RingsAnswer;
 use refusal::Refusal;
@@ -25,5 +25,32 @@ pub fn refused(r: Refusal) -> RingsAnswer
         refused: refusal::number(r),
         place: refusal::place(r),
         value: 0,
+    }
+}
+
+pub fn number(a: Result<usize, Refusal>) -> RingsAnswer
+    ensures { result ≡ flat_number a }
+{
+    match a {
+        Ok(x) => value(x),
+        Err(r) => refused(r),
+    }
+}
+
+pub fn done(a: Result<(), Refusal>) -> RingsAnswer
+    ensures { result ≡ flat_done a }
+{
+    match a {
+        Ok(()) => value(1),
+        Err(r) => refused(r),
+    }
+}
+
+pub fn told(a: Result<bool, Refusal>) -> RingsAnswer
+    ensures { result ≡ flat_told a }
+{
+    match a {
+        Ok(yes) => value(usize::from(yes)),
+        Err(r) => refused(r),
     }
 }

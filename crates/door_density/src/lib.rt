@@ -6,7 +6,7 @@ ghost use Rattle.std.specs.Prelude.{◌≡◌};
 ghost use Rattle.density_spec.specs.Says.{SectorSays, RingSays};
 ghost use Rattle.door_spec.specs.Flat.{Flat, card_of, flat_sector, flat_sector_read, flat_ring_read};
 
-use density_spec::{Card, RingRead, Sector, SectorRead};
+use density_spec::{Card, Sector};
 use door_spec::{RingsAnswer, RingsSector};
 use refusal::Refusal;
 
@@ -18,7 +18,7 @@ fn flat_sector(s: Sector) -> RingsSector
             refused: 0,
             place: 0,
             kind: 1,
-            shade: x as usize,
+            shade: usize::from(x),
             outside: 0.0,
         },
         Sector::Outside(x) => RingsSector {
@@ -38,12 +38,12 @@ fn flat_sector(s: Sector) -> RingsSector
     }
 }
 
-fn flat_sector_read(a: SectorRead) -> RingsSector
+fn flat_sector_read(a: Result<Sector, Refusal>) -> RingsSector
     ensures { result ≡ flat_sector_read a }
 {
     match a {
-        SectorRead::Is(s) => flat_sector(s),
-        SectorRead::Refused(r) => RingsSector {
+        Ok(s) => flat_sector(s),
+        Err(r) => RingsSector {
             refused: refusal::number(r),
             place: refusal::place(r),
             kind: 0,
@@ -66,15 +66,6 @@ pub extern "C" fn rings_sector_shade(
     flat_sector_read(density::sector_shade(reflectance, k, card))
 }
 
-fn flat_ring_read(a: RingRead) -> RingsAnswer
-    ensures { result ≡ flat_ring_read a }
-{
-    match a {
-        RingRead::Written => door_answer_inner::value(1),
-        RingRead::Refused(r) => door_answer_inner::refused(r),
-    }
-}
-
 #[unsafe(no_mangle)]
 pub extern "C" fn rings_ring_shades(
     reflectances: &[f32],
@@ -86,5 +77,5 @@ pub extern "C" fn rings_ring_shades(
     ensures { Flat (λ a. RingSays reflectances.now k (card_of dark light) out.old a out.new) flat_ring_read result }
 {
     let card = Card { dark, light };
-    flat_ring_read(density::ring_shades(reflectances, k, card, out))
+    door_answer_inner::done(density::ring_shades(reflectances, k, card, out))
 }

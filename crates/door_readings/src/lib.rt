@@ -10,9 +10,8 @@ ghost use Rattle.home_spec.specs.Says.{HomeSays, ToldSays, DistanceSays, Closest
 ghost use Rattle.stock_spec.specs.Stock.{home_byte};
 ghost use Rattle.door_spec.specs.Flat.{Flat, class_number, class_value, flat_classified, flat_homed, flat_told, flat_distance, flat_closest};
 
-use classify_spec::Classified;
 use door_spec::{RingsAnswer, RingsClass, RingsHome, RingsNearest};
-use home_spec::{Closest, Distance, Homed, Told};
+use home_spec::{Home, Nearest};
 use refusal::Refusal;
 use rings::Class;
 
@@ -33,24 +32,22 @@ fn class_value(c: Class) -> usize
     ensures { result ≡ class_value c }
 {
     match c {
-        Class::Loose(p) => p,
-        Class::Opening(p) => p,
-        Class::Repeating(p) => p,
+        Class::Loose(p) | Class::Opening(p) | Class::Repeating(p) => p,
         Class::Single => 0,
     }
 }
 
-fn flat_classified(a: Classified) -> RingsClass
+fn flat_classified(a: Result<Class, Refusal>) -> RingsClass
     ensures { result ≡ flat_classified a }
 {
     match a {
-        Classified::Is(c) => RingsClass {
+        Ok(c) => RingsClass {
             refused: 0,
             place: 0,
             kind: class_number(c),
             value: class_value(c),
         },
-        Classified::Refused(r) => RingsClass {
+        Err(r) => RingsClass {
             refused: refusal::number(r),
             place: refusal::place(r),
             kind: 0,
@@ -68,17 +65,17 @@ pub extern "C" fn rings_classify(reading: &[u8], k: usize) -> RingsClass
 
 // ---- home
 
-fn flat_homed(a: Homed) -> RingsHome
+fn flat_homed(a: Result<Home, Refusal>) -> RingsHome
     ensures { result ≡ flat_homed a }
 {
     match a {
-        Homed::Home { shift, period } => RingsHome {
+        Ok(Home { shift, period }) => RingsHome {
             refused: 0,
             place: 0,
             shift,
             period,
         },
-        Homed::Refused(r) => RingsHome {
+        Err(r) => RingsHome {
             refused: refusal::number(r),
             place: refusal::place(r),
             shift: 0,
@@ -103,57 +100,38 @@ pub extern "C" fn rings_stock_home(target: u8) -> u8
 
 // ---- comparing
 
-fn flat_told(a: Told) -> RingsAnswer
-    ensures { result ≡ flat_told a }
-{
-    match a {
-        Told::Yes => door_answer_inner::value(1),
-        Told::No => door_answer_inner::value(0),
-        Told::Refused(r) => door_answer_inner::refused(r),
-    }
-}
-
 #[unsafe(no_mangle)]
 pub extern "C" fn rings_same(a: &[u8], b: &[u8], k: usize) -> RingsAnswer
     ensures { Flat (ToldSays (two_readings a.now b.now k) (same_ring a.now b.now)) flat_told result }
 {
-    flat_told(home::same_ring(a, b, k))
+    door_answer_inner::told(home::same_ring(a, b, k))
 }
 
 #[unsafe(no_mangle)]
 pub extern "C" fn rings_even_handed(reading: &[u8], k: usize) -> RingsAnswer
     ensures { Flat (ToldSays (one_reading reading.now k) (even_handed reading.now)) flat_told result }
 {
-    flat_told(home::even_handed(reading, k))
-}
-
-fn flat_distance(a: Distance) -> RingsAnswer
-    ensures { result ≡ flat_distance a }
-{
-    match a {
-        Distance::Apart(x) => door_answer_inner::value(x),
-        Distance::Refused(r) => door_answer_inner::refused(r),
-    }
+    door_answer_inner::told(home::even_handed(reading, k))
 }
 
 #[unsafe(no_mangle)]
 pub extern "C" fn rings_apart(a: &[u8], b: &[u8], k: usize) -> RingsAnswer
     ensures { Flat (DistanceSays a.now b.now k) flat_distance result }
 {
-    flat_distance(home::apart(a, b, k))
+    door_answer_inner::number(home::apart(a, b, k))
 }
 
-fn flat_closest(a: Closest) -> RingsNearest
+fn flat_closest(a: Result<Nearest, Refusal>) -> RingsNearest
     ensures { result ≡ flat_closest a }
 {
     match a {
-        Closest::At { distance, shift } => RingsNearest {
+        Ok(Nearest { distance, shift }) => RingsNearest {
             refused: 0,
             place: 0,
             distance,
             shift,
         },
-        Closest::Refused(r) => RingsNearest {
+        Err(r) => RingsNearest {
             refused: refusal::number(r),
             place: refusal::place(r),
             distance: 0,

@@ -9,9 +9,8 @@ ghost use Rattle.record_spec.specs.Writes.{WriteSays};
 ghost use Rattle.converter_spec.specs.Converts.{ConvertSays};
 ghost use Rattle.door_spec.specs.Flat.{Flat, kind_number, flat_entry, flat_written, flat_conversion};
 
-use converter_spec::Conversion;
 use door_spec::{RingsAnswer, RingsRecord};
-use record_spec::{Entry, Kind, Written};
+use record_spec::{Kind, Record};
 use refusal::Refusal;
 
 // ---- reading
@@ -25,11 +24,11 @@ fn kind_number(x: Kind) -> usize
     }
 }
 
-fn flat_entry(a: Entry) -> RingsRecord
+fn flat_entry(a: Result<Option<Record>, Refusal>) -> RingsRecord
     ensures { result ≡ flat_entry a }
 {
     match a {
-        Entry::Record { n, k, kind, next } => RingsRecord {
+        Ok(Some(Record { n, k, kind, next })) => RingsRecord {
             refused: 0,
             place: 0,
             kind: kind_number(kind),
@@ -37,7 +36,7 @@ fn flat_entry(a: Entry) -> RingsRecord
             k,
             next,
         },
-        Entry::End => RingsRecord {
+        Ok(None) => RingsRecord {
             refused: 0,
             place: 0,
             kind: 0,
@@ -45,7 +44,7 @@ fn flat_entry(a: Entry) -> RingsRecord
             k: 0,
             next: 0,
         },
-        Entry::Refused(r) => RingsRecord {
+        Err(r) => RingsRecord {
             refused: refusal::number(r),
             place: refusal::place(r),
             kind: 0,
@@ -65,15 +64,6 @@ pub extern "C" fn rings_read_record(catalogue: &[u8], start: usize, out: &mut [u
 
 // ---- writing
 
-fn flat_written(a: Written) -> RingsAnswer
-    ensures { result ≡ flat_written a }
-{
-    match a {
-        Written::After(x) => door_answer_inner::value(x),
-        Written::Refused(r) => door_answer_inner::refused(r),
-    }
-}
-
 #[unsafe(no_mangle)]
 pub extern "C" fn rings_write_front(
     reading: &[u8],
@@ -83,7 +73,7 @@ pub extern "C" fn rings_write_front(
 ) -> RingsAnswer
     ensures { Flat (λ a. WriteSays reading.now k Front buffer.old at a buffer.new) flat_written result }
 {
-    flat_written(writer::write_record(reading, k, Kind::Front, buffer, at))
+    door_answer_inner::number(writer::write_record(reading, k, Kind::Front, buffer, at))
 }
 
 #[unsafe(no_mangle)]
@@ -95,23 +85,14 @@ pub extern "C" fn rings_write_packed(
 ) -> RingsAnswer
     ensures { Flat (λ a. WriteSays reading.now k Packed buffer.old at a buffer.new) flat_written result }
 {
-    flat_written(writer::write_record(reading, k, Kind::Packed, buffer, at))
+    door_answer_inner::number(writer::write_record(reading, k, Kind::Packed, buffer, at))
 }
 
 // ---- converting
-
-fn flat_conversion(a: Conversion) -> RingsAnswer
-    ensures { result ≡ flat_conversion a }
-{
-    match a {
-        Conversion::Converted => door_answer_inner::value(1),
-        Conversion::Refused(r) => door_answer_inner::refused(r),
-    }
-}
 
 #[unsafe(no_mangle)]
 pub extern "C" fn rings_convert(old: &[u8], out: &mut [u8]) -> RingsAnswer
     ensures { Flat (λ a. ConvertSays old.now out.old a out.new) flat_conversion result }
 {
-    flat_conversion(converter::convert(old, out))
+    door_answer_inner::done(converter::convert(old, out))
 }

@@ -5,37 +5,28 @@
 ghost use Rattle.std.specs.Prelude.{◌≡◌, length};
 ghost use Rattle.set_spec.specs.Greedy.{picked};
 ghost use Rattle.guard_spec.specs.Choice.{guarded, chosen_by};
-ghost use Rattle.door_spec.specs.Flat.{Flat, full_number, flat_laid};
+ghost use Rattle.door_spec.specs.Flat.{Flat, flat_laid};
 ghost use Rattle.door_spec.specs.Sets.{LaidSays, Lays};
 
-use door_spec::{RingsSet, SetLaid};
+use door_spec::{Laid, RingsSet};
 use guard_spec::Rule;
-use refusal::{Checked, Refusal};
+use refusal::Refusal;
 use set_pick_spec::Picked;
 
 // The bytes of 32 places of 24 sectors.
 const PLACES: usize = 768;
 
-fn full_number(f: bool) -> usize
-    ensures { result ≡ full_number f }
-{
-    if f {
-        return 1;
-    }
-    0
-}
-
-fn flat_laid(a: SetLaid) -> RingsSet
+fn flat_laid(a: Result<Laid, Refusal>) -> RingsSet
     ensures { result ≡ flat_laid a }
 {
     match a {
-        SetLaid::Set { taken, full } => RingsSet {
+        Ok(Laid { taken, full }) => RingsSet {
             refused: 0,
             place: 0,
             taken,
-            full: full_number(full),
+            full: usize::from(full),
         },
-        SetLaid::Refused(r) => RingsSet {
+        Err(r) => RingsSet {
             refused: refusal::number(r),
             place: refusal::place(r),
             taken: 0,
@@ -45,30 +36,31 @@ fn flat_laid(a: SetLaid) -> RingsSet
 }
 
 // What was picked, laid into an output of its length where it is no refusal.
-fn lay(set: Picked, out: &mut [u8]) -> SetLaid
+fn lay(set: Picked, out: &mut [u8]) -> Result<Laid, Refusal>
     requires { length out.old ≡ 768 }
     ensures { Lays set out.old result out.new }
 {
-    let answer = set.answer;
-    match answer {
-        Checked::Refused(r) => SetLaid::Refused(r),
-        Checked::Good => {
-            let places = set.places;
-            byte_moves_inner::copy(&places, out);
-            SetLaid::Set {
-                taken: set.taken,
-                full: set.full,
-            }
-        }
-    }
+    set.answer?;
+    out.copy_from_slice(&set.places);
+    Ok(Laid {
+        taken: set.taken,
+        full: set.full,
+    })
 }
 
 // The set of a rule, laid into the output.
-fn lay_by(rule: Rule, n: usize, k: usize, d: usize, wanted: usize, out: &mut [u8]) -> SetLaid
+fn lay_by(
+    rule: Rule,
+    n: usize,
+    k: usize,
+    d: usize,
+    wanted: usize,
+    out: &mut [u8],
+) -> Result<Laid, Refusal>
     ensures { LaidSays n k d wanted (chosen_by rule n k d wanted) out.old result out.new }
 {
     if out.len() != PLACES {
-        return SetLaid::Refused(Refusal::Room);
+        return Err(Refusal::Room);
     }
     lay(sets::pick_by(rule, n, k, d, wanted), out)
 }

@@ -23,23 +23,27 @@ fn flat_one(kind: usize, target: usize, shift: usize, misread: usize) -> RingsSi
     }
 }
 
-fn flat_sighting(a: Sighting) -> RingsSighting
+fn flat_sighting(a: Result<Sighting, Refusal>) -> RingsSighting
     ensures { result ≡ flat_sighting a }
 {
     match a {
-        Sighting::Front {
-            target,
-            shift,
-            misread,
-        } => flat_one(1, target, shift, misread),
-        Sighting::Back {
-            target,
-            shift,
-            misread,
-        } => flat_one(2, target, shift, misread),
-        Sighting::Several => flat_one(3, 0, 0, 0),
-        Sighting::Unknown => flat_one(0, 0, 0, 0),
-        Sighting::Refused(r) => RingsSighting {
+        Ok(
+            Sighting::Front {
+                target,
+                shift,
+                misread,
+            },
+        ) => flat_one(1, target, shift, misread),
+        Ok(
+            Sighting::Back {
+                target,
+                shift,
+                misread,
+            },
+        ) => flat_one(2, target, shift, misread),
+        Ok(Sighting::Several) => flat_one(3, 0, 0, 0),
+        Ok(Sighting::Unknown) => flat_one(0, 0, 0, 0),
+        Err(r) => RingsSighting {
             refused: refusal::number(r),
             place: refusal::place(r),
             kind: 0,

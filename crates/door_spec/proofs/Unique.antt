@@ -3,7 +3,8 @@
 --     one-flat-out      a call with one
 --     one-laid          a set that is written to an output
 --     one-c-NAME        the function rings_NAME
-use Rattle.words.proofs.Plain.{ℕ, ◌≡◌, refl, sym, ap, ◌∙◌, Bool, List, length}
+use Rattle.std.specs.Prelude.{Result, Ok, Err}
+use Rattle.words.proofs.Plain.{ℕ, ◌≡◌, sym, ap, ◌∙◌, Bool, List, length}
 use lib.Ieee.{Float}
 use Rattle.rings.specs.Alike.{even_handed, same_ring}
 use Rattle.refusal.specs.{declared.Refusal.Refusal, Order.Given, Calls.one_reading, Calls.two_readings}
@@ -28,13 +29,12 @@ use Rattle.strip_spec.specs.Says.{StripSays, PlaceSays}
 use Rattle.strip_spec.proofs.Unique.{one-writing, one-telling}
 use Rattle.how_many_spec.specs.Says.{CountSays}
 use Rattle.how_many_spec.proofs.Unique.{one-count}
-use Rattle.set_pick_spec.specs.Order.{Askable, set_order}
+use Rattle.set_pick_spec.specs.Order.{Askable}
 use Rattle.set_pick_spec.proofs.Unique.{askable-passed}
 use Rattle.door_spec.specs.{declared.RingsAnswer.RingsAnswer, declared.RingsClass.RingsClass, declared.RingsHome.RingsHome}
 use Rattle.door_spec.specs.{declared.RingsNearest.RingsNearest, declared.RingsSighting.RingsSighting}
 use Rattle.door_spec.specs.{declared.RingsStep.RingsStep, declared.RingsRecord.RingsRecord}
-use Rattle.door_spec.specs.{declared.RingsSector.RingsSector, declared.RingsSet.RingsSet, declared.SetLaid.SetLaid}
-use Rattle.door_spec.specs.declared.SetLaid.TheVariants.{Set, Refused}
+use Rattle.door_spec.specs.{declared.RingsSector.RingsSector, declared.RingsSet.RingsSet, declared.Laid.Laid}
 use Rattle.door_spec.specs.Flat.{Flat, flat_told, flat_distance, flat_arrival, flat_first, flat_next, flat_written, flat_conversion, flat_ring_read, flat_strip, flat_position, flat_counted}
 use Rattle.door_spec.specs.Flat.{flat_classified, flat_homed, flat_closest, flat_sighting, flat_outcome, flat_entry, card_of, flat_sector_read, flat_laid}
 use Rattle.door_spec.specs.Sets.{lay_order, LaidSays}
@@ -52,20 +52,23 @@ one-flat-out P f one u v r q x y =
 
 -- ---- a set that is written to an output
 
+same-laid : (a b : Laid) → a.taken ≡ b.taken → a.full ≡ b.full → a ≡ b
+same-laid a b e h = λ i. record { taken = e i; full = h i }
+
 module _ (n k d want : ℕ) (ts : List (List ℕ)) (o : List ℕ) where
   passes : length o ≡ 768 → Askable n k d want → (r : Refusal) → Given (lay_order n k d want (length o)) r → ⊥
   passes l asked r g = never_both (lay_order n k d want (length o)) r g (l, askable-passed n k d want asked)
 
-  pub one-laid : (a b : SetLaid) (u v : List ℕ) → LaidSays n k d want ts o a u → LaidSays n k d want ts o b v → (a ≡ b) × (u ≡ v)
-  one-laid (Set t f) (Set s g) u v x y =
+  pub one-laid : (a b : Result Laid Refusal) (u v : List ℕ) → LaidSays n k d want ts o a u → LaidSays n k d want ts o b v → (a ≡ b) × (u ≡ v)
+  one-laid (Ok a) (Ok b) u v x y =
       let p = x.1 in
       let q = y.1 in
-      let e : t ≡ s = p.number ∙ sym q.number in
-      let h : f ≡ g = p.full ∙ sym q.full in
-      (λ i. Set (e i) (h i), p.places ∙ sym q.places)
-  one-laid (Set t f) (Refused r) u v x y = absurd (passes x.0 x.1.asked r y.0)
-  one-laid (Refused r) (Set t f) u v x y = absurd (passes y.0 y.1.asked r x.0)
-  one-laid (Refused r) (Refused q) u v x y = (ap Refused (one-refusal (lay_order n k d want (length o)) r q x.0 y.0), x.1 ∙ sym y.1)
+      let e : a.taken ≡ b.taken = p.number ∙ sym q.number in
+      let h : a.full ≡ b.full = p.full ∙ sym q.full in
+      (ap Ok (same-laid a b e h), p.places ∙ sym q.places)
+  one-laid (Ok a) (Err r) u v x y = absurd (passes x.0 x.1.asked r y.0)
+  one-laid (Err r) (Ok b) u v x y = absurd (passes y.0 y.1.asked r x.0)
+  one-laid (Err r) (Err q) u v x y = (ap Err (one-refusal (lay_order n k d want (length o)) r q x.0 y.0), x.1 ∙ sym y.1)
 
 -- ---- the functions
 

@@ -3,8 +3,6 @@
 
 #![tactic(auto)]
 
-use refusal::Refusal;
-
 // An answer of one number.
 #[repr(C)]
 #[derive(Clone, Copy)]
@@ -99,9 +97,9 @@ pub struct RingsSet {
     pub full: usize,
 }
 
-// What picking a set into a lent output answers; the set itself is written there.
+// What picking a set into a lent output answers where it is not refused; the set itself is written there.
 #[derive(Clone, Copy)]
-pub enum SetLaid {
-    Set { taken: usize, full: bool },
-    Refused(Refusal),
+pub struct Laid {
+    pub taken: usize,
+    pub full: bool,
 }

@@ -12,29 +12,29 @@ ghost use Rattle.door_spec.specs.Flat.{Flat, flat_outcome, flat_arrival, flat_fi
 
 use door_spec::{RingsAnswer, RingsStep};
 use refusal::Refusal;
-use shades_spec::{FirstAnswer, NextAnswer};
+use shades_spec::Next;
 use walk_bracelet_spec::Arrival;
 use walk_spec::Outcome;
 
 // ---- steps
 
-fn flat_outcome(a: Outcome) -> RingsStep
+fn flat_outcome(a: Result<Outcome, Refusal>) -> RingsStep
     ensures { result ≡ flat_outcome a }
 {
     match a {
-        Outcome::Moved(m) => RingsStep {
+        Ok(Outcome::Moved(m)) => RingsStep {
             refused: 0,
             place: 0,
             moved: 1,
             moves: m,
         },
-        Outcome::Done(m) => RingsStep {
+        Ok(Outcome::Done(m)) => RingsStep {
             refused: 0,
             place: 0,
             moved: 0,
             moves: m,
         },
-        Outcome::Refused(r) => RingsStep {
+        Err(r) => RingsStep {
             refused: refusal::number(r),
             place: refusal::place(r),
             moved: 0,
@@ -64,13 +64,13 @@ pub extern "C" fn rings_next_lyndon(reading: &[u8], k: usize, out: &mut [u8]) ->
     flat_outcome(walk_reading::next_lyndon(reading, k, out))
 }
 
-fn flat_arrival(a: Arrival) -> RingsAnswer
+fn flat_arrival(a: Result<Arrival, Refusal>) -> RingsAnswer
     ensures { result ≡ flat_arrival a }
 {
     match a {
-        Arrival::Moved => door_answer_inner::value(1),
-        Arrival::Done => door_answer_inner::value(0),
-        Arrival::Refused(r) => door_answer_inner::refused(r),
+        Ok(Arrival::Moved) => door_answer_inner::value(1),
+        Ok(Arrival::Done) => door_answer_inner::value(0),
+        Err(r) => door_answer_inner::refused(r),
     }
 }
 
@@ -83,29 +83,20 @@ pub extern "C" fn rings_next_bracelet(reading: &[u8], k: usize, out: &mut [u8]) 
 
 // ---- fixed shade counts
 
-fn flat_first(a: FirstAnswer) -> RingsAnswer
-    ensures { result ≡ flat_first a }
-{
-    match a {
-        FirstAnswer::Ring => door_answer_inner::value(1),
-        FirstAnswer::Refused(r) => door_answer_inner::refused(r),
-    }
-}
-
 #[unsafe(no_mangle)]
 pub extern "C" fn rings_first_ring(k: usize, counts: &[usize], out: &mut [u8]) -> RingsAnswer
     ensures { Flat (λ a. FirstSays k counts.now out.old a out.new) flat_first result }
 {
-    flat_first(shades::first_ring(k, counts, out))
+    door_answer_inner::done(shades::first_ring(k, counts, out))
 }
 
-fn flat_next(a: NextAnswer) -> RingsAnswer
+fn flat_next(a: Result<Next, Refusal>) -> RingsAnswer
     ensures { result ≡ flat_next a }
 {
     match a {
-        NextAnswer::Ring => door_answer_inner::value(1),
-        NextAnswer::Done => door_answer_inner::value(0),
-        NextAnswer::Refused(r) => door_answer_inner::refused(r),
+        Ok(Next::Ring) => door_answer_inner::value(1),
+        Ok(Next::Done) => door_answer_inner::value(0),
+        Err(r) => door_answer_inner::refused(r),
     }
 }
 

@@ -1,6 +1,5 @@
 -- What becomes of a block.
 --     taken-room, taken-turn           a block that was gone through
---     turn-is-on, turn-is-done, turn-is-stopped    what the code answers
 use Rattle.words.proofs.Plain.{ℕ, ◌+◌, ◌*◌, ◌≤◌, arith, ◌≡◌, refl, sym, ap, ◌∙◌, Bool, List, length, take, drop, sets-eq, take_at}
 use Rattle.refusal.specs.declared.Refusal.{Refusal}
 use Rattle.program_ending_inner.specs.declared.Ending.{Ending}
@@ -29,15 +28,3 @@ shown-stands j p b last o v d s =
 pub taken-turn : (j : Job) (w : Time) (p : ℕ) (b : List ℕ) (last : Bool) (o : List ℕ) (u : Taken) (d : List ℕ) (v : Course) → TakeSays j p b last o u d →
     v ≡ turn_of w u.how u.used → FileTurnSays j w p b last d v
 taken-turn j w p b last o u d v s e = gone u s.text s.says (shown-stands j p b last o u d s) e
-
--- ---- what the code answers
-
-module _ (w : Time) (h : How) (m : ℕ) where
-  pub turn-is-on : h ≡ H.On → On m ≡ turn_of w h m
-  turn-is-on e = rw e refl
-
-  pub turn-is-done : h ≡ H.Over → Done m ≡ turn_of w h m
-  turn-is-done e = rw e refl
-
-  pub turn-is-stopped : (r : Refusal) (t : Ending) → h ≡ H.Refused r → t ≡ refused_of w r → Stopped t ≡ turn_of w h m
-  turn-is-stopped r t e f = rw (e, f) refl

@@ -5,7 +5,8 @@
 --     turn_of w h m               what becomes of a block of which m bytes were gone through
 --     FileTurnSays j w p b last d v  the block b, which begins at the place p of the file, was gone through, and what it shows stands at the beginning of d: v is what becomes of it
 --     FileAtSays j w p b d v         the same of what was read to the block b
-use Rattle.std.specs.Prelude.{ℕ, ◌+◌, ◌*◌, ◌≤◌, ◌≡◌, Bool, true, List, length, take}
+use Rattle.std.specs.Prelude.{ℕ, ◌+◌, ◌*◌, ◌≤◌, ◌≡◌, Bool, true, List, length, take, Result, Ok, Err}
+use Rattle.refusal.specs.declared.Refusal.{Refusal}
 use Rattle.program_ending_inner.specs.declared.Ending.TheVariants as E
 use Rattle.program_passes_inner.specs.Passes.{ReadTo, Course}
 use Rattle.program_passes_inner.specs.Passes.Course.{On, Done, Stopped}
@@ -30,10 +31,10 @@ pub record RoomyFile (b d : List ℕ) : Type 0 where
   pub some : 68 ≤ length b
   pub small : SmallFile b d
 
-abbrev pub turn_of : Time → How → ℕ → Course
-turn_of w H.On m = On m
-turn_of w H.Over m = Done m
-turn_of w (H.Refused r) m = Stopped (refused_of w r)
+abbrev pub turn_of : Time → Result How Refusal → ℕ → Course
+turn_of w (Ok H.On) m = On m
+turn_of w (Ok H.Over) m = Done m
+turn_of w (Err r) m = Stopped (refused_of w r)
 
 -- ---- a block
 

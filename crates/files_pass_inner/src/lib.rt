@@ -10,37 +10,41 @@ use files_spec::{How, Job};
 use files_time_inner::Time;
 use program_ending_inner::Ending;
 use program_passes_inner::Turn;
+use refusal::Refusal;
 use std::fs::File;
 
 // The number of standard output.
 const STDOUT_FILENO: i32 = 1;
 
 // What becomes of a block that was gone through.
-fn turn_of(time: Time, how: How, used: usize) -> Turn
+fn turn_of(time: Time, how: Result<How, Refusal>, used: usize) -> Result<Turn, Ending>
     ensures { course_of result ≡ turn_of time how used }
 {
     match how {
-        How::On => program_passes_inner::turn_by(false, used),
-        How::Over => program_passes_inner::turn_by(true, used),
-        How::Refused(r) => program_passes_inner::stop(files_time_inner::refused(time, r)),
+        Ok(How::On) => Ok(Turn::On(used)),
+        Ok(How::Over) => Ok(Turn::Over(used)),
+        Err(r) => Err(files_time_inner::refused(time, r)),
     }
 }
 
 // A block that begins at `at` of the file.
-fn take_block(job: Job, time: Time, at: usize, block: &[u8], last: bool, out: &mut [u8]) -> Turn
+fn take_block(
+    job: Job,
+    time: Time,
+    at: usize,
+    block: &[u8],
+    last: bool,
+    out: &mut [u8],
+) -> Result<Turn, Ending>
     requires at_lt_limit { at < limit }
     requires small_file { SmallFile block.now out.old }
     ensures { FileTurnSays job time at block.now last out.new (course_of result) }
 {
-    let v = files_records_inner::take_records(job, at, block, last, out);
-    let m = v.len;
-    if files_time_inner::writes(time) {
-        if !io::write_all(STDOUT_FILENO, &out[..m]) {
-            return program_passes_inner::stop(Ending::Unwritten);
-        }
+    let taken = files_records_inner::take_records(job, at, block, last, out);
+    if files_time_inner::writes(time) && !io::write_all(STDOUT_FILENO, &out[..taken.len]) {
+        return Err(Ending::Unwritten);
     }
-    let how = v.how;
-    turn_of(time, how, v.used)
+    turn_of(time, taken.how, taken.used)
 }
 
 // Reads a block from `at` on, and goes through it.
@@ -51,15 +55,13 @@ pub fn take_at(
     at: usize,
     block: &mut [u8],
     out: &mut [u8],
-) -> Turn
+) -> Result<Turn, Ending>
     requires at_lt_limit { at < limit }
     requires roomy_file { RoomyFile block.old out.old }
     ensures { FileAtSays job time at block.new out.new (course_of result) }
 {
-    let part = program_passes_inner::read_block(input, at, block);
-    if part.failed {
-        return program_passes_inner::stop(files_time_inner::failed(time));
-    }
-    let n = part.len;
-    take_block(job, time, at, &block[..n], part.last, out)
+    let Some(part) = program_passes_inner::read_block(input, at, block) else {
+        return Err(files_time_inner::failed(time));
+    };
+    take_block(job, time, at, &block[..part.len], part.last, out)
 }

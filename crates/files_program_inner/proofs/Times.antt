@@ -1,13 +1,13 @@
 -- What becomes of a time through the file.
 --     roomy-still                      lent and given back, there is as much room
 --     reached-none                     before the first block
---     at_on, at-ends, at-within        behind a block: another is read, or none
+--     at_on, at_done, at-stopped       behind a block: another is read, or none
 --     written-told, through-written    how both times ended
 use Rattle.words.proofs.Plain.{ℕ, ◌+◌, ◌*◌, ◌<◌, ◌≤◌, arith, ◌≡◌, refl, sym, ap, ◌∙◌, ◌⊎◌, inl, inr, Bool, true, false, true≢false, List, [], ◌++◌, eqb, length}
 use Rattle.words.proofs.Plain.{take, drop, length-append, length-take, length-drop, eqb-true}
 use Rattle.words.proofs.Split.{passes, fails, test}
 use Rattle.refusal.specs.{declared.Refusal.Refusal, Numbers.number_of, Numbers.place_of}
-use Rattle.refusal.specs.declared.Checked.TheVariants as C
+use Rattle.std.specs.Prelude.{Result, Ok, Err}
 use Rattle.program_ending_inner.specs.declared.Ending.{Ending}
 use Rattle.program_ending_inner.specs.declared.Ending.TheVariants as E
 use Rattle.program_passes_inner.specs.Passes.{limit, same_end, Course, goes_further, EndWithin, finish_at}
@@ -28,40 +28,22 @@ use Rattle.files_program_inner.specs.Says.FileThroughSays.{stopped, whole}
 pub roomy-still : (b d f g : List ℕ) → RoomyFile b d → length f ≡ length b → length g ≡ length d → RoomyFile f g
 roomy-still b d f g r k l = record { some = omega (arith, r.some); small = record { short = omega (arith, r.small.short); room = omega (arith, r.small.room) } }
 
--- ---- which of the three a course is
+-- ---- which course a block takes
 
-abbrev which : Course → ℕ
-which (On m) = 0
-which (Done m) = 1
-which (Stopped t) = 2
+on-is : (w : Time) (h : Result How Refusal) (n m : ℕ) → turn_of w h n ≡ On m → (h ≡ Ok H.On) × (n ≡ m)
+on-is w (Ok H.On) n m e = (refl, cc)
+on-is w (Ok H.Over) n m e = absurd (cc)
+on-is w (Err r) n m e = absurd (cc)
 
-abbrev size_of : Course → ℕ
-size_of (On m) = m
-size_of (Done m) = m
-size_of (Stopped t) = 0
+done-is : (w : Time) (h : Result How Refusal) (n m : ℕ) → turn_of w h n ≡ Done m → (h ≡ Ok H.Over) × (n ≡ m)
+done-is w (Ok H.On) n m e = absurd (cc)
+done-is w (Ok H.Over) n m e = (refl, cc)
+done-is w (Err r) n m e = absurd (cc)
 
-abbrev why : Course → Ending
-why (On m) = E.Whole
-why (Done m) = E.Whole
-why (Stopped t) = t
-
-other : (a b : Course) (x y : ℕ) → a ≡ b → which a ≡ x → which b ≡ y → (x ≡ y → ⊥) → ⊥
-other a b x y e f g n = n (sym f ∙ ap which e ∙ g)
-
-on-is : (w : Time) (h : How) (n m : ℕ) → turn_of w h n ≡ On m → (h ≡ H.On) × (n ≡ m)
-on-is w H.On n m e = (refl, ap size_of e)
-on-is w H.Over n m e = absurd (other _ _ 1 0 e refl refl (λ z. omega arith))
-on-is w (H.Refused r) n m e = absurd (other _ _ 2 0 e refl refl (λ z. omega arith))
-
-done-is : (w : Time) (h : How) (n m : ℕ) → turn_of w h n ≡ Done m → (h ≡ H.Over) × (n ≡ m)
-done-is w H.On n m e = absurd (other _ _ 0 1 e refl refl (λ z. omega arith))
-done-is w H.Over n m e = (refl, ap size_of e)
-done-is w (H.Refused r) n m e = absurd (other _ _ 2 1 e refl refl (λ z. omega arith))
-
-stopped-is : (w : Time) (h : How) (n : ℕ) (t : Ending) → turn_of w h n ≡ Stopped t → (r : Refusal) × (h ≡ H.Refused r) × (refused_of w r ≡ t)
-stopped-is w H.On n t e = absurd (other _ _ 0 2 e refl refl (λ z. omega arith))
-stopped-is w H.Over n t e = absurd (other _ _ 1 2 e refl refl (λ z. omega arith))
-stopped-is w (H.Refused r) n t e = (r, refl, ap why e)
+stopped-is : (w : Time) (h : Result How Refusal) (n : ℕ) (t : Ending) → turn_of w h n ≡ Stopped t → (r : Refusal) × (h ≡ Err r) × (refused_of w r ≡ t)
+stopped-is w (Ok H.On) n t e = absurd (cc)
+stopped-is w (Ok H.Over) n t e = absurd (cc)
+stopped-is w (Err r) n t e = (r, refl, cc)
 
 -- ---- behind a block
 
@@ -76,85 +58,68 @@ on-reached j p b last u t s (c, x, l, r) =
     (c ++ m, x ++ s.shown, omega (arith, length-append c m, length-take u.used b, s.inside), records-joined j 0 c x m s.shown r (rw e s.records))
 
 reached-told : (j : Job) (e : ℕ) → FileReached j e → FileTold j e
-reached-told j e (c, x, l, r) = (c, x ++ last_text j C.Good, l, told_over j c x r)
+reached-told j e (c, x, l, r) = (c, x ++ last_text j (Ok tt), l, told_over j c x r)
 
 reached-broken : (j : Job) (p : ℕ) (b : List ℕ) (last : Bool) (r : Refusal) → FileReached j p → BadRecord last b p r → Broken j r
-reached-broken j p b last r (c, x, l, s) h = (c ++ b, x ++ last_text j (C.Refused r), told-bad j c x b last r s (rw l h))
+reached-broken j p b last r (c, x, l, s) h = (c ++ b, x ++ last_text j (Err r), told-bad j c x b last r s (rw l h))
 
 refused-stops : (j : Job) (w : Time) (r : Refusal) → Broken j r → FileStopSays j w (refused_of w r)
 refused-stops j Only r h = (refl, (r, h))
 refused-stops j First r h = (refl, (r, h, refl, refl))
 refused-stops j Second r h = refl
 
-abbrev second : Time → ℕ
-second Only = 0
-second First = 0
-second Second = 1
-
 failed-stops : (j : Job) (w : Time) → FileStopSays j w (file_failed_of w)
-failed-stops j Only = λ e. let z : ◌≡◌ {A = ℕ} 0 1 = ap second e in omega arith
-failed-stops j First = λ e. let z : ◌≡◌ {A = ℕ} 0 1 = ap second e in omega arith
+failed-stops j Only = λ e. cc
+failed-stops j First = λ e. cc
 failed-stops j Second = refl
 
 module _ (j : Job) (w : Time) (p : ℕ) (q : FileReached j p) (v : Course) where
   -- a block that is not the last has a whole record
   turn_on : (b : List ℕ) (last : Bool) (d : List ℕ) (m : ℕ) → v ≡ On m → 68 ≤ length b → FileTurnSays j w p b last d v → (0 < m) × (m ≤ length b) × FileReached j (p + m)
-  turn_on b last d m e l (unwritten f g) = absurd (other _ _ 0 2 (sym e ∙ g) refl refl (λ z. omega arith))
+  turn_on b last d m e l (unwritten f g) = absurd (cc)
   turn_on b last d m e l (gone u t s f g) =
       let k = on-is w u.how u.used m (sym g ∙ e) in
-      let h : Left j u.place (drop u.used b) last H.On s.behind = rw k.0 at s.left in
+      let h : Left j u.place (drop u.used b) last (Ok H.On) s.behind = rw k.0 at s.left in
       let i = k.1 in
       (omega (arith, i, h.1, length-drop u.used b), omega (arith, i, s.inside), rw i at (on-reached j p b last u t s q))
 
   -- behind the last none follows
   turn_last : (b d : List ℕ) (m : ℕ) → v ≡ On m → FileTurnSays j w p b true d v → ⊥
-  turn_last b d m e (unwritten f g) = other _ _ 0 2 (sym e ∙ g) refl refl (λ z. omega arith)
+  turn_last b d m e (unwritten f g) = cc
   turn_last b d m e (gone u t s f g) =
       let k = on-is w u.how u.used m (sym g ∙ e) in
-      let h : Left j u.place (drop u.used b) true H.On s.behind = rw k.0 at s.left in
+      let h : Left j u.place (drop u.used b) true (Ok H.On) s.behind = rw k.0 at s.left in
       true≢false h.0
 
   turn-done : (b : List ℕ) (last : Bool) (d : List ℕ) (m : ℕ) → v ≡ Done m → FileTurnSays j w p b last d v → (m ≤ length b) × FileTold j (p + m)
-  turn-done b last d m e (unwritten f g) = absurd (other _ _ 1 2 (sym e ∙ g) refl refl (λ z. omega arith))
+  turn-done b last d m e (unwritten f g) = absurd (cc)
   turn-done b last d m e (gone u t s f g) =
       let i = (done-is w u.how u.used m (sym g ∙ e)).1 in
       (omega (arith, i, s.inside), rw i at (reached-told j (p + u.used) (on-reached j p b last u t s q)))
 
   turn_stopped : (b : List ℕ) (last : Bool) (d : List ℕ) (t : Ending) → v ≡ Stopped t → FileTurnSays j w p b last d v → FileStopSays j w t
-  turn_stopped b last d t e (unwritten f g) = let k : t ≡ E.Unwritten = ap why (sym e ∙ g) in rw k f
+  turn_stopped b last d t e (unwritten f g) = let k : t ≡ E.Unwritten = cc in rw k f
   turn_stopped b last d t e (gone u x s f g) =
       let k = stopped-is w u.how u.used t (sym g ∙ e) in
-      let h : Left j u.place (drop u.used b) last (H.Refused k.0) s.behind = rw k.1 at s.left in
+      let h : Left j u.place (drop u.used b) last (Err k.0) s.behind = rw k.1 at s.left in
       let a : BadRecord last (drop u.used b) (p + u.used) k.0 = rw s.place at h.0 in
       rw (sym k.2) (refused-stops j w k.0 (reached-broken j (p + u.used) (drop u.used b) last k.0 (on-reached j p b last u x s q) a))
 
   pub at_on : (b d : List ℕ) (m : ℕ) → v ≡ On m → 68 ≤ length b → FileAtSays j w p b d v → (0 < m) × (m ≤ length b) × FileReached j (p + m)
-  at_on b d m e l (unread f) = absurd (other _ _ 0 2 (sym e ∙ f) refl refl (λ z. omega arith))
+  at_on b d m e l (unread f) = absurd (cc)
   at_on b d m e l (read true n i h) = absurd (turn_last (take n b) d m e h)
   at_on b d m e l (read false n i h) =
       let j : length (take n b) ≡ length b = omega (arith, i, length-take n b) in
       let k = turn_on (take n b) false d m e (omega (arith, j, l)) h in
       (k.0, omega (arith, j, k.1), k.2)
 
-  at_done : (b d : List ℕ) (m : ℕ) → v ≡ Done m → FileAtSays j w p b d v → (m ≤ length b) × FileTold j (p + m)
-  at_done b d m e (unread f) = absurd (other _ _ 1 2 (sym e ∙ f) refl refl (λ z. omega arith))
+  pub at_done : (b d : List ℕ) (m : ℕ) → v ≡ Done m → FileAtSays j w p b d v → (m ≤ length b) × FileTold j (p + m)
+  at_done b d m e (unread f) = absurd (cc)
   at_done b d m e (read last n i h) = let k = turn-done (take n b) last d m e h in (omega (arith, k.0, length-take n b), k.1)
 
-  at-stopped : (b d : List ℕ) (t : Ending) → v ≡ Stopped t → FileAtSays j w p b d v → FileStopSays j w t
-  at-stopped b d t e (unread f) = let k : t ≡ file_failed_of w = ap why (sym e ∙ f) in rw k (failed-stops j w)
+  pub at-stopped : (b d : List ℕ) (t : Ending) → v ≡ Stopped t → FileAtSays j w p b d v → FileStopSays j w t
+  at-stopped b d t e (unread f) = let k : t ≡ file_failed_of w = cc in rw k (failed-stops j w)
   at-stopped b d t e (read last n i h) = turn_stopped (take n b) last d t e h
-
-module _ (j : Job) (w : Time) (p : ℕ) (q : FileReached j p) (b d : List ℕ) where
-  -- how a time ends with a block
-  pub at-ends : (v : Course) → 68 ≤ length b → goes_further p v ≡ false → FileAtSays j w p b d v → FilePassSays j w (finish_at p v)
-  at-ends (On m) l e h = (p + m, too_far p m e, (at_on j w p q (On m) b d m refl l h).2)
-  at-ends (Done m) l e h = (at_done j w p q (Done m) b d m refl h).1
-  at-ends (Stopped t) l e h = at-stopped j w p q (Stopped t) b d t refl h
-
-  pub at-within : (v : Course) → p < limit → length b ≤ most → FileAtSays j w p b d v → EndWithin p v
-  at-within (On m) i l h = tt
-  at-within (Done m) i l h = omega (arith, (at_done j w p q (Done m) b d m refl h).0)
-  at-within (Stopped t) i l h = tt
 
 -- ---- how a time ended
 

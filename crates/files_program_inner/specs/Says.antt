@@ -7,7 +7,7 @@
 --     FileWrittenSays, FileThroughSays   how a second time ended, and the whole: `Whole` only where the file was a good catalogue, or its damage was told in the text itself
 use Rattle.std.specs.Prelude.{ℕ, ◌≤◌, ◌≡◌, ◌⊎◌, Bool, true, false, List, length}
 use Rattle.refusal.specs.declared.Refusal.{Refusal}
-use Rattle.refusal.specs.declared.Checked.TheVariants as C
+use Rattle.std.specs.Prelude.{Ok, Err}
 use Rattle.refusal.specs.Numbers.{number_of, place_of}
 use Rattle.program_ending_inner.specs.declared.Ending.{Ending}
 use Rattle.program_ending_inner.specs.declared.Ending.TheVariants as E
@@ -36,10 +36,10 @@ abbrev pub FileReached : Job → ℕ → Type 0
 FileReached j e = (c : List ℕ) × (t : List ℕ) × (length c ≡ e) × Records j 0 c t
 
 abbrev pub FileTold : Job → ℕ → Type 0
-FileTold j e = (c : List ℕ) × (t : List ℕ) × (length c ≡ e) × ShowsAll j c C.Good t
+FileTold j e = (c : List ℕ) × (t : List ℕ) × (length c ≡ e) × ShowsAll j c (Ok tt) t
 
 abbrev pub Broken : Job → Refusal → Type 0
-Broken j r = (c : List ℕ) × (t : List ℕ) × ShowsAll j c (C.Refused r) t
+Broken j r = (c : List ℕ) × (t : List ℕ) × ShowsAll j c (Err r) t
 
 abbrev pub FileStopSays : Job → Time → Ending → Type 0
 FileStopSays j w E.Whole = (w ≡ Only) × ((r : Refusal) × Broken j r)

@@ -12,7 +12,7 @@ ghost use Rattle.files_program_inner.specs.Says.{once_for, FilePassSays, FileWri
 use files_spec::Job;
 use files_time_inner::Time;
 use program_ending_inner::Ending;
-use program_passes_inner::Pass;
+use program_passes_inner::{LIMIT, Turn};
 use std::fs::File;
 use std::rt::HostRuntime;
 
@@ -20,17 +20,28 @@ use std::rt::HostRuntime;
 const STDERR_FILENO: i32 = 2;
 
 // Once through the file.
-fn go_once(input: &mut File, job: Job, time: Time, block: &mut [u8], out: &mut [u8]) -> Pass
+fn go_once(
+    input: &mut File,
+    job: Job,
+    time: Time,
+    block: &mut [u8],
+    out: &mut [u8],
+) -> Result<usize, Ending>
     requires { RoomyFile block.old out.old }
     ensures { FilePassSays job time (finish_of result) }
 {
     let mut at = 0;
     loop {
-        let t = files_pass_inner::take_at(input, job, time, at, block, out);
-        if !program_passes_inner::goes_on(at, t) {
-            return program_passes_inner::finish(at, t);
+        let left = LIMIT - at;
+        match files_pass_inner::take_at(input, job, time, at, block, out)? {
+            Turn::On(used) => {
+                if left <= used {
+                    return Err(Ending::TooLong);
+                }
+                at += used;
+            }
+            Turn::Over(used) => return Ok(at + used),
         }
-        at += t.used;
     }
 }
 
@@ -40,11 +51,10 @@ fn go_only(input: &mut File, job: Job, block: &mut [u8], out: &mut [u8]) -> Endi
     requires job_value { once_for job ≡ true }
     ensures { FileThroughSays job result }
 {
-    let only = go_once(input, job, Time::Only, block, out);
-    if only.through {
-        return Ending::Whole;
+    match go_once(input, job, Time::Only, block, out) {
+        Ok(_) => Ending::Whole,
+        Err(why) => why,
     }
-    only.why
 }
 
 // The second time, behind a first that went through to the place `end`.
@@ -52,11 +62,10 @@ fn go_again(input: &mut File, job: Job, end: usize, block: &mut [u8], out: &mut 
     requires { RoomyFile block.old out.old }
     ensures { FileWrittenSays job end result }
 {
-    let second = go_once(input, job, Time::Second, block, out);
-    if second.through {
-        return program_passes_inner::same_end(end, second.at);
+    match go_once(input, job, Time::Second, block, out) {
+        Ok(again) => program_passes_inner::same_end(end, again),
+        Err(why) => why,
     }
-    second.why
 }
 
 // Both times.
@@ -65,11 +74,10 @@ fn go_twice(input: &mut File, job: Job, block: &mut [u8], out: &mut [u8]) -> End
     requires job_value { once_for job ≡ false }
     ensures { FileThroughSays job result }
 {
-    let first = go_once(input, job, Time::First, block, out);
-    if first.through {
-        return go_again(input, job, first.at, block, out);
+    match go_once(input, job, Time::First, block, out) {
+        Ok(end) => go_again(input, job, end, block, out),
+        Err(why) => why,
     }
-    first.why
 }
 
 // As often as the job asks. What does not stand at the beginning of a file cannot be read from there.

@@ -16,16 +16,7 @@ const LONGEST: usize = 68;
 pub fn enough(left: usize, last: bool) -> bool
     ensures { EnoughSays last left result }
 {
-    if left == 0 {
-        return false;
-    }
-    if last {
-        return true;
-    }
-    if left < LONGEST {
-        return false;
-    }
-    true
+    if last { left != 0 } else { left >= LONGEST }
 }
 
 // Behind `used` bytes of good records no other is read of the block.
@@ -37,14 +28,14 @@ pub fn finish(job: Job, last: bool, place: usize, used: usize, out: &mut [u8], l
     if last {
         let e = files_end_inner::place_end(job, out, len);
         return Taken {
-            how: How::Over,
+            how: Ok(How::Over),
             used,
             place: after,
             len: e,
         };
     }
     Taken {
-        how: How::On,
+        how: Ok(How::On),
         used,
         place: after,
         len,

@@ -6,53 +6,49 @@
 --     going-room, going-stop     there is room; and where no other is read
 --     left_over, left-bad        why no other is read
 --     turn-size, turn_on, turn-same, turn-stop, turn-over    a turn, by what it gave
-use Rattle.words.proofs.Plain.{ℕ, ◌+◌, ◌-◌, ◌*◌, ◌<◌, ◌≤◌, arith, ◌≡◌, refl, sym, ap, subst, ◌∙◌, Bool, true, false, List, [], ◌∷◌, ◌++◌, length, take, drop}
-use Rattle.words.proofs.Plain.{length-append, length-take, length-drop, take-add, take_all}
+use Rattle.words.proofs.Plain.{ℕ, ◌+◌, ◌-◌, ◌*◌, ◌<◌, ◌≤◌, arith, ◌≡◌, refl, Bool, true, false, List, [], ◌∷◌, ◌++◌, length, take, drop}
+use Rattle.words.proofs.Plain.{length-take, length-drop, take-add, take_all}
 use Rattle.words.proofs.Split.{lt, eq, gt, tri}
 use Rattle.text_spec.specs.Put.{Placed}
 use Rattle.text_spec.proofs.Put.{placed-none, placed-append, placed-length}
 use Rattle.refusal.specs.{declared.Refusal.Refusal, Order.Given}
-use Rattle.record_spec.specs.{declared.Kind.Kind, declared.Entry.Entry, Order.record_order, Says.Read, Says.ReadSays}
-use Rattle.record_spec.specs.declared.Entry.TheVariants as E
+use Rattle.std.specs.Prelude.{Result, Ok, Err, Some}
+use Rattle.record_spec.specs.{declared.Record.Record, Order.record_order, Says.Read, Says.ReadSays}
 use Rattle.record_spec.specs.Layout.{body_length, n_of, k_of}
-use Rattle.record_body_inner.specs.Steps.{RecordSays}
 use Rattle.record_spec.proofs.{Forms.some_bytes, Rounds.length-answer, Rounds.answer-passes}
 use Rattle.stream_spec.specs.Blocks.{Puts}
 use Rattle.files_spec.specs.{declared.Job.Job, declared.How.How, declared.Taken.Taken, Shows.Shows}
-use Rattle.files_spec.specs.declared.How.TheVariants as H
-use Rattle.files_spec.specs.Blocks.{One, Records, none, more, Enough, BadRecord, Left, TakenSays, TakeSays}
+use Rattle.files_spec.specs.Blocks.{Records, none, more, Left, TakeSays}
 use Rattle.files_spec.proofs.Joined.{read-own}
-use Rattle.files_text_inner.specs.Room.{record_room, Answered}
+use Rattle.files_text_inner.specs.Room.{record_room, PassedRing}
 use Rattle.files_records_end_inner.specs.Says.{EnoughSays, left_of, BehindText, RecordsStopSays}
-use Rattle.files_records_inner.specs.{declared.Step.Step, Says.share, Says.RecordStepSays}
-use Rattle.files_records_inner.specs.declared.Step.TheVariants as S
+use Rattle.files_records_inner.specs.{Says.share, Says.RecordStepSays}
 
 -- ---- a record
 
-module _ (t : List ℕ) (s : ℕ) (o : List ℕ) (n k : ℕ) (x : Kind) (next : ℕ) (d : List ℕ) (l : length o ≡ 64) (h : Read t s o n k x next d) where
+module _ (t : List ℕ) (s : ℕ) (o : List ℕ) (r : Record) (d : List ℕ) (l : length o ≡ 64) (h : Read t s o r.n r.k r.kind r.next d) where
   -- the same record at the beginning of a catalogue
-  first : ReadSays t 0 o (E.Record n k x (4 + body_length x n k)) d
+  abbrev first_record : Record
+  first_record = record { n = r.n; k = r.k; kind = r.kind; next = 4 + body_length r.kind r.n r.k }
+
+  first : ReadSays t 0 o (Ok (Some first_record)) d
   first = (
     l,
     omega (arith, h.good.0.1),
     record { good = h.good; marked = h.marked; sectors = h.sectors; shades = h.shades; follows = omega arith; ring = h.ring },
   )
 
-  pub answered-ring : Answered n k (take n d)
-  answered-ring =
-      record {
-        long = length-answer t 0 o n k x (4 + body_length x n k) d first;
-        passed = answer-passes t 0 o n k x (4 + body_length x n k) d first;
-      }
+  pub answered-ring : PassedRing r.n r.k (take r.n d)
+  answered-ring = record { long = length-answer t 0 o first_record d first; passed = answer-passes t 0 o first_record d first }
 
-  same : body_length x n k ≡ body_length x (n_of t) (k_of t)
+  same : body_length r.kind r.n r.k ≡ body_length r.kind (n_of t) (k_of t)
   same = rw (h.sectors, h.shades) refl
 
   -- it has bytes, and stands in t
-  pub size : (s + 5 ≤ next) × (next ≤ s + length t)
-  size = omega (arith, h.follows, same, h.good.0.1, some_bytes (n_of t) (k_of t) x h.good.0.0.0.0 h.good.0.0.1)
+  pub size : (s + 5 ≤ r.next) × (r.next ≤ s + length t)
+  size = omega (arith, h.follows, same, h.good.0.1, some_bytes (n_of t) (k_of t) r.kind h.good.0.0.0.0 h.good.0.0.1)
 
-  pub step_after : (j : Job) (b : List ℕ) (at e : ℕ) (f : List ℕ) → Puts (Shows j s n k x (take n d)) record_room b at e f → RecordStepSays j s t b at (S.After (next - s) e) f
+  pub step_after : (j : Job) (b : List ℕ) (at e : ℕ) (f : List ℕ) → Puts (Shows j s r.n r.k r.kind (take r.n d)) record_room b at e f → RecordStepSays j s t b at (Ok (r.next - s, e)) f
   step_after j b at e f p = (
     omega (arith, size),
     omega (arith, size),
@@ -60,13 +56,13 @@ module _ (t : List ℕ) (s : ℕ) (o : List ℕ) (n k : ℕ) (x : Kind) (next : 
       text = p.text;
       says =
           record {
-            n = n;
-            k = k;
-            kind = x;
+            n = r.n;
+            k = r.k;
+            kind = r.kind;
             before = o;
             after = d;
             room = l;
-            read = let q : next ≡ s + (next - s) = omega (arith, size) in read-own t s o n k x (next - s) d (rw q at h);
+            read = let q : r.next ≡ s + (r.next - s) = omega (arith, size) in read-own t s o r.n r.k r.kind (r.next - s) d (rw q at h);
             shows = p.says;
           };
       short = p.short;
@@ -89,7 +85,7 @@ going-none j p b o = record { inside = omega arith; shown = []; records = none; 
 
 -- one record more
 pub going_on : (j : Job) (p : ℕ) (b o : List ℕ) (i len : ℕ) (d : List ℕ) (m e : ℕ) (f : List ℕ) → Going j p b o i len d →
-    RecordStepSays j (p + i) (drop i b) d len (S.After m e) f → Going j p b o (i + m) e f
+    RecordStepSays j (p + i) (drop i b) d len (Ok (m, e)) f → Going j p b o (i + m) e f
 going_on j p b o i len d m e f g (u, v, q) =
     record {
       inside = omega (arith, g.inside, length-drop i b);
@@ -107,7 +103,7 @@ pub going-room : (j : Job) (p : ℕ) (b o : List ℕ) (i len : ℕ) (d : List �
 going-room j p b o i len d g h = omega (arith, placed-length o 0 g.shown len d g.placed, g.short, g.inside, h)
 
 -- no other record is read
-pub going-stop : (j : Job) (p : ℕ) (b : List ℕ) (last : Bool) (o : List ℕ) (i len : ℕ) (d : List ℕ) (h : How) (v : Taken) (f : List ℕ) →
+pub going-stop : (j : Job) (p : ℕ) (b : List ℕ) (last : Bool) (o : List ℕ) (i len : ℕ) (d : List ℕ) (h : Result How Refusal) (v : Taken) (f : List ℕ) →
     Going j p b o i len d → length b * share + record_room ≤ length o → RecordsStopSays j p i h d len v f →
     ((t : List ℕ) → BehindText j h t → Left j (p + i) (drop i b) last h t) → TakeSays j p b last o v f
 going-stop j p b last o i len d h v f g room s k =
@@ -139,7 +135,7 @@ left_over j p b false k t e = (refl, short, e)
     short = elim (tri (length b) 68) [ lt h ↦ h | eq h ↦ absurd (k (omega arith)) | gt h ↦ absurd (k (omega arith)) ]
 
 pub left-bad : (j : Job) (p : ℕ) (b : List ℕ) (last : Bool) (r : Refusal) → EnoughSays last (length b) true → Given (record_order b p) r →
-    (t : List ℕ) → BehindText j (H.Refused r) t → Left j p b last (H.Refused r) t
+    (t : List ℕ) → BehindText j (Err r) t → Left j p b last (Err r) t
 left-bad j p b last r k g t e = (record { enough = k; given = g }, e)
 
 -- ---- a turn
@@ -152,27 +148,27 @@ rest-is : (b : List ℕ) (i : ℕ) → rest_of b i ≡ drop i b
 rest-is b i = take_all (length b - i) (drop i b) (omega (arith, length-drop i b))
 
 module _ (j : Job) (p : ℕ) (b o : List ℕ) (i len : ℕ) (d : List ℕ) (g : Going j p b o i len d) where
-  module _ (v : Step) (f : List ℕ) (h : RecordStepSays j (p + i) (rest_of b i) d len v f) where
+  module _ (v : Result (ℕ × ℕ) Refusal) (f : List ℕ) (h : RecordStepSays j (p + i) (rest_of b i) d len v f) where
     -- a record was read
-    pub turn-size : (m e : ℕ) → v ≡ S.After m e → (5 ≤ m) × (i + m ≤ length b)
+    pub turn-size : (m e : ℕ) → v ≡ Ok (m, e) → (5 ≤ m) × (i + m ≤ length b)
     turn-size m e q =
-        let k : RecordStepSays j (p + i) (rest_of b i) d len (S.After m e) f = rw q at h in
+        let k : RecordStepSays j (p + i) (rest_of b i) d len (Ok (m, e)) f = rw q at h in
         omega (arith, k.0, k.1, length-drop i b, length-take (length b - i) (drop i b), g.inside)
 
-    pub turn_on : (m e : ℕ) → v ≡ S.After m e → Going j p b o (i + m) e f
-    turn_on m e q = let k : RecordStepSays j (p + i) (drop i b) d len (S.After m e) f = rw (rest-is b i, q) at h in going_on j p b o i len d m e f g k
+    pub turn_on : (m e : ℕ) → v ≡ Ok (m, e) → Going j p b o (i + m) e f
+    turn_on m e q = let k : RecordStepSays j (p + i) (drop i b) d len (Ok (m, e)) f = rw (rest-is b i, q) at h in going_on j p b o i len d m e f g k
 
     -- one was refused
-    pub turn-same : (r : Refusal) → v ≡ S.Refused r → f ≡ d
-    turn-same r q = let k : RecordStepSays j (p + i) (rest_of b i) d len (S.Refused r) f = rw q at h in k.1
+    pub turn-same : (r : Refusal) → v ≡ Err r → f ≡ d
+    turn-same r q = let k : RecordStepSays j (p + i) (rest_of b i) d len (Err r) f = rw q at h in k.1
 
-    pub turn-stop : (last : Bool) (r : Refusal) (w : Taken) (u : List ℕ) (y : Bool) → v ≡ S.Refused r → y ≡ true → EnoughSays last (length b - i) y → length b * share + record_room ≤ length o →
-        RecordsStopSays j p i (H.Refused r) f len w u → TakeSays j p b last o w u
+    pub turn-stop : (last : Bool) (r : Refusal) (w : Taken) (u : List ℕ) (y : Bool) → v ≡ Err r → y ≡ true → EnoughSays last (length b - i) y → length b * share + record_room ≤ length o →
+        RecordsStopSays j p i (Err r) f len w u → TakeSays j p b last o w u
     turn-stop last r w u y q z n room s =
-        let k : RecordStepSays j (p + i) (drop i b) d len (S.Refused r) f = rw (rest-is b i, q) at h in
-        let t : RecordsStopSays j p i (H.Refused r) d len w u = rw k.1 at s in
+        let k : RecordStepSays j (p + i) (drop i b) d len (Err r) f = rw (rest-is b i, q) at h in
+        let t : RecordsStopSays j p i (Err r) d len w u = rw k.1 at s in
         let a : EnoughSays last (length (drop i b)) true = rw (length-drop i b) (rw z at n) in
-        going-stop j p b last o i len d (H.Refused r) w u g room t (left-bad j (p + i) (drop i b) last r a k.0)
+        going-stop j p b last o i len d (Err r) w u g room t (left-bad j (p + i) (drop i b) last r a k.0)
 
   -- none is read
   pub turn-over : (last : Bool) (w : Taken) (u : List ℕ) (y : Bool) → y ≡ false → EnoughSays last (length b - i) y →

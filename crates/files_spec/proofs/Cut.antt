@@ -5,31 +5,30 @@
 --     cut-anyhow           so two runs of one catalogue have one verdict and show one text
 --     records-joined       records of two blocks
 --     told_over, told-bad  a catalogue that is good records, and one in which bytes that are refused stand behind them
-use Rattle.words.proofs.Plain.{ℕ, ◌+◌, ◌<◌, ◌≤◌, arith, ◌≡◌, refl, sym, ap, subst, ◌∙◌, inl, inr, Bool, true, false, true≢false, List, [], ◌++◌, append_assoc}
+use Rattle.words.proofs.Plain.{ℕ, ◌+◌, ◌<◌, ◌≤◌, arith, ◌≡◌, refl, sym, ap, ◌∙◌, inr, Bool, true, false, true≢false, List, [], ◌++◌, append_assoc}
 use Rattle.words.proofs.Plain.{append-nil, length, take, drop, replicate, length-append, length-drop, length-take, take-append-drop, drop_of_length-le}
-use Rattle.words.proofs.Plain.{take_all, take-take, drop-drop, drop_at}
-use Rattle.refusal.specs.{declared.Refusal.Refusal, declared.Checked.Checked, Order.Given}
-use Rattle.refusal.specs.declared.Checked.TheVariants as C
-use Rattle.record_spec.specs.declared.Entry.TheVariants as E
-use Rattle.record_spec.specs.{Order.record_order, Says.ReadSays}
-use Rattle.record_spec.proofs.Only.{drop-take}
-use Rattle.files_spec.specs.{declared.Job.Job, declared.How.How, declared.Taken.Taken, Shows.last_text}
-use Rattle.files_spec.specs.declared.How.TheVariants.{On, Over, Refused}
+use Rattle.words.proofs.Plain.{drop-drop, drop_at}
+use Rattle.std.specs.Prelude.{Result, Ok, Err}
+use Rattle.refusal.specs.{declared.Refusal.Refusal, Order.Given}
+use Rattle.record_spec.specs.{Order.record_order}
+use Rattle.files_spec.specs.{declared.Job.Job, declared.How.How, Shows.last_text}
+use Rattle.files_spec.specs.declared.How.TheVariants.{On, Over}
 use Rattle.files_spec.specs.Catalogues.{Through, over, bad, further, ShowsAll}
-use Rattle.files_spec.specs.Blocks.{One, Records, none, more, BadRecord, Left, TakenSays, file_block, FileReaches, verdict_of, Blockwise, part, rest}
+use Rattle.files_spec.specs.Blocks.{One, Records, none, more, BadRecord, Left, file_block, FileReaches, verdict_of, Blockwise, part, rest}
 use Rattle.files_spec.proofs.{Unique.one-tells, Joined.read-joined, Joined.given-joined}
 
 -- ---- good records
 
 -- a good record, and what stands behind it
-one-through : (j : Job) (c : List ℕ) (s : ℕ) (a x z : List ℕ) (v : Checked) (u : List ℕ) → One j s a x → drop s c ≡ a ++ z → Through j c (s + length a) v u → Through j c s v (x ++ u)
+one-through : (j : Job) (c : List ℕ) (s : ℕ) (a x z : List ℕ) (v : Result Unit Refusal) (u : List ℕ) → One j s a x → drop s c ≡ a ++ z → Through j c (s + length a) v u → Through j c s v (x ++ u)
 one-through j c s a x z v u o e h =
     let g = o.read in
     let l : length (drop s c) ≡ length a + length z = ap length e ∙ length-append a z in
     let q = read-joined a z o.kind g.good.0.1 s o.before o.n o.k (s + length a) o.after g in
-    further {s = s} o.n o.k o.kind (s + length a) o.before o.after x (o.room, omega (arith, l, length-drop s c, g.good.0.1), rw e q) o.shows h
+    further {s = s} (record { n = o.n; k = o.k; kind = o.kind; next = s + length a }) o.before o.after x (o.room, omega (arith, l, length-drop s c, g.good.0.1), rw e q) o.shows h
 
-pub records-through : (j : Job) (c : List ℕ) (p : ℕ) (b t z : List ℕ) (v : Checked) (u : List ℕ) → Records j p b t → drop p c ≡ b ++ z → Through j c (p + length b) v u → Through j c p v (t ++ u)
+pub records-through : (j : Job) (c : List ℕ) (p : ℕ) (b t z : List ℕ) (v : Result Unit Refusal) (u : List ℕ) → Records j p b t → drop p c ≡ b ++ z → Through j c (p + length b) v u →
+    Through j c p v (t ++ u)
 records-through j c p b t z v u none e h = let q : p + 0 ≡ p = omega arith in rw q at h
 records-through j c p b t z v u (more {b = b'} {t = t'} a x r o) e h =
     let f : drop p c ≡ b' ++ (a ++ z) = e ∙ append_assoc b' a z in
@@ -46,28 +45,28 @@ blank = replicate 64 0
 blank-long : length blank ≡ 64
 blank-long = refl
 
-ends : (j : Job) (c : List ℕ) (s : ℕ) → s ≡ length c → Through j c s C.Good (last_text j C.Good)
+ends : (j : Job) (c : List ℕ) (s : ℕ) → s ≡ length c → Through j c s (Ok tt) (last_text j (Ok tt))
 ends j c s e = over blank (blank-long, e, refl)
 
-stops : (j : Job) (c : List ℕ) (s : ℕ) (r : Refusal) → s < length c → Given (record_order (drop s c) s) r → Through j c s (C.Refused r) (last_text j (C.Refused r))
+stops : (j : Job) (c : List ℕ) (s : ℕ) (r : Refusal) → s < length c → Given (record_order (drop s c) s) r → Through j c s (Err r) (last_text j (Err r))
 stops j c s r l g = bad {s = s} r blank (blank-long) (inr ((blank-long, omega arith), (l, g)), refl)
 
 -- what is left of the catalogue at s begins with what is left of the block, b, and goes on unless that was the last
 bad-stops : (j : Job) (c : List ℕ) (s : ℕ) (b z : List ℕ) (last : Bool) (r : Refusal) → drop s c ≡ b ++ z → (last ≡ true → z ≡ []) → BadRecord last b s r →
-    Through j c s (C.Refused r) (last_text j (C.Refused r))
+    Through j c s (Err r) (last_text j (Err r))
 bad-stops j c s b z true r e f h =
     let q : drop s c ≡ b = e ∙ ap (λ (y : List ℕ). b ++ y) (f refl) ∙ append-nil b in
     stops j c s r (omega (arith, ap length q, length-drop s c, h.enough)) (rw q h.given)
 bad-stops j c s b z false r e f h =
     stops j c s r (omega (arith, ap length e, length-append b z, length-drop s c, h.enough)) (rw e (given-joined b z s r h.enough h.given))
 
-left-through : (j : Job) (c : List ℕ) (s : ℕ) (b z : List ℕ) (last : Bool) (w : How) (v : Checked) (t : List ℕ) → s ≤ length c → drop s c ≡ b ++ z →
+left-through : (j : Job) (c : List ℕ) (s : ℕ) (b z : List ℕ) (last : Bool) (w : Result How Refusal) (v : Result Unit Refusal) (t : List ℕ) → s ≤ length c → drop s c ≡ b ++ z →
     (last ≡ true → z ≡ []) → Left j s b last w t → verdict_of w v → Through j c s v t
-left-through j c s b z last On v t m e f h k = absurd k
-left-through j c s b z last Over v t m e f (p, q, r) k =
+left-through j c s b z last (Ok On) v t m e f h k = absurd k
+left-through j c s b z last (Ok Over) v t m e f (p, q, r) k =
     let y : drop s c ≡ [] = e ∙ ap (λ (i : List ℕ). i ++ z) q ∙ f p in
     rw (k, r) (ends j c s (omega (arith, ap length y, length-drop s c)))
-left-through j c s b z last (Refused r) v t m e f (p, q) k = rw (k, q) (bad-stops j c s b z last r e f p)
+left-through j c s b z last (Err r) v t m e f (p, q) k = rw (k, q) (bad-stops j c s b z last r e f p)
 
 -- ---- a block
 
@@ -96,12 +95,12 @@ module _ (c : List ℕ) (p m e : ℕ) (l : e ≤ length (file_block c p m)) wher
   nothing false h k = absurd (true≢false (sym k))
 
   -- the records of the block, and then what is left
-  taken-through : (j : Job) (t : List ℕ) (v : Checked) (u : List ℕ) → Records j p (take e b) t → Through j c (p + e) v u → Through j c p v (t ++ u)
+  taken-through : (j : Job) (t : List ℕ) (v : Result Unit Refusal) (u : List ℕ) → Records j p (take e b) t → Through j c (p + e) v u → Through j c p v (t ++ u)
   taken-through j t v u r h = records-through j c p (take e b) t (drop e b ++ z) v u r cut (rw long h)
 
-pub run-through : (j : Job) (c : List ℕ) (p : ℕ) (v : Checked) (t : List ℕ) → p ≤ length c → Blockwise j c p v t → Through j c p v t
+pub run-through : (j : Job) (c : List ℕ) (p : ℕ) (v : Result Unit Refusal) (t : List ℕ) → p ≤ length c → Blockwise j c p v t → Through j c p v t
 run-through j c p v t l (part {u = u} m w x s e r) =
-    let h : Left j w.place (drop w.used (file_block c p m)) false On s.behind = rw e at s.left in
+    let h : Left j w.place (drop w.used (file_block c p m)) false (Ok On) s.behind = rw e at s.left in
     let f = s.place in
     let q : x ≡ s.shown = s.whole ∙ ap (λ (y : List ℕ). s.shown ++ y) h.2 ∙ append-nil s.shown in
     let k = inside c p m w.used s.inside l in
@@ -115,10 +114,10 @@ run-through j c p v t l (rest m last w x q s k) =
     (left-through j c (p + w.used) (drop w.used (file_block c p m)) (drop m (drop p c)) last w.how v s.behind i
     (behind c p m w.used s.inside) (nothing c p m w.used s.inside last q) h k))
 
-pub run-tells : (j : Job) (c : List ℕ) (v : Checked) (t : List ℕ) → Blockwise j c 0 v t → ShowsAll j c v t
+pub run-tells : (j : Job) (c : List ℕ) (v : Result Unit Refusal) (t : List ℕ) → Blockwise j c 0 v t → ShowsAll j c v t
 run-tells j c v t r = run-through j c 0 v t (omega arith) r
 
-pub cut-anyhow : (j : Job) (c : List ℕ) (v w : Checked) (t u : List ℕ) → Blockwise j c 0 v t → Blockwise j c 0 w u → (v ≡ w) × (t ≡ u)
+pub cut-anyhow : (j : Job) (c : List ℕ) (v w : Result Unit Refusal) (t u : List ℕ) → Blockwise j c 0 v t → Blockwise j c 0 w u → (v ≡ w) × (t ≡ u)
 cut-anyhow j c v w t u p q = one-tells j c v w t u (run-tells j c v t p) (run-tells j c w u q)
 
 -- ---- records of more blocks
@@ -130,12 +129,12 @@ records-joined j p b t b' t' r (more {b = d} {t = u} a x s o) =
     rw (sym (append_assoc b d a), sym (append_assoc t u x)) (more a x (records-joined j p b t d u r s) (rw e at o))
 
 -- a catalogue that is these records
-pub told_over : (j : Job) (c t : List ℕ) → Records j 0 c t → ShowsAll j c C.Good (t ++ last_text j C.Good)
-told_over j c t r = records-through j c 0 c t [] C.Good (last_text j C.Good) r (sym (append-nil c)) (ends j c (0 + length c) (omega arith))
+pub told_over : (j : Job) (c t : List ℕ) → Records j 0 c t → ShowsAll j c (Ok tt) (t ++ last_text j (Ok tt))
+told_over j c t r = records-through j c 0 c t [] (Ok tt) (last_text j (Ok tt)) r (sym (append-nil c)) (ends j c (0 + length c) (omega arith))
 
 -- and one in which bytes stand behind them that are refused
-pub told-bad : (j : Job) (c t b : List ℕ) (last : Bool) (r : Refusal) → Records j 0 c t → BadRecord last b (length c) r → ShowsAll j (c ++ b) (C.Refused r) (t ++ last_text j (C.Refused r))
+pub told-bad : (j : Job) (c t b : List ℕ) (last : Bool) (r : Refusal) → Records j 0 c t → BadRecord last b (length c) r → ShowsAll j (c ++ b) (Err r) (t ++ last_text j (Err r))
 told-bad j c t b last r s h =
     let e : 0 + length c ≡ length c = omega arith in
-    records-through j (c ++ b) 0 c t b (C.Refused r) (last_text j (C.Refused r)) s refl
+    records-through j (c ++ b) 0 c t b (Err r) (last_text j (Err r)) s refl
     (rw e (bad-stops j (c ++ b) (length c) b [] last r (drop_at c b (length c) refl ∙ sym (append-nil b)) (λ k. refl) h))

@@ -8,7 +8,7 @@ use Rattle.refusal.specs.{declared.Refusal.Refusal, Order.Passed, Order.Given}
 use Rattle.refusal.proofs.Unique.{one-refusal, never_both}
 use Rattle.refusal.proofs.Tests.{Answers, answer, answered}
 use Rattle.record_spec.specs.{declared.Kind.Kind, Says.Read}
-use Rattle.record_spec.specs.Layout.{Marked, MarkedBack, kind_by_mark, body_length, n_of, k_of, body_of, stored_ring}
+use Rattle.record_spec.specs.Layout.{MarkedBack, body_length, n_of, k_of, body_of, stored_ring}
 use Rattle.record_spec.specs.Order.{Known, record_order, GoodRecord}
 use Rattle.record_spec.proofs.{Forms.kind-is, Forms.behind-passed, Answer.record_tests}
 use Rattle.record_spec.proofs.Only.{opening, opening-record, opening-given}

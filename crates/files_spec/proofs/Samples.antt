@@ -6,7 +6,7 @@ use Rattle.packing_spec.specs.Open.{open-packing}
 use Rattle.text_spec.specs.{Ascii.ascii, Decimal.decimal_in, Decimal.decimal, Text.two_numbers}
 use Rattle.text_fill_spec.specs.Filled.{filled_text}
 use Rattle.refusal.specs.declared.Refusal.TheVariants.{NotHome}
-use Rattle.refusal.specs.declared.Checked.TheVariants.{Good, Refused}
+use Rattle.std.specs.Prelude.{Ok, Err}
 use Rattle.record_spec.specs.declared.Kind.TheVariants.{Front, Packed}
 use Rattle.record_spec.proofs.Wrote.{record_bytes}
 use Rattle.files_spec.specs.declared.Job.TheVariants.{Read, Move}
@@ -26,11 +26,11 @@ unfolding filled_text decimal decimal_in
 packed-line = refl
 
 -- the lines behind them
-pub end_line : last_text Read Good ≡ ascii "end\n"
+pub end_line : last_text Read (Ok tt) ≡ ascii "end\n"
 unfolding last_text
 end_line = refl
 
-pub refused-line : last_text Read (Refused (NotHome 67)) ≡ ascii "refused 9 at 67\n"
+pub refused-line : last_text Read (Err (NotHome 67)) ≡ ascii "refused 9 at 67\n"
 unfolding last_text two_numbers decimal decimal_in
 refused-line = refl
 

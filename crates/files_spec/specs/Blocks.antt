@@ -10,18 +10,16 @@
 --     file_block c p m             the block of c that begins at p and has m bytes, or fewer where c ends
 --     Blockwise j c p v t       block after block from p on: v is the verdict, and t what the blocks show, one after another
 -- That a run shows what the whole catalogue shows: proofs/Cut.
-use Rattle.std.specs.Prelude.{ℕ, ◌+◌, ◌<◌, ◌≤◌, ◌≡◌, Bool, true, false, List, [], ◌++◌, length, take, drop}
+use Rattle.std.specs.Prelude.{ℕ, ◌+◌, ◌<◌, ◌≤◌, ◌≡◌, Bool, true, false, List, [], ◌++◌, length, take, drop, Result, Ok, Err}
 use Rattle.text_spec.specs.Put.{Placed}
 use Rattle.refusal.specs.declared.Refusal.{Refusal}
-use Rattle.refusal.specs.declared.Checked.{Checked}
-use Rattle.refusal.specs.declared.Checked.TheVariants as C
 use Rattle.refusal.specs.Order.{Given}
 use Rattle.record_spec.specs.declared.Kind.{Kind}
 use Rattle.record_spec.specs.Order.{record_order}
 use Rattle.record_spec.specs.Says.{Read}
 use Rattle.files_spec.specs.declared.Job.{Job}
 use Rattle.files_spec.specs.declared.How.{How}
-use Rattle.files_spec.specs.declared.How.TheVariants.{On, Over, Refused}
+use Rattle.files_spec.specs.declared.How.TheVariants.{On, Over}
 use Rattle.files_spec.specs.declared.Taken.{Taken}
 use Rattle.files_spec.specs.Shows.{Shows, last_text}
 
@@ -52,10 +50,10 @@ pub record BadRecord (last : Bool) (b : List ℕ) (p : ℕ) (r : Refusal) : Type
   pub given : Given (record_order b p) r
 
 -- what is left behind e bytes of records, by why it was left; t is what stands behind what they show
-abbrev pub Left : Job → ℕ → List ℕ → Bool → How → List ℕ → Type 0
-Left j p b last On t = (last ≡ false) × (length b < 68) × (t ≡ [])
-Left j p b last Over t = (last ≡ true) × (b ≡ []) × (t ≡ last_text j C.Good)
-Left j p b last (Refused r) t = BadRecord last b p r × (t ≡ last_text j (C.Refused r))
+abbrev pub Left : Job → ℕ → List ℕ → Bool → Result How Refusal → List ℕ → Type 0
+Left j p b last (Ok On) t = (last ≡ false) × (length b < 68) × (t ≡ [])
+Left j p b last (Ok Over) t = (last ≡ true) × (b ≡ []) × (t ≡ last_text j (Ok tt))
+Left j p b last (Err r) t = BadRecord last b p r × (t ≡ last_text j (Err r))
 
 pub record TakenSays (j : Job) (p : ℕ) (b : List ℕ) (last : Bool) (v : Taken) (t : List ℕ) : Type 0 where
   pub shown : List ℕ
@@ -83,11 +81,11 @@ FileReaches c p m true = length c ≤ p + m
 FileReaches c p m false = Unit
 
 -- the verdict of a block behind which no other is read
-abbrev pub verdict_of : How → Checked → Type 0
-verdict_of On v = ⊥
-verdict_of Over v = v ≡ C.Good
-verdict_of (Refused r) v = v ≡ C.Refused r
+abbrev pub verdict_of : Result How Refusal → Result Unit Refusal → Type 0
+verdict_of (Ok On) v = ⊥
+verdict_of (Ok Over) v = v ≡ Ok tt
+verdict_of (Err r) v = v ≡ Err r
 
-pub data Blockwise (j : Job) (c : List ℕ) : ℕ → Checked → List ℕ → Type 0 where
-  part : {p : ℕ} {v : Checked} {u : List ℕ} (m : ℕ) (w : Taken) (t : List ℕ) → TakenSays j p (file_block c p m) false w t → w.how ≡ On → Blockwise j c w.place v u → Blockwise j c p v (t ++ u)
-  rest : {p : ℕ} {v : Checked} (m : ℕ) (last : Bool) (w : Taken) (t : List ℕ) → FileReaches c p m last → TakenSays j p (file_block c p m) last w t → verdict_of w.how v → Blockwise j c p v t
+pub data Blockwise (j : Job) (c : List ℕ) : ℕ → Result Unit Refusal → List ℕ → Type 0 where
+  part : {p : ℕ} {v : Result Unit Refusal} {u : List ℕ} (m : ℕ) (w : Taken) (t : List ℕ) → TakenSays j p (file_block c p m) false w t → w.how ≡ Ok On → Blockwise j c w.place v u → Blockwise j c p v (t ++ u)
+  rest : {p : ℕ} {v : Result Unit Refusal} (m : ℕ) (last : Bool) (w : Taken) (t : List ℕ) → FileReaches c p m last → TakenSays j p (file_block c p m) last w t → verdict_of w.how v → Blockwise j c p v t

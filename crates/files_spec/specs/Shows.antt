@@ -5,16 +5,14 @@
 --     Filled w k x text         text is what the writer leaves of the ring w in k shades, in the form x, in a buffer that has just the room
 --     Shows j s n k x w text    text is what the record at s shows, where the reader answered n, k, x and the ring w
 --     last_text j v              what stands behind the last record: of a telling `end`, or the number and the place of the first damage
-use Rattle.std.specs.Prelude.{ℕ, ◌≡◌, List, [], ◌∷◌, length}
+use Rattle.std.specs.Prelude.{ℕ, ◌≡◌, List, [], ◌∷◌, length, Result, Ok, Err}
 use Rattle.text_spec.specs.Ascii.{ascii}
 use Rattle.text_spec.specs.Text.{two_numbers}
 use Rattle.text_fill_spec.specs.Filled.{filled_text}
-use Rattle.refusal.specs.declared.Checked.{Checked}
-use Rattle.refusal.specs.declared.Checked.TheVariants.{Good, Refused}
+use Rattle.refusal.specs.declared.Refusal.{Refusal}
 use Rattle.refusal.specs.Numbers.{number_of, place_of}
 use Rattle.record_spec.specs.declared.Kind.{Kind}
 use Rattle.record_spec.specs.declared.Kind.TheVariants.{Front, Packed}
-use Rattle.record_spec.specs.declared.Written.TheVariants.{After}
 use Rattle.record_spec.specs.Writes.{WriteSays}
 use Rattle.files_spec.specs.declared.Job.{Job}
 use Rattle.files_spec.specs.declared.Job.TheVariants.{Read, Move}
@@ -35,13 +33,13 @@ record_line s x n k w = filled_text (line_form x) (s ∷ n ∷ k ∷ []) n w
 pub record Filled (w : List ℕ) (k : ℕ) (x : Kind) (text : List ℕ) : Type 0 where
   pub room : List ℕ
   pub same : length room ≡ length text
-  pub written : WriteSays w k x room 0 (After (length text)) text
+  pub written : WriteSays w k x room 0 (Ok (length text)) text
 
 abbrev pub Shows : Job → ℕ → ℕ → ℕ → Kind → List ℕ → List ℕ → Type 0
 Shows Read s n k x w text = text ≡ record_line s x n k w
 Shows Move s n k x w text = Filled w k (other_kind x) text
 
-unfoldable pub last_text : Job → Checked → List ℕ
-last_text Read Good = ascii "end\n"
-last_text Read (Refused r) = two_numbers (ascii "refused ") (number_of r) (ascii " at ") (place_of r)
+unfoldable pub last_text : Job → Result Unit Refusal → List ℕ
+last_text Read (Ok _) = ascii "end\n"
+last_text Read (Err r) = two_numbers (ascii "refused ") (number_of r) (ascii " at ") (place_of r)
 last_text Move v = []

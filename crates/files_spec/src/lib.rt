@@ -11,18 +11,17 @@ pub enum Job {
     Move,
 }
 
-// Why a block is as far as it was gone through: the next one follows, the file ends, or a piece is refused.
+// Why a block is as far as it was gone through, unless a piece is refused: the next one follows, or the file ends.
 #[derive(Clone, Copy)]
 pub enum How {
     On,
     Over,
-    Refused(Refusal),
 }
 
 // How far a block was gone through: so many bytes of it, up to a place of the file, with so many bytes of output.
 #[derive(Clone, Copy)]
 pub struct Taken {
-    pub how: How,
+    pub how: Result<How, Refusal>,
     pub used: usize,
     pub place: usize,
     pub len: usize,

@@ -1,16 +1,18 @@
 -- Texts and records that stand where they were placed.
 --     line-short, line-puts       a record's line has room, and is what a telling shows
 --     record-short, wrote-puts, bytes-puts    a record has room, what the writer wrote is its bytes, at their place, and that is what a move shows
---     never-refused               a ring that passes the checks is not refused where there is room
+--     answer-puts                 a ring that passes the checks is not refused where there is room
 use Rattle.words.proofs.Plain.{ℕ, zero, suc, ◌+◌, ◌^◌, ◌<◌, ◌≤◌, arith, ◌≡◌, refl, sym, ap, ◌∙◌, List, [], ◌∷◌, ◌++◌, append_assoc, length, get_or, take, drop}
 use Rattle.words.proofs.Plain.{length-drop, sets, sets-eq, drop-drop}
 use Rattle.text_spec.specs.Put.{Placed}
-use Rattle.text_fill_spec.specs.Filled.{filled_text, slots, longest}
+use Rattle.text_fill_spec.specs.Filled.{slots, longest}
 use Rattle.text_fill_spec.proofs.Laws.{filled-short}
-use Rattle.refusal.specs.{declared.Refusal.Refusal, Order.Passed, Order.Given, Calls.one_reading}
+use Rattle.refusal.specs.{declared.Refusal.Refusal, Order.Passed, Calls.one_reading}
 use Rattle.refusal.proofs.Unique.{never_both}
 use Rattle.record_spec.specs.{declared.Kind.Kind, declared.Kind.TheVariants.Front, declared.Kind.TheVariants.Packed}
-use Rattle.record_spec.specs.{declared.Written.TheVariants.After, declared.Written.TheVariants.Refused, Layout.body_length}
+use Rattle.record_spec.specs.Layout.{body_length}
+use Rattle.std.specs.Prelude.{Result, Ok, Err}
+use Rattle.std.specs.Result.{result_unwrap_or}
 use Rattle.record_spec.specs.Writes.{write_order, WriteSays}
 use Rattle.record_spec.proofs.Forms.{few_bytes}
 use Rattle.record_spec.proofs.Wrote.{record_bytes, length-record, wrote-bytes}
@@ -19,7 +21,7 @@ use Rattle.files_spec.specs.declared.Job.{Job}
 use Rattle.files_spec.specs.declared.Job.TheVariants as J
 use Rattle.files_spec.specs.Shows.{other_kind, line_form, record_line, Filled, Shows}
 use Rattle.files_spec.proofs.Unique.{bytes-filled}
-use Rattle.files_text_inner.specs.Room.{record_room, Answered}
+use Rattle.files_text_inner.specs.Room.{record_room, PassedRing}
 
 -- a number that the code holds has at most 20 digits
 abbrev pub Few : ℕ → Type 0
@@ -51,7 +53,7 @@ module _ (w : List ℕ) (k : ℕ) (x : Kind) (g : Passed (one_reading w k)) wher
   pub record-short : 4 + body_length x (length w) k ≤ 68
   record-short = omega (arith, few_bytes (length w) k x g.0.0.0.0.1, g.0.0.0.0.0.0.1)
 
-  pub wrote-puts : (b : List ℕ) (at e : ℕ) (d : List ℕ) → at + record_room ≤ length b → WriteSays w k x b at (After e) d → Puts (Filled w k x) record_room b at e d
+  pub wrote-puts : (b : List ℕ) (at e : ℕ) (d : List ℕ) → at + record_room ≤ length b → WriteSays w k x b at (Ok e) d → Puts (Filled w k x) record_room b at e d
   wrote-puts b at e d l h =
       record {
         text = record_bytes x k w;
@@ -64,9 +66,14 @@ module _ (w : List ℕ) (k : ℕ) (x : Kind) (g : Passed (one_reading w k)) wher
             };
       }
 
-  pub never-refused : (b : List ℕ) (at : ℕ) (r : Refusal) (d : List ℕ) → at + record_room ≤ length b → WriteSays w k x b at (Refused r) d → ⊥
+  never-refused : (b : List ℕ) (at : ℕ) (r : Refusal) (d : List ℕ) → at + record_room ≤ length b → WriteSays w k x b at (Err r) d → ⊥
   never-refused b at r d l h =
       never_both (write_order w k x (drop at b) at) r h.0 (g, omega (arith, length-drop at b, record-short))
+
+  -- so the place behind it is what the writer answers
+  pub answer-puts : (b : List ℕ) (at : ℕ) (r : Result ℕ Refusal) (d : List ℕ) → at + record_room ≤ length b → WriteSays w k x b at r d → Puts (Filled w k x) record_room b at (result_unwrap_or r at) d
+  answer-puts b at (Ok e) d l h = wrote-puts b at e d l h
+  answer-puts b at (Err r) d l h = absurd (never-refused b at r d l h)
 
 -- ---- what a record shows
 
@@ -78,5 +85,5 @@ module _ (j : Job) (s n k : ℕ) (x : Kind) (w b : List ℕ) (at r : ℕ) (d : L
   bytes-puts y e f p = rw e (rw f at p)
 
 -- a ring of at most 64 sectors
-pub answered-few : (n k : ℕ) (w : List ℕ) → Answered n k w → n ≤ 64
+pub answered-few : (n k : ℕ) (w : List ℕ) → PassedRing n k w → n ≤ 64
 answered-few n k w a = omega (arith, a.long, a.passed.0.0.0.0.0.0.1)

@@ -20,11 +20,7 @@ pub enum Time {
 pub fn writes(time: Time) -> bool
     ensures { result ≡ writes_of time }
 {
-    match time {
-        Time::Only => true,
-        Time::First => false,
-        Time::Second => true,
-    }
+    matches!(time, Time::Only | Time::Second)
 }
 
 // How a run ends where a read fails.
@@ -32,8 +28,7 @@ pub fn failed(time: Time) -> Ending
     ensures { result ≡ file_failed_of time }
 {
     match time {
-        Time::Only => Ending::Unread,
-        Time::First => Ending::Unread,
+        Time::Only | Time::First => Ending::Unread,
         Time::Second => Ending::Lost,
     }
 }

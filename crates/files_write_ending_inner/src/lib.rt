@@ -51,20 +51,14 @@ pub fn failed(time: Time) -> Ended
 fn writes(time: Time) -> bool
     ensures { result ≡ writes_records time }
 {
-    match time {
-        Time::First => false,
-        Time::Second => true,
-    }
+    matches!(time, Time::Second)
 }
 
 // Records, written where it is the time; whether they could be.
 pub fn hand_on(time: Time, records: &[u8]) -> bool
     ensures { HandedOn time result }
 {
-    if !writes(time) {
-        return true;
-    }
-    io::write_all(STDOUT_FILENO, records)
+    !writes(time) || io::write_all(STDOUT_FILENO, records)
 }
 
 // What is said of how a run ended, at the beginning of the buffer, and its length.

@@ -5,10 +5,11 @@ use Rattle.words.proofs.Plain.{ℕ, ◌+◌, ◌-◌, ◌<◌, ◌≤◌, arith,
 use Rattle.text_spec.specs.{Decimal.decimal, Text.hex_of}
 use Rattle.text_words_spec.specs.Words.{Spelt}
 use Rattle.text_words_spec.proofs.{Pieces.pieces-single, Spelling.spelt-plain}
+use Rattle.std.specs.Prelude.{Result, Ok, Err, Some, None}
+use Rattle.refusal.specs.declared.Refusal.{Refusal}
 use Rattle.refusal.specs.declared.Refusal.TheVariants.{Line}
-use Rattle.record_spec.specs.{declared.Kind.Kind, declared.Written.Written, Writes.WriteSays}
-use Rattle.record_spec.specs.declared.Written.TheVariants as W
-use Rattle.desk_words_inner.specs.{declared.Head.TheVariants.Number, declared.Head.TheVariants.Malformed, Says.HeadSays}
+use Rattle.record_spec.specs.{declared.Kind.Kind, Writes.WriteSays}
+use Rattle.desk_words_inner.specs.Says.{HeadSays}
 use Rattle.desk_words_inner.proofs.{Heads.rest-words, Shapes.rest_all, Shapes.no-reading}
 use Rattle.files_text_inner.specs.Room.{record_room}
 use Rattle.files_text_inner.proofs.Placing.{record-short, wrote-puts}
@@ -19,25 +20,25 @@ use Rattle.files_write_line_inner.specs.Says.{unspelt, refused, RingSpelt, LineS
 
 module _ (x : Kind) (k : ℕ) (t b : List ℕ) (at : ℕ) where
   -- it spells none
-  pub no-spelt : ((w : List ℕ) → Spelt t w → ⊥) → RingSpelt x k t b at (W.Refused Line) b
+  pub no-spelt : ((w : List ℕ) → Spelt t w → ⊥) → RingSpelt x k t b at (Err Line) b
   no-spelt n = (unspelt n refl, refl)
 
   -- what the writer answered
-  pub spelt-answer : (w : List ℕ) → Spelt t w → at + record_room ≤ length b → (r : Written) (d : List ℕ) → WriteSays w k x b at r d → RingSpelt x k t b at r d
-  spelt-answer w s l (W.After e) d h = (w, s, wrote-puts w k x h.passed b at e d l h)
-  spelt-answer w s l (W.Refused r) d (inl g, e) = (refused w s g, e)
-  spelt-answer w s l (W.Refused r) d (inr g, e) = absurd (g.1.1 (omega (arith, record-short w k x g.0, length-drop at b, l)))
+  pub spelt-answer : (w : List ℕ) → Spelt t w → at + record_room ≤ length b → (r : Result ℕ Refusal) (d : List ℕ) → WriteSays w k x b at r d → RingSpelt x k t b at r d
+  spelt-answer w s l (Ok e) d h = (w, s, wrote-puts w k x h.passed b at e d l h)
+  spelt-answer w s l (Err r) d (inl g, e) = (refused w s g, e)
+  spelt-answer w s l (Err r) d (inr g, e) = absurd (g.1.1 (omega (arith, record-short w k x g.0, length-drop at b, l)))
 
 -- ---- a line
 
 module _ (x : Kind) (s b : List ℕ) (at : ℕ) where
-  pub line-long : 4095 < length s → LineSays x s b at (W.Refused Line) b
+  pub line-long : 4095 < length s → LineSays x s b at (Err Line) b
   line-long h = (unread (λ q a. omega (arith, h, a.within)) refl, refl)
 
-  pub line-headless : HeadSays s Malformed → LineSays x s b at (W.Refused Line) b
+  pub line-headless : HeadSays s None → LineSays x s b at (Err Line) b
   line-headless h = (unread (λ q a. no-reading s h q a.reads) refl, refl)
 
-  module _ (k e : ℕ) (h : HeadSays s (Number k e)) where
+  module _ (k e : ℕ) (h : HeadSays s (Some (k, e))) where
     ring-on : length s ≤ 4095 → (w : List ℕ) → Spelt (drop e s) w → RingLine s (k, w)
     ring-on l w p =
         record {
@@ -54,10 +55,10 @@ module _ (x : Kind) (s b : List ℕ) (at : ℕ) where
     ring-back q a = record { digits = pieces-single 32 (drop e s) _ (rest-words s k e h q.0 (map hex_of q.1 ∷ []) a.reads.words); below = a.reads.sectors }
 
     -- what was answered of what stands behind the number
-    pub line-spelt : length s ≤ 4095 → (r : Written) (d : List ℕ) → RingSpelt x k (take (length s - e) (drop e s)) b at r d → LineSays x s b at r d
+    pub line-spelt : length s ≤ 4095 → (r : Result ℕ Refusal) (d : List ℕ) → RingSpelt x k (take (length s - e) (drop e s)) b at r d → LineSays x s b at r d
     line-spelt l r d p = go r (rw (rest_all s e) at p)
       where
-        go : (r : Written) → RingSpelt x k (drop e s) b at r d → LineSays x s b at r d
-        go (W.After a) (w, p, q) = record { text = q.text; says = record { asked = (k, w); reads = ring-on l w p; writes = q.says }; short = q.short; placed = q.placed }
-        go (W.Refused a) (unspelt n f, g) = (unread (λ q y. n q.1 (ring-back q y)) f, g)
-        go (W.Refused a) (refused w p q, g) = (given (k, w) (ring-on l w p) q, g)
+        go : (r : Result ℕ Refusal) → RingSpelt x k (drop e s) b at r d → LineSays x s b at r d
+        go (Ok a) (w, p, q) = record { text = q.text; says = record { asked = (k, w); reads = ring-on l w p; writes = q.says }; short = q.short; placed = q.placed }
+        go (Err a) (unspelt n f, g) = (unread (λ q y. n q.1 (ring-back q y)) f, g)
+        go (Err a) (refused w p q, g) = (given (k, w) (ring-on l w p) q, g)

@@ -2,7 +2,7 @@
 --     lines-roomy                      lent and given back, there is as much room
 --     reached-none                     before the first block
 --     line_on, line-done, line-stopped     behind a block
---     through-once, stopped-once, written-through, both-through    how a time ended, and both
+--     too_long, written-through, both-through    how a time ended, and both
 --     handed-second                    only the second time a write can fail
 use Rattle.words.proofs.Plain.{ℕ, ◌+◌, ◌*◌, ◌<◌, ◌≤◌, arith, ◌≡◌, refl, sym, ap, ◌∙◌, ◌⊎◌, inl, inr, Bool, true, false, true≢false, List, [], ◌∷◌, ◌++◌, eqb}
 use Rattle.words.proofs.Plain.{length, take, length-append, length-take, eqb-true}
@@ -17,17 +17,14 @@ use Rattle.program_ending_inner.specs.declared.Ending.TheVariants as E
 use Rattle.program_passes_inner.specs.Passes.{same_end}
 use Rattle.files_text_inner.specs.Room.{record_room}
 use Rattle.files_write_spec.specs.{Inputs.LinesWrite, Inputs.FirstRefused, RingLines.most_kept}
-use Rattle.files_write_spec.proofs.Cut.{Gone, gone-none, gone-on, gone-last, gone-refused, last-refused, gone-few}
-use Rattle.files_write_byte_inner.specs.declared.Lined.TheVariants as L
-use Rattle.files_write_byte_inner.specs.Says.{LinedEnd}
-use Rattle.files_write_inner.specs.Says.{LinedSays}
+use Rattle.files_write_spec.proofs.Cut as C
+use Rattle.files_write_spec.proofs.Cut.{gone-none, gone-on, gone-last, gone-refused, last-refused, gone-few}
+use Rattle.std.specs.Prelude.{Ok, Err, Some, None}
 use Rattle.files_write_ending_inner.specs.declared.Time.{Time}
 use Rattle.files_write_ending_inner.specs.declared.Time.TheVariants.{First, Second}
 use Rattle.files_write_ending_inner.specs.{declared.Ended.Ended, declared.Ended.TheVariants.Line, declared.Ended.TheVariants.As}
 use Rattle.files_write_ending_inner.specs.Endings.{line_refused_of, line_failed_of, HandedOn}
-use Rattle.files_write_program_inner.specs.{declared.Turn.Turn, declared.Pass.Pass}
-use Rattle.files_write_program_inner.specs.declared.Turn.TheVariants.{On, Done, Stopped}
-use Rattle.files_write_program_inner.specs.declared.Pass.TheVariants as P
+use Rattle.files_write_program_inner.specs.declared.Gone.{Gone}
 use Rattle.files_write_program_inner.specs.Says.{RoomyLines, LinesThrough, LineStopSays, LinePassSays, LineWrittenSays}
 use Rattle.files_write_program_inner.specs.Says.{LineTurnSays, gone, bad, unwritten, LineLastSays, over, worse, unsaid}
 use Rattle.files_write_program_inner.specs.Says.{LineAtSays, unread, full, some, last, LineThroughSays, stopped, whole}
@@ -44,41 +41,11 @@ pub handed-second : (w : Time) (r : Bool) → HandedOn w r → r ≡ false → w
 handed-second First r h e = absurd (true≢false (sym (h refl) ∙ e))
 handed-second Second r h e = refl
 
--- ---- which of the three a turn is
-
-abbrev which : Turn → ℕ
-which (On a m n) = 0
-which Done = 1
-which (Stopped t) = 2
-
-abbrev used_of : Turn → ℕ
-used_of (On a m n) = a
-used_of Done = 0
-used_of (Stopped t) = 0
-
-abbrev held_of : Turn → ℕ
-held_of (On a m n) = m
-held_of Done = 0
-held_of (Stopped t) = 0
-
-abbrev lines_of : Turn → ℕ
-lines_of (On a m n) = n
-lines_of Done = 0
-lines_of (Stopped t) = 0
-
-abbrev why_of : Turn → Ended
-why_of (On a m n) = As E.Whole
-why_of Done = As E.Whole
-why_of (Stopped t) = t
-
-other : (a b : Turn) (x y : ℕ) → a ≡ b → which a ≡ x → which b ≡ y → (x ≡ y → ⊥) → ⊥
-other a b x y e f g n = n (sym f ∙ ap which e ∙ g)
-
 -- ---- behind a block
 
 -- the input so far, whose lines all write
 abbrev pub Reached : Kind → ℕ → List ℕ → ℕ → Type 0
-Reached x at u n = (c : List ℕ) × (length c ≡ at) × Gone x c u n
+Reached x at u n = (c : List ℕ) × (length c ≡ at) × C.Gone x c u n
 
 pub reached-none : (x : Kind) (l : List ℕ) → Reached x 0 (take 0 l) 0
 reached-none x l = ([], refl, gone-none x)
@@ -94,75 +61,70 @@ failed-stops : (x : Kind) (w : Time) → LineStopSays x w (line_failed_of w)
 failed-stops x First = refl
 failed-stops x Second = refl
 
-module _ (x : Kind) (w : Time) (at : ℕ) (u : List ℕ) (n : ℕ) (q : Reached x at u n) (v : Turn) where
-  turn_on : (s o l d : List ℕ) (a m k : ℕ) → v ≡ On a m k → LineTurnSays x w u s n o v l d → (a ≡ length s) × (m ≤ length l) × Reached x (at + a) (take m l) k
-  turn_on s o l d a m k e (bad r j h g) = absurd (other _ _ 0 2 (sym e ∙ g) refl refl (λ z. omega arith))
-  turn_on s o l d a m k e (unwritten f g) = absurd (other _ _ 0 2 (sym e ∙ g) refl refl (λ z. omega arith))
-  turn_on s o l d a m k e (gone i j p h g) =
-      let z = sym e ∙ g in
-      let used : a ≡ length s = ap used_of z in
-      let held : m ≡ i = ap held_of z in
-      let ends : k ≡ p = ap lines_of z in
-      let on = gone-on x q.0 u n q.2 s h.1.text (take m l) k h.1.says (rw held h.1.line) (ends ∙ h.2) in
+module _ (x : Kind) (w : Time) (at : ℕ) (u : List ℕ) (n : ℕ) (q : Reached x at u n) where
+  turn_on : (s o l d : List ℕ) (g : Gone) → LineTurnSays x w u s n o (Ok (Some g)) l d → (g.used ≡ length s) × (g.len ≤ length l) × Reached x (at + g.used) (take g.len l) g.lines
+  turn_on s o l d g (bad r h e) = absurd (cc)
+  turn_on s o l d g (unwritten f e) = absurd (cc)
+  turn_on s o l d g (gone r h e) =
+      let z : g ≡ record { used = length s; len = r.len; lines = r.lines } = cc in
+      let used : g.used ≡ length s = rw z refl in
+      let held : g.len ≡ r.len = rw z refl in
+      let ends : g.lines ≡ r.lines = rw z refl in
+      let on = gone-on x q.0 u n q.2 s h.1.text (take g.len l) g.lines h.1.says (rw held h.1.line) (ends ∙ h.2) in
       (used, omega (arith, held, h.0), (q.0 ++ s, omega (arith, used, q.1, length-append q.0 s), on))
 
-  turn-done : (s o l d : List ℕ) → v ≡ Done → LineTurnSays x w u s n o v l d → ⊥
-  turn-done s o l d e (gone i j p h g) = other _ _ 1 0 (sym e ∙ g) refl refl (λ z. omega arith)
-  turn-done s o l d e (bad r j h g) = other _ _ 1 2 (sym e ∙ g) refl refl (λ z. omega arith)
-  turn-done s o l d e (unwritten f g) = other _ _ 1 2 (sym e ∙ g) refl refl (λ z. omega arith)
+  turn-done : (s o l d : List ℕ) → LineTurnSays x w u s n o (Ok None) l d → ⊥
+  turn-done s o l d (gone r h e) = cc
+  turn-done s o l d (bad r h e) = cc
+  turn-done s o l d (unwritten f e) = cc
 
-  turn_stopped : (s o l d : List ℕ) (t : Ended) → v ≡ Stopped t → LineTurnSays x w u s n o v l d → LineStopSays x w t
-  turn_stopped s o l d t e (gone i j p h g) = absurd (other _ _ 2 0 (sym e ∙ g) refl refl (λ z. omega arith))
-  turn_stopped s o l d t e (unwritten f g) = let k : t ≡ As E.Unwritten = ap why_of (sym e ∙ g) in rw k f
-  turn_stopped s o l d t e (bad r k (i, a, b, h) g) =
+  turn_stopped : (s o l d : List ℕ) (t : Ended) → LineTurnSays x w u s n o (Err t) l d → LineStopSays x w t
+  turn_stopped s o l d t (gone r h e) = absurd (cc)
+  turn_stopped s o l d t (unwritten f e) = let k : t ≡ As E.Unwritten = cc in rw k f
+  turn_stopped s o l d t (bad r (i, a, b, h) e) =
       let c = take i s in
       let on = gone-on x q.0 u n q.2 c h.text (take most_kept (Rattle.stream_spec.specs.Lines.under u c)) (n + length (ended u c)) h.writes refl refl in
-      let f = gone-refused x (q.0 ++ c) _ _ on r h.refused in
-      let y : t ≡ line_refused_of w r k = ap why_of (sym e ∙ g) in
-      rw (y, h.number) (refused-stops x w _ r _ f)
+      let f = gone-refused x (q.0 ++ c) _ _ on r.why h.refused in
+      let y : t ≡ line_refused_of w r.why r.number = cc in
+      rw (y, h.number) (refused-stops x w _ r.why _ f)
 
-  last_on : (o d : List ℕ) (a m k : ℕ) → v ≡ On a m k → LineLastSays x w u n o v d → ⊥
-  last_on o d a m k e (over i j p h g) = other _ _ 0 1 (sym e ∙ g) refl refl (λ z. omega arith)
-  last_on o d a m k e (worse r j h g) = other _ _ 0 2 (sym e ∙ g) refl refl (λ z. omega arith)
-  last_on o d a m k e (unsaid f g) = other _ _ 0 2 (sym e ∙ g) refl refl (λ z. omega arith)
+  last_on : (o d : List ℕ) (g : Gone) → LineLastSays x w u n o (Ok (Some g)) d → ⊥
+  last_on o d g (over r h e) = cc
+  last_on o d g (worse r h e) = cc
+  last_on o d g (unsaid f e) = cc
 
-  last_done : (o d : List ℕ) → v ≡ Done → LineLastSays x w u n o v d → LinesThrough x at
-  last_done o d e (over i j p h g) = (q.0, _, q.1, gone-last x q.0 u n q.2 h.0.text h.0.says)
-  last_done o d e (worse r j h g) = absurd (other _ _ 1 2 (sym e ∙ g) refl refl (λ z. omega arith))
-  last_done o d e (unsaid f g) = absurd (other _ _ 1 2 (sym e ∙ g) refl refl (λ z. omega arith))
+  last_done : (o d : List ℕ) → LineLastSays x w u n o (Ok None) d → LinesThrough x at
+  last_done o d (over r h e) = (q.0, _, q.1, gone-last x q.0 u n q.2 h.0.text h.0.says)
+  last_done o d (worse r h e) = absurd (cc)
+  last_done o d (unsaid f e) = absurd (cc)
 
-  last-stopped : (o d : List ℕ) (t : Ended) → v ≡ Stopped t → LineLastSays x w u n o v d → LineStopSays x w t
-  last-stopped o d t e (over i j p h g) = absurd (other _ _ 2 1 (sym e ∙ g) refl refl (λ z. omega arith))
-  last-stopped o d t e (unsaid f g) = let k : t ≡ As E.Unwritten = ap why_of (sym e ∙ g) in rw k f
-  last-stopped o d t e (worse r k (a, h, f) g) =
-      let y : t ≡ line_refused_of w r k = ap why_of (sym e ∙ g) in
-      rw (y, f) (refused-stops x w q.0 r (n + 1) (last-refused x q.0 u n q.2 r a h))
+  last-stopped : (o d : List ℕ) (t : Ended) → LineLastSays x w u n o (Err t) d → LineStopSays x w t
+  last-stopped o d t (over r h e) = absurd (cc)
+  last-stopped o d t (unsaid f e) = let k : t ≡ As E.Unwritten = cc in rw k f
+  last-stopped o d t (worse r (a, h, f) e) =
+      let y : t ≡ line_refused_of w r.why r.number = cc in
+      rw (y, f) (refused-stops x w q.0 r.why (n + 1) (last-refused x q.0 u n q.2 r.why a h))
 
-  pub line_on : (b o l d : List ℕ) (a m k : ℕ) → 0 < length b → v ≡ On a m k → LineAtSays x w u b n o v l d → (0 < a) × (a ≤ length b) × (m ≤ length l) × Reached x (at + a) (take m l) k
-  line_on b o l d a m k z e (unread f) = absurd (other _ _ 0 2 (sym e ∙ f) refl refl (λ z. omega arith))
-  line_on b o l d a m k z e (full h) = let i = turn_on b o l d a m k e h in (omega (arith, i.0, z), omega (arith, i.0), i.1, i.2)
-  line_on b o l d a m k z e (some j y f h) = let i = turn_on (take j b) o l d a m k e h in (omega (arith, i.0, length-take j b, y, f), omega (arith, i.0, length-take j b), i.1, i.2)
-  line_on b o l d a m k z e (last h) = absurd (last_on o d a m k e h)
+  pub line_on : (b o l d : List ℕ) (g : Gone) → 0 < length b → LineAtSays x w u b n o (Ok (Some g)) l d →
+      (0 < g.used) × (g.used ≤ length b) × (g.len ≤ length l) × Reached x (at + g.used) (take g.len l) g.lines
+  line_on b o l d g z (unread f) = absurd (cc)
+  line_on b o l d g z (full h) = let i = turn_on b o l d g h in (omega (arith, i.0, z), omega (arith, i.0), i.1, i.2)
+  line_on b o l d g z (some j y f h) = let i = turn_on (take j b) o l d g h in (omega (arith, i.0, length-take j b, y, f), omega (arith, i.0, length-take j b), i.1, i.2)
+  line_on b o l d g z (last h) = absurd (last_on o d g h)
 
-  pub line-done : (b o l d : List ℕ) → v ≡ Done → LineAtSays x w u b n o v l d → LinesThrough x at
-  line-done b o l d e (unread f) = absurd (other _ _ 1 2 (sym e ∙ f) refl refl (λ z. omega arith))
-  line-done b o l d e (full h) = absurd (turn-done b o l d e h)
-  line-done b o l d e (some j y f h) = absurd (turn-done (take j b) o l d e h)
-  line-done b o l d e (last h) = last_done o d e h
+  pub line-done : (b o l d : List ℕ) → LineAtSays x w u b n o (Ok None) l d → LinesThrough x at
+  line-done b o l d (unread f) = absurd (cc)
+  line-done b o l d (full h) = absurd (turn-done b o l d h)
+  line-done b o l d (some j y f h) = absurd (turn-done (take j b) o l d h)
+  line-done b o l d (last h) = last_done o d h
 
-  pub line-stopped : (b o l d : List ℕ) (t : Ended) → v ≡ Stopped t → LineAtSays x w u b n o v l d → LineStopSays x w t
-  line-stopped b o l d t e (unread f) = let k : t ≡ line_failed_of w = ap why_of (sym e ∙ f) in rw k (failed-stops x w)
-  line-stopped b o l d t e (full h) = turn_stopped b o l d t e h
-  line-stopped b o l d t e (some j y f h) = turn_stopped (take j b) o l d t e h
-  line-stopped b o l d t e (last h) = last-stopped o d t e h
+  pub line-stopped : (b o l d : List ℕ) (t : Ended) → LineAtSays x w u b n o (Err t) l d → LineStopSays x w t
+  line-stopped b o l d t (unread f) = let k : t ≡ line_failed_of w = cc in rw k (failed-stops x w)
+  line-stopped b o l d t (full h) = turn_stopped b o l d t h
+  line-stopped b o l d t (some j y f h) = turn_stopped (take j b) o l d t h
+  line-stopped b o l d t (last h) = last-stopped o d t h
 
 -- ---- how a time ended
-
-pub through-once : (x : Kind) (w : Time) (v : Pass) (e : ℕ) → v ≡ P.Through e → LinePassSays x w v → LinesThrough x e
-through-once x w v e f h = rw f at h
-
-pub stopped-once : (x : Kind) (w : Time) (v : Pass) (t : Ended) → v ≡ P.Stopped t → LinePassSays x w v → LineStopSays x w t
-stopped-once x w v t f h = rw f at h
 
 -- too long, behind lines that all write
 pub too_long : (x : Kind) (w : Time) (at : ℕ) (u : List ℕ) (n : ℕ) → Rattle.program_passes_inner.specs.Passes.limit ≤ at → Reached x at u n → LineStopSays x w (As E.TooLong)

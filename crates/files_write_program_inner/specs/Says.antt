@@ -8,7 +8,7 @@
 --     LineStopSays x w t             why it stopped before the end: at the first refused line the first time, of which nothing is written; at a read or a write that failed;
 --                                    or the input is too long, or not the same
 --     LinePassSays, LineWrittenSays, LineThroughSays    how a time ended, a second time, and the whole: `Whole` only where all lines write, and both times came to one place
-use Rattle.std.specs.Prelude.{ℕ, ◌+◌, ◌*◌, ◌<◌, ◌≤◌, ◌≡◌, ◌⊎◌, List, [], length, take}
+use Rattle.std.specs.Prelude.{ℕ, ◌+◌, ◌*◌, ◌<◌, ◌≤◌, ◌≡◌, ◌⊎◌, List, [], length, take, Result, Ok, Err, Option, Some, None}
 use Rattle.refusal.specs.declared.Refusal.{Refusal}
 use Rattle.record_spec.specs.declared.Kind.{Kind}
 use Rattle.stream_spec.specs.Lines.{ended}
@@ -18,7 +18,8 @@ use Rattle.program_passes_inner.specs.Passes.{limit}
 use Rattle.files_text_inner.specs.Room.{record_room}
 use Rattle.files_write_spec.specs.RingLines.{most_kept, LineWrites}
 use Rattle.files_write_spec.specs.Inputs.{LinesWrite, FirstRefused}
-use Rattle.files_write_byte_inner.specs.declared.Lined.TheVariants as L
+use Rattle.files_write_byte_inner.specs.declared.Lined.{Lined}
+use Rattle.files_write_byte_inner.specs.declared.BadLine.{BadLine}
 use Rattle.files_write_byte_inner.specs.Says.{LinedEnd}
 use Rattle.files_write_inner.specs.Says.{LinedSays}
 use Rattle.files_write_ending_inner.specs.declared.Time.{Time}
@@ -26,10 +27,7 @@ use Rattle.files_write_ending_inner.specs.declared.Time.TheVariants.{First, Seco
 use Rattle.files_write_ending_inner.specs.declared.Ended.{Ended}
 use Rattle.files_write_ending_inner.specs.declared.Ended.TheVariants.{Line, As}
 use Rattle.files_write_ending_inner.specs.Endings.{line_refused_of, line_failed_of}
-use Rattle.files_write_program_inner.specs.declared.Turn.{Turn}
-use Rattle.files_write_program_inner.specs.declared.Turn.TheVariants.{On, Done, Stopped}
-use Rattle.files_write_program_inner.specs.declared.Pass.{Pass}
-use Rattle.files_write_program_inner.specs.declared.Pass.TheVariants as P
+use Rattle.files_write_program_inner.specs.declared.Gone.{Gone}
 
 pub record RoomyLines (b l d : List ℕ) : Type 0 where
   pub some : 0 < length b
@@ -39,19 +37,19 @@ pub record RoomyLines (b l d : List ℕ) : Type 0 where
 
 -- ---- a block
 
-pub data LineTurnSays (x : Kind) (w : Time) (u s : List ℕ) (n : ℕ) (o : List ℕ) (v : Turn) (l d : List ℕ) : Type 0 where
-  gone : (m e k : ℕ) → LinedSays x u s o n (L.On m e k) l d → v ≡ On (length s) m k → LineTurnSays x w u s n o v l d
-  bad : (r : Refusal) (k : ℕ) → LinedSays x u s o n (L.Refused r k) l d → v ≡ Stopped (line_refused_of w r k) → LineTurnSays x w u s n o v l d
-  unwritten : w ≡ Second → v ≡ Stopped (As E.Unwritten) → LineTurnSays x w u s n o v l d
+pub data LineTurnSays (x : Kind) (w : Time) (u s : List ℕ) (n : ℕ) (o : List ℕ) (v : Result (Option Gone) Ended) (l d : List ℕ) : Type 0 where
+  gone : (r : Lined) → LinedSays x u s o n (Ok r) l d → v ≡ Ok (Some (record { used = length s; len = r.len; lines = r.lines })) → LineTurnSays x w u s n o v l d
+  bad : (r : BadLine) → LinedSays x u s o n (Err r) l d → v ≡ Err (line_refused_of w r.why r.number) → LineTurnSays x w u s n o v l d
+  unwritten : w ≡ Second → v ≡ Err (As E.Unwritten) → LineTurnSays x w u s n o v l d
 
-pub data LineLastSays (x : Kind) (w : Time) (u : List ℕ) (n : ℕ) (o : List ℕ) (v : Turn) (d : List ℕ) : Type 0 where
-  over : (m e k : ℕ) → LinedEnd x u o n (L.On m e k) d → v ≡ Done → LineLastSays x w u n o v d
-  worse : (r : Refusal) (k : ℕ) → LinedEnd x u o n (L.Refused r k) d → v ≡ Stopped (line_refused_of w r k) → LineLastSays x w u n o v d
-  unsaid : w ≡ Second → v ≡ Stopped (As E.Unwritten) → LineLastSays x w u n o v d
+pub data LineLastSays (x : Kind) (w : Time) (u : List ℕ) (n : ℕ) (o : List ℕ) (v : Result (Option Gone) Ended) (d : List ℕ) : Type 0 where
+  over : (r : Lined) → LinedEnd x u o n (Ok r) d → v ≡ Ok None → LineLastSays x w u n o v d
+  worse : (r : BadLine) → LinedEnd x u o n (Err r) d → v ≡ Err (line_refused_of w r.why r.number) → LineLastSays x w u n o v d
+  unsaid : w ≡ Second → v ≡ Err (As E.Unwritten) → LineLastSays x w u n o v d
 
 -- what stands in the lent block afterwards was read: all of it, or its first m bytes; or nothing, and the input is over
-pub data LineAtSays (x : Kind) (w : Time) (u b : List ℕ) (n : ℕ) (o : List ℕ) (v : Turn) (l d : List ℕ) : Type 0 where
-  unread : v ≡ Stopped (line_failed_of w) → LineAtSays x w u b n o v l d
+pub data LineAtSays (x : Kind) (w : Time) (u b : List ℕ) (n : ℕ) (o : List ℕ) (v : Result (Option Gone) Ended) (l d : List ℕ) : Type 0 where
+  unread : v ≡ Err (line_failed_of w) → LineAtSays x w u b n o v l d
   full : LineTurnSays x w u b n o v l d → LineAtSays x w u b n o v l d
   some : (m : ℕ) → 0 < m → m < length b → LineTurnSays x w u (take m b) n o v l d → LineAtSays x w u b n o v l d
   last : LineLastSays x w u n o v d → LineAtSays x w u b n o v l d
@@ -72,9 +70,9 @@ LineStopSays x w (As E.NoFile) = ⊥
 LineStopSays x w (As E.Lost) = w ≡ Second
 LineStopSays x w (As E.Changed) = w ≡ Second
 
-abbrev pub LinePassSays : Kind → Time → Pass → Type 0
-LinePassSays x w (P.Through e) = LinesThrough x e
-LinePassSays x w (P.Stopped t) = LineStopSays x w t
+abbrev pub LinePassSays : Kind → Time → Result ℕ Ended → Type 0
+LinePassSays x w (Ok e) = LinesThrough x e
+LinePassSays x w (Err t) = LineStopSays x w t
 
 -- ---- both times
 

@@ -10,7 +10,6 @@ ghost use Rattle.files_write_spec.specs.RingLines.{most_kept};
 ghost use Rattle.files_write_byte_inner.specs.Says.{most_ended};
 ghost use Rattle.files_write_program_inner.specs.Says.{RoomyLines, LineTurnSays, LineLastSays, LineAtSays, LinePassSays, LineWrittenSays, LineThroughSays};
 
-use files_write_byte_inner::Lined;
 use files_write_ending_inner::{Ended, Time};
 use program_ending_inner::Ending;
 use program_passes_inner::LIMIT;
@@ -22,19 +21,12 @@ use std::rt::HostRuntime;
 // The number of standard error.
 const STDERR_FILENO: i32 = 2;
 
-// What becomes of a block: so many bytes of it are done, with so many bytes held of the line under way and so many lines ended; or the input is over; or that is as far as it goes.
+// A block that was taken: how many bytes of it are done, how many are held of the line under way, and how many lines have ended.
 #[derive(Clone, Copy)]
-pub enum Turn {
-    On(usize, usize, usize),
-    Done,
-    Stopped(Ended),
-}
-
-// How a time through the input ended: at its end, which is at that place, or before it.
-#[derive(Clone, Copy)]
-pub enum Pass {
-    Through(usize),
-    Stopped(Ended),
+pub struct Gone {
+    pub used: usize,
+    pub len: usize,
+    pub lines: usize,
 }
 
 // What was read of the input.
@@ -46,7 +38,7 @@ fn take_block(
     len: usize,
     lines: usize,
     out: &mut [u8],
-) -> Turn
+) -> Result<Option<Gone>, Ended>
     requires line_len { length line.old ≡ most_kept }
     requires len_in_bounds { len ≤ length line.old }
     requires record_room_in_bounds { length block.now * record_room ≤ length out.old }
@@ -54,29 +46,39 @@ fn take_block(
     ensures { LineTurnSays kind time (take len line.old) block.now lines out.old result line.new out.new }
 {
     match files_write_inner::take_bytes(kind, line, len, block, out, lines) {
-        Lined::Refused(r, n) => Turn::Stopped(files_write_ending_inner::refused(time, r, n)),
-        Lined::On(m, at, n) => {
-            if !files_write_ending_inner::hand_on(time, &out[..at]) {
-                return Turn::Stopped(Ended::As(Ending::Unwritten));
+        Err(bad) => Err(files_write_ending_inner::refused(time, bad.why, bad.number)),
+        Ok(lined) => {
+            if !files_write_ending_inner::hand_on(time, &out[..lined.at]) {
+                return Err(Ended::As(Ending::Unwritten));
             }
-            Turn::On(block.len(), m, n)
+            Ok(Some(Gone {
+                used: block.len(),
+                len: lined.len,
+                lines: lined.lines,
+            }))
         }
     }
 }
 
 // The end of the input.
-fn take_end(kind: Kind, time: Time, line: &[u8], lines: usize, out: &mut [u8]) -> Turn
+fn take_end(
+    kind: Kind,
+    time: Time,
+    line: &[u8],
+    lines: usize,
+    out: &mut [u8],
+) -> Result<Option<Gone>, Ended>
     requires record_room_in_bounds { record_room ≤ length out.old }
     requires lines_lt_most_ended { lines < most_ended }
     ensures { LineLastSays kind time line.now lines out.old result out.new }
 {
     match files_write_byte_inner::take_last(kind, line, out, lines) {
-        Lined::Refused(r, n) => Turn::Stopped(files_write_ending_inner::refused(time, r, n)),
-        Lined::On(_, at, _) => {
-            if !files_write_ending_inner::hand_on(time, &out[..at]) {
-                return Turn::Stopped(Ended::As(Ending::Unwritten));
+        Err(bad) => Err(files_write_ending_inner::refused(time, bad.why, bad.number)),
+        Ok(lined) => {
+            if !files_write_ending_inner::hand_on(time, &out[..lined.at]) {
+                return Err(Ended::As(Ending::Unwritten));
             }
-            Turn::Done
+            Ok(None)
         }
     }
 }
@@ -92,7 +94,7 @@ fn take_at(
     len: usize,
     lines: usize,
     out: &mut [u8],
-) -> Turn
+) -> Result<Option<Gone>, Ended>
     requires at_lt_limit { at < limit }
     requires roomy_lines { RoomyLines block.old line.old out.old }
     requires len_in_bounds { len ≤ length line.old }
@@ -100,7 +102,7 @@ fn take_at(
     ensures { LineAtSays kind time (take len line.old) block.new lines out.old result line.new out.new }
 {
     match program_passes_inner::read_from(input, at, block) {
-        Most::Failed => Turn::Stopped(files_write_ending_inner::failed(time)),
+        Most::Failed => Err(files_write_ending_inner::failed(time)),
         Most::Full => take_block(kind, time, block, line, len, lines, out),
         Most::Ended(got) => {
             if got == 0 {
@@ -119,7 +121,7 @@ fn go_once(
     block: &mut [u8],
     line: &mut [u8],
     out: &mut [u8],
-) -> Pass
+) -> Result<usize, Ended>
     requires { RoomyLines block.old line.old out.old }
     ensures { LinePassSays kind time result }
 {
@@ -127,21 +129,14 @@ fn go_once(
     let mut len = 0;
     let mut lines = 0;
     while at < LIMIT {
-        match take_at(input, kind, time, at, block, line, len, lines, out) {
-            Turn::On(used, m, n) => {
-                at += used;
-                len = m;
-                lines = n;
-            }
-            Turn::Done => {
-                return Pass::Through(at);
-            }
-            Turn::Stopped(t) => {
-                return Pass::Stopped(t);
-            }
-        }
+        let Some(gone) = take_at(input, kind, time, at, block, line, len, lines, out)? else {
+            return Ok(at);
+        };
+        at += gone.used;
+        len = gone.len;
+        lines = gone.lines;
     }
-    Pass::Stopped(Ended::As(Ending::TooLong))
+    Err(Ended::As(Ending::TooLong))
 }
 
 // The second time, behind a first that went through to the place `end`.
@@ -157,8 +152,8 @@ fn go_again(
     ensures { LineWrittenSays kind end result }
 {
     match go_once(input, kind, Time::Second, block, line, out) {
-        Pass::Through(again) => Ended::As(program_passes_inner::same_end(end, again)),
-        Pass::Stopped(t) => t,
+        Ok(again) => Ended::As(program_passes_inner::same_end(end, again)),
+        Err(t) => t,
     }
 }
 
@@ -177,8 +172,8 @@ fn go_through(
         return Ended::As(Ending::NoFile);
     };
     match go_once(&mut file, kind, Time::First, block, line, out) {
-        Pass::Through(end) => go_again(&mut file, kind, end, block, line, out),
-        Pass::Stopped(t) => t,
+        Ok(end) => go_again(&mut file, kind, end, block, line, out),
+        Err(t) => t,
     }
 }
 

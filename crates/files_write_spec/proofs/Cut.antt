@@ -6,7 +6,7 @@
 --     gone-none, gone-on, gone-few    no bytes yet, and a block more; no more lines end than there are bytes
 --     gone-last                       the end, where the line under way writes too, or there is none
 --     gone-refused, last-refused      a line that is refused: one that ends, and the last
-use Rattle.words.proofs.Plain.{ℕ, suc, ◌+◌, ◌<◌, ◌≤◌, arith, dec_lt, ◌≡◌, refl, sym, ap, subst, ◌∙◌, true, false, List, [], ◌∷◌, ◌++◌, append-nil, append_assoc}
+use Rattle.words.proofs.Plain.{ℕ, ◌+◌, ◌<◌, ◌≤◌, arith, dec_lt, ◌≡◌, refl, sym, ap, ◌∙◌, List, [], ◌∷◌, ◌++◌, append-nil}
 use Rattle.words.proofs.Plain.{eqb, length, take, length-append, length-take, take_all, take-take, eq-eqb}
 use Rattle.words.proofs.Split.{passes, fails, test}
 use Rattle.text_spec.specs.Ascii.{newline}
@@ -17,7 +17,7 @@ use Rattle.stream_spec.specs.Texts.{Texts, done, more, Tells, BlockRun}
 use Rattle.stream_spec.proofs.Bytes.{ended-newline, ended-other, under-newline, under-other, ended-none, under_none, ended-append, under-append, ended-on, under-on, last_some, last_none}
 use Rattle.stream_spec.proofs.Unique.{texts-append}
 use Rattle.stream_spec.proofs.Cut.{kept_on, tells-same, lines-kept, run-prints, cut-anyhow}
-use Rattle.files_write_spec.specs.RingLines.{most_kept, RingLine, LineWrites, LineRefused, unread, given}
+use Rattle.files_write_spec.specs.RingLines.{most_kept, LineWrites, LineRefused, unread, given}
 use Rattle.files_write_spec.specs.Inputs.{LinesWrite, FirstRefused}
 use Rattle.files_write_spec.proofs.Unique.{one-record}
 

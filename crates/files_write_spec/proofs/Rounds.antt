@@ -2,7 +2,7 @@
 --     stands            a record that stands at a place of a catalogue might have been written there
 --     lines-homes       behind whatever stands in front
 --     written-homes     a whole input
-use Rattle.words.proofs.Plain.{ℕ, ◌+◌, ◌≤◌, arith, ◌≡◌, refl, sym, ap, subst, ◌∙◌, List, [], ◌∷◌, ◌++◌, append_assoc, length, drop, length-append, drop_at}
+use Rattle.words.proofs.Plain.{ℕ, ◌+◌, arith, ◌≡◌, refl, sym, ap, subst, ◌∙◌, List, [], ◌∷◌, ◌++◌, append_assoc, length, drop, length-append, drop_at}
 use Rattle.refusal.specs.{Order.Passed, Calls.one_reading}
 use Rattle.record_spec.specs.{declared.Kind.Kind, Layout.body_length, Writes.Wrote}
 use Rattle.record_spec.proofs.Wrote.{record_bytes, length-record, bytes-placed}

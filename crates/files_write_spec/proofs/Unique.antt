@@ -8,12 +8,12 @@
 --     never-both-input       and never both
 use Rattle.words.proofs.Plain.{ℕ, suc, arith, ◌≡◌, refl, sym, ap, subst, ◌∙◌, List, [], ◌∷◌, ◌++◌, length}
 use Rattle.text_words_spec.proofs.Pieces.{first-same, behind-same}
-use Rattle.refusal.specs.{declared.Refusal.Refusal, Order.Given, Order.Passed, Calls.one_reading}
+use Rattle.refusal.specs.{declared.Refusal.Refusal, Order.Passed, Calls.one_reading}
 use Rattle.refusal.proofs.Unique.{never_both, one-refusal}
 use Rattle.record_spec.specs.declared.Kind.{Kind}
 use Rattle.record_spec.proofs.Wrote.{record_bytes}
 use Rattle.stream_spec.specs.Lines.{lines}
-use Rattle.stream_spec.specs.Texts.{Texts, done, more}
+use Rattle.stream_spec.specs.Texts.{Texts, more}
 use Rattle.stream_spec.proofs.Unique.{one-prints}
 use Rattle.desk_spec.proofs.Questions.{one-reading}
 use Rattle.files_spec.proofs.Unique.{filled-bytes}

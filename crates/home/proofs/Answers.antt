@@ -1,5 +1,5 @@
 -- From the checks that passed, and from shifts, to what the calls answer.
---     passed-pos, passed-pair, passed-room           what passed checks give
+--     passed-pair                                    what passed checks give
 --     shift_fits                                     the reading can be turned by its shift
 --     turned-home, same-turned                       turned by their shifts, readings are home, and of the same ring
 --     home-back                                      the output, turned back by the shift that is answered, is the reading
@@ -8,24 +8,16 @@ use Rattle.words.specs.{Order.same, Turn.turn}
 use Rattle.rings.specs.{Home.home, Home.shift, Alike.same_ring}
 use Rattle.ring_home_laws.proofs.Home.{shift-lt, turn-back-home}
 use Rattle.refusal.specs.Order.{Passed}
-use Rattle.refusal.specs.Calls.{Asked, general, ask_room, two_readings, with_room}
-use Rattle.home_spec.specs.declared.Homed.TheVariants as H
-use Rattle.home_spec.specs.declared.Told.TheVariants as T
+use Rattle.refusal.specs.Calls.{two_readings}
+use Rattle.std.specs.Prelude.{Ok}
+use Rattle.home_spec.specs.declared.Home.{Home}
 use Rattle.home_spec.specs.Says.{HomeSays}
 
 -- ---- what passed checks give
 
--- a reading that passed has at least one sector
-pub passed-pos : (a : Asked) → Passed (general a) → 0 < a.n
-passed-pos a p = p.0.0.0.0.0.0.0
-
 -- two readings that passed are of one length
 pub passed-pair : (v w : List ℕ) (k : ℕ) → Passed (two_readings v w k) → length v ≡ length w
 passed-pair v w k p = sym p.0.0.0.0.0.1
-
--- an output that passed is as long as the reading
-pub passed-room : (w : List ℕ) (k m : ℕ) → Passed (with_room w k m) → m ≡ length w
-passed-room w k m p = p.0.0.1
 
 -- ---- turned by their shifts
 
@@ -46,5 +38,5 @@ same-turned v w i j p q = rw (turned-home v i p, turned-home w j q)
 -- ---- the answer of bringing home
 
 -- turned on from the shift to the length, what bringing home writes is the reading again
-pub home-back : (w : List ℕ) (k : ℕ) (b c : List ℕ) (i p : ℕ) → HomeSays w k b (H.Home i p) c → turn (length w - i) c ≡ w
-home-back w k b c i p h = rw (h.ring, h.turns) (turn-back-home w (passed-pos (ask_room w k (length b)) h.passed))
+pub home-back : (w : List ℕ) (k : ℕ) (b c : List ℕ) (x : Home) → HomeSays w k b (Ok x) c → turn (length w - x.shift) c ≡ w
+home-back w k b c x h = rw (h.ring, h.turns) (turn-back-home w h.passed.0.0.0.0.0.0.0)

@@ -1,2 +1,2 @@
--- The calls: from checks and shifts to answers (Answers), and that no call has two answers (Unique).
+-- The calls: from checks and shifts to answers (Answers). That no call has two answers: `home_spec`, proofs/Unique.
 pub mod Answers

@@ -12,17 +12,13 @@ pub fn differing_below(a: &[u8], i: usize, b: &[u8], limit: usize) -> usize
     ensures { result ≡ min (differing (turn i a.now) b.now) limit }
 {
     let mut d = 0;
-    let mut m = 0;
-    while m < a.len() {
+    for m in 0..a.len() {
         if limit <= d {
             return limit;
         }
-        let x = home_turns_inner::sector(a, i, m);
-        let y = b[m];
-        if x != y {
+        if home_turns_inner::sector(a, i, m) != b[m] {
             d += 1;
         }
-        m += 1;
     }
     d
 }

@@ -6,6 +6,7 @@ ghost use Rattle.std.specs.Prelude.{◌≡◌};
 ghost use Rattle.rings.specs.Alike.{even_handed};
 
 // Whether some turn of the reversed bytes equals the bytes. Yes at the first turn that matches in every sector.
+// Two loops and no iterator, for 01, 'Forms we want to see', asks for them: a mismatch continues the outer label, a full match leaves both.
 pub fn is_even_handed(s: &[u8]) -> bool
     ensures { result ≡ even_handed s.now }
 {

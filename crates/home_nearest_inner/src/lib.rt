@@ -14,13 +14,11 @@ pub fn fewest_differing(a: &[u8], b: &[u8]) -> usize
 {
     let n = a.len();
     let mut best = n;
-    let mut i = 0;
-    while i < n {
+    for i in 0..n {
         best = home_differing_inner::differing_below(a, i, b, best);
         if best == 0 {
             return 0;
         }
-        i += 1;
     }
     best
 }
@@ -30,12 +28,10 @@ pub fn is_nearer(a: &[u8], b: &[u8], d: usize) -> bool
     requires { (0 < length a.now) × (length a.now ≡ length b.now) }
     ensures { result ≡ ltb (apart a.now b.now) d }
 {
-    let mut j = 0;
-    while j < a.len() {
+    for j in 0..a.len() {
         if home_differing_inner::differing_below(a, j, b, d) < d {
             return true;
         }
-        j += 1;
     }
     false
 }
@@ -45,17 +41,10 @@ pub fn nearest_turn(a: &[u8], b: &[u8], best: usize) -> usize
     requires { (0 < length a.now) × (length a.now ≡ length b.now) × (best ≡ apart a.now b.now) }
     ensures { result ≡ nearest_turn a.now b.now }
 {
-    let n = a.len();
     let limit = best + 1;
-    let mut t = 0;
-    while t < n {
-        let d = home_differing_inner::differing_below(a, t, b, limit);
-        if d == best {
-            return t;
-        }
-        t += 1;
-    }
-    0
+    (0..a.len())
+        .find(|&t| home_differing_inner::differing_below(a, t, b, limit) == best)
+        .unwrap_or(0)
 }
 
 // Whether each turn of s but itself differs from it at d places at least. The turns by more than half of its length are those the other way round.
@@ -63,13 +52,10 @@ pub fn is_steady(s: &[u8], d: usize) -> bool
     requires { 0 < length s.now }
     ensures { result ≡ steady d s.now }
 {
-    let n = s.len();
-    let mut j = 1;
-    while j <= n - j {
+    for j in 1..s.len() / 2 + 1 {
         if home_differing_inner::differing_below(s, j, s, d) < d {
             return false;
         }
-        j += 1;
     }
     true
 }

@@ -9,6 +9,6 @@ pub fn write_reversed(s: &[u8], out: &mut [u8])
     requires { length out.old ≡ length s.now }
     ensures { out.new ≡ reverse s.now }
 {
-    let n = byte_moves_inner::copy(s, out);
-    byte_moves_inner::reverse(out, 0, n);
+    out.copy_from_slice(s);
+    out.reverse();
 }

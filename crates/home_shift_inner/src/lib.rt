@@ -26,11 +26,7 @@ pub fn least_shift(s: &[u8]) -> usize
             continue;
         }
         if y < x {
-            let past = i + m + 1;
-            i = j;
-            if i < past {
-                i = past;
-            }
+            i = j.max(i + m + 1);
             j = i + 1;
             m = 0;
             continue;
@@ -48,10 +44,7 @@ pub fn repeats_by(s: &[u8], p: usize) -> bool
     requires { (0 < p) × (p ≤ length s.now) }
     ensures { result ≡ repeats_by s.now p }
 {
-    if s.len() % p != 0 {
-        return false;
-    }
-    home_turns_inner::same_turns(s, p, s, 0)
+    s.len() % p == 0 && home_turns_inner::same_turns(s, p, s, 0)
 }
 
 // The smallest p of at least 1 that divides the length and by which turning changes nothing.
@@ -60,12 +53,10 @@ pub fn period_of(s: &[u8]) -> usize
     ensures { result ≡ period s.now }
 {
     let n = s.len();
-    let mut p = 1;
-    while p < n {
+    for p in 1..n {
         if repeats_by(s, p) {
             return p;
         }
-        p += 1;
     }
     n
 }

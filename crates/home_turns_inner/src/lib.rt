@@ -33,24 +33,22 @@ pub fn same_turns(a: &[u8], i: usize, b: &[u8], j: usize) -> bool
     requires { (length a.now ≡ length b.now) × (i ≤ length a.now) × (j ≤ length b.now) }
     ensures { result ≡ same (turn i a.now) (turn j b.now) }
 {
-    let mut m = 0;
-    while m < a.len() {
+    for m in 0..a.len() {
         if sector(a, i, m) != sector(b, j, m) {
             return false;
         }
-        m += 1;
     }
     true
 }
 
-// Writes s turned by i.
+// Writes s turned by i. By two copies, for `rotate_left` has a room of its own on the stack (02, request e).
+#[tactic(auto, unfolding(words::specs::Turn::turn))]
 pub fn write_turn(s: &[u8], i: usize, out: &mut [u8])
     requires { (i ≤ length s.now) × (length out.old ≡ length s.now) }
     ensures { out.new ≡ turn i s.now }
 {
-    let mut m = 0;
-    while m < s.len() {
-        out[m] = sector(s, i, m);
-        m += 1;
-    }
+    let (front, behind) = s.split_at(i);
+    let (to, rest) = out.split_at_mut(behind.len());
+    to.copy_from_slice(behind);
+    rest.copy_from_slice(front);
 }

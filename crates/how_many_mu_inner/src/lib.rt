@@ -14,12 +14,10 @@ fn is_prime(p: usize) -> bool
     if p < 2 {
         return false;
     }
-    let mut d: usize = 2;
-    while d < p {
+    for d in 2..p {
         if p % d == 0 {
             return false;
         }
-        d += 1;
     }
     true
 }
@@ -29,24 +27,16 @@ fn prime_divisor(p: usize, m: usize) -> usize
     requires { 0 < p }
     ensures { (result ≡ bit (prime p && divides p m)) × (result ≤ 1) }
 {
-    if !is_prime(p) {
-        return 0;
-    }
-    if m % p == 0 {
-        return 1;
-    }
-    0
+    usize::from(is_prime(p) && m % p == 0)
 }
 
 // How many primes divide m.
 fn count_primes(m: usize) -> usize
     ensures { result ≡ primes_of m }
 {
-    let mut x: usize = 0;
-    let mut i: usize = 0;
-    while i < m {
-        i += 1;
-        x += prime_divisor(i, m);
+    let mut x = 0;
+    for i in 0..m {
+        x += prime_divisor(i + 1, m);
     }
     x
 }
@@ -57,12 +47,10 @@ fn is_square_free(m: usize) -> bool
     requires m_bound { m ≤ 64 }
     ensures { result ≡ square_free m }
 {
-    let mut d: usize = 2;
-    while d <= m {
+    for d in 2..m + 1 {
         if m % (d * d) == 0 {
             return false;
         }
-        d += 1;
     }
     true
 }
@@ -73,11 +61,5 @@ pub fn mu_of(m: usize, rest: usize) -> usize
     requires m_bound { m ≤ 64 }
     ensures { (result ≡ bit (square_free m && eqb (primes_of m % 2) rest)) × (result ≤ 1) }
 {
-    if !is_square_free(m) {
-        return 0;
-    }
-    if count_primes(m) % 2 == rest {
-        return 1;
-    }
-    0
+    usize::from(is_square_free(m) && count_primes(m) % 2 == rest)
 }

@@ -2,11 +2,12 @@
 --     both-no, both_yes                          a common divisor
 --     gcd-start, gcd-found, gcd-on, gcd-end      the greatest one, from b down
 --     sum-start, sum-on, sum-end                 a sum, summand after summand
---     bit-one, bit-zero                          a test, as a number
+--     bit-from                                   a test, as a number
 --     trial-start, trial_on, trial-fall          trial division
 --     prime-small, prime-no, prime-yes           by it, a prime
 --     square-no, square-yes                      and a square-free number
 --     square-fits, square-pos                    the square of a number up to 64
+use mir.Val.{bool_byte}
 use Rattle.words.proofs.Plain.{ℕ, zero, suc, ◌+◌, ◌-◌, ◌*◌, ◌%◌, ◌<◌, ◌≤◌, add-one, arith, ◌≡◌, refl, sym, ◌∙◌, Bool, true, false, not, ◌&&◌, eqb, ltb, lt-ltb}
 use Rattle.words.proofs.Plain.{le-ltb, eq-eqb, ne_eqb, not-true}
 use native.Mathlib.Nat.{mul-le-mul}
@@ -67,11 +68,9 @@ pub sum-end : (f : ℕ → ℕ) (x i m : ℕ) → i ≤ m → m ≤ i → x ≡ 
 sum-end f x i m a b p = let q : i ≡ m = omega arith in rw q at p
 
 -- a test, as a number
-pub bit-one : (t : Bool) → t ≡ true → (1 ≡ bit t) × (1 ≤ 1)
-bit-one t e = rw e (refl, omega arith)
-
-pub bit-zero : (t : Bool) → t ≡ false → (0 ≡ bit t) × (0 ≤ 1)
-bit-zero t e = rw e (refl, omega arith)
+pub bit-from : (x : ℕ) (b t : Bool) → x ≡ bool_byte b → b ≡ t → (x ≡ bit t) × (x ≤ 1)
+bit-from x b true e h = rw (e, h) (refl, omega arith)
+bit-from x b false e h = rw (e, h) (refl, omega arith)
 
 -- ---- trial division
 

@@ -11,22 +11,17 @@ fn divides_both(a: usize, b: usize, d: usize) -> bool
     requires { 0 < d }
     ensures { result ≡ divides_both a b d }
 {
-    if a % d != 0 {
-        return false;
-    }
-    b % d == 0
+    a % d == 0 && b % d == 0
 }
 
 // The greatest common divisor, from b down.
 fn gcd_of(a: usize, b: usize) -> usize
     ensures { result ≡ gcd a b }
 {
-    let mut g = b;
-    while 0 < g {
+    for g in (1..=b).rev() {
         if divides_both(a, b, g) {
             return g;
         }
-        g -= 1;
     }
     0
 }
@@ -35,21 +30,16 @@ fn gcd_of(a: usize, b: usize) -> usize
 fn coprime(i: usize, m: usize) -> usize
     ensures { (result ≡ bit (eqb (gcd i m) 1)) × (result ≤ 1) }
 {
-    if gcd_of(i, m) == 1 {
-        return 1;
-    }
-    0
+    usize::from(gcd_of(i, m) == 1)
 }
 
 // How many of the numbers 1 to m have no divisor in common with m but 1.
 pub fn phi_of(m: usize) -> usize
     ensures { (result ≡ phi m) × (result ≤ m) }
 {
-    let mut x: usize = 0;
-    let mut i: usize = 0;
-    while i < m {
-        i += 1;
-        x += coprime(i, m);
+    let mut x = 0;
+    for i in 0..m {
+        x += coprime(i + 1, m);
     }
     x
 }

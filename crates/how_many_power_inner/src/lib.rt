@@ -10,11 +10,9 @@ pub fn power(k: usize, e: usize) -> usize
     requires e_bound { k ^ e ≤ 4294967296 }
     ensures { result ≡ k ^ e }
 {
-    let mut p: usize = 1;
-    let mut i = 0;
-    while i < e {
+    let mut p = 1;
+    for _ in 0..e {
         p *= k;
-        i += 1;
     }
     p
 }

@@ -1,12 +1,3 @@
-// What the calls that count answer and promise, and that they have one answer. No functions.
+// No code: this crate says what the calls that count promise (specs/), and that they have one answer (proofs/).
 
 #![tactic(auto)]
-
-use refusal::Refusal;
-
-// How many there are, or a refusal.
-#[derive(Clone, Copy)]
-pub enum Counted {
-    Rings(usize),
-    Refused(Refusal),
-}

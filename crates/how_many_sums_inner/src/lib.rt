@@ -49,11 +49,9 @@ fn over_divisors(w: Weight, k: usize, n: usize) -> usize
     requires { Small k n }
     ensures { result ≡ over_divisors n (powers w k n) }
 {
-    let mut x: usize = 0;
-    let mut d: usize = 0;
-    while d < n {
-        d += 1;
-        x += summand(w, k, n, d);
+    let mut x = 0;
+    for d in 0..n {
+        x += summand(w, k, n, d + 1);
     }
     x
 }

@@ -6,9 +6,7 @@
 ghost use Rattle.std.specs.Prelude.{◌^◌, ◌≡◌, ltb};
 ghost use Rattle.limits_spec.specs.Limits.{NumbersSay};
 
-pub use limits_spec::Planned;
 use refusal::Refusal;
-use rings::{FEWEST_SHADES, MOST_SECTORS, MOST_SHADES};
 
 // The greatest power that is not Too many in the listing program and for a target set: 2 to the power 24.
 pub const MOST_LISTED: usize = 16777216;
@@ -27,36 +25,23 @@ pub fn power_above(k: usize, n: usize, limit: usize) -> bool
     if limit < 1 {
         return true;
     }
-    let mut p: usize = 1;
-    let mut i = 0;
-    while i < n {
+    let mut p = 1;
+    for _ in 0..n {
         if limit / k < p {
             return true;
         }
         p *= k;
-        i += 1;
     }
     false
 }
 
 // The order 1, 2, 12.
-pub fn plan_numbers(k: usize, n: usize, limit: usize) -> Planned
+pub fn plan_numbers(k: usize, n: usize, limit: usize) -> Result<(usize, usize), Refusal>
     ensures { NumbersSay limit k n result }
 {
-    if n < 1 {
-        return Planned::Refused(Refusal::Length(0));
-    }
-    if MOST_SECTORS < n {
-        return Planned::Refused(Refusal::Length(0));
-    }
-    if k < FEWEST_SHADES {
-        return Planned::Refused(Refusal::Shades(0));
-    }
-    if MOST_SHADES < k {
-        return Planned::Refused(Refusal::Shades(0));
-    }
+    check_numbers_inner::check_numbers(n, n, k)?;
     if power_above(k, n, limit) {
-        return Planned::Refused(Refusal::TooMany);
+        return Err(Refusal::TooMany);
     }
-    Planned::Accepted(k, n)
+    Ok((k, n))
 }

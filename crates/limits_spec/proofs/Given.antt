@@ -4,12 +4,12 @@
 --     given-number         the number of their refusal is at most 12
 use Rattle.words.proofs.Plain.{ℕ, ◌≤◌, arith, ◌≡◌, inl, inr}
 use Rattle.refusal.specs.{declared.Refusal.Refusal, Numbers.number_of, Order.Given}
-use Rattle.limits_spec.specs.{declared.Planned.Planned, declared.Planned.TheVariants.Accepted}
+use Rattle.std.specs.Prelude.{Result, Ok}
 use Rattle.limits_spec.specs.Limits.{Listable, numbers_order, NumbersSay}
 
 -- numbers that are accepted
-pub accepted-listable : (limit k n j m : ℕ) (p : Planned) → p ≡ Accepted j m → NumbersSay limit k n p → Listable limit k n
-accepted-listable limit k n j m p e q = let s : NumbersSay limit k n (Accepted j m) = rw e at q in s.2
+pub accepted-listable : (limit k n j m : ℕ) (p : Result (ℕ × ℕ) Refusal) → p ≡ Ok (j, m) → NumbersSay limit k n p → Listable limit k n
+accepted-listable limit k n j m p e q = let s : NumbersSay limit k n (Ok (j, m)) = rw e at q in s.2
 
 -- a higher limit
 pub listable-within : (limit most k n : ℕ) → Listable limit k n → limit ≤ most → Listable most k n

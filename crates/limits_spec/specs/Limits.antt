@@ -5,12 +5,11 @@
 --     numbers_order limit k n    the order; `limit-numbers`: by its numbers, as the client says it
 --     NumbersSay limit k n p    what the plan p of the numbers k and n promises
 -- That no numbers have two plans: proofs/Unique.
-use Rattle.std.specs.Prelude.{ℕ, ◌^◌, ◌≤◌, ◌≡◌, refl, [], ◌∷◌}
+use Rattle.std.specs.Prelude.{ℕ, ◌^◌, ◌≤◌, ◌≡◌, refl, [], ◌∷◌, Result, Ok, Err}
 use Rattle.words.specs.Readings.{Sized, Shaded}
+use Rattle.refusal.specs.declared.Refusal.{Refusal}
 use Rattle.refusal.specs.declared.Refusal.TheVariants.{Length, Shades, TooMany}
 use Rattle.refusal.specs.Order.{Checks, fact, ◌▸◌, Given, numbered}
-use Rattle.limits_spec.specs.declared.Planned.{Planned}
-use Rattle.limits_spec.specs.declared.Planned.TheVariants.{Accepted, Refused}
 
 -- the greatest power that is not Too many in the listing program (01), and for a target set (02, g)
 abbrev pub most_listed : ℕ
@@ -29,6 +28,6 @@ numbers_order limit k n = fact (Sized n) (Length 0) ▸ fact (Shaded k) (Shades 
 pub limit-numbers : (limit k n : ℕ) → numbered (numbers_order limit k n) ≡ (1 ∷ 2 ∷ 12 ∷ [])
 limit-numbers limit k n = refl
 
-abbrev pub NumbersSay : ℕ → ℕ → ℕ → Planned → Type 0
-NumbersSay limit k n (Accepted j m) = (j ≡ k) × (m ≡ n) × Listable limit k n
-NumbersSay limit k n (Refused r) = Given (numbers_order limit k n) r
+abbrev pub NumbersSay : ℕ → ℕ → ℕ → Result (ℕ × ℕ) Refusal → Type 0
+NumbersSay limit k n (Ok (j, m)) = (j ≡ k) × (m ≡ n) × Listable limit k n
+NumbersSay limit k n (Err r) = Given (numbers_order limit k n) r

@@ -1,2 +1,2 @@
--- Laws of the line: a number read digit by digit (Spelling), the two numbers and their space (Lines), and lines computed (Samples).
+-- Laws of the line: a number read digit by digit (Spelling).
 pub mod Spelling

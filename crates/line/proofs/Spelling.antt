@@ -1,8 +1,8 @@
 -- Reading a number of one to three digits. `Spelling s x i`: the first i characters of s are digits, and x is what they spell.
---     spelling-start, spelling-on, spelling-small, spelling-end     the loop over the digits
+--     spelling-on, spelling-small, spelling-end                     the loop over the digits
 --     too_short, too_long, zero-first, no_digit                     what is no number of one to three digits
 --     zero-text                                                     0 alone
-use Rattle.words.proofs.Plain.{ℕ, ◌+◌, ◌-◌, ◌*◌, ◌^◌, ◌<◌, ◌≤◌, add-one, arith, dec_lt, ◌≡◌, refl, sym, ap, ◌∙◌, List, [], ◌∷◌, length, get_or, drop}
+use Rattle.words.proofs.Plain.{ℕ, ◌+◌, ◌-◌, ◌*◌, ◌^◌, ◌<◌, ◌≤◌, add-one, arith, dec_lt, ◌≡◌, sym, ap, ◌∙◌, List, [], ◌∷◌, length, get_or, drop}
 use Rattle.words.proofs.{Plain.drop_of_length-le, Plain.drop-cons, Sequence.one_more}
 use native.Mathlib.Nat.{pow-succ', pow-le-pow_right}
 use Rattle.text_spec.specs.Decimal.{decimal}
@@ -13,10 +13,6 @@ pub record Spelling (s : List ℕ) (x i : ℕ) : Type 0 where
   pub digits : (j : ℕ) → j < i → (48 ≤ get_or s j 0) × (get_or s j 0 ≤ 57)
   pub value : value_from 0 s ≡ value_from x (drop i s)
   pub small : x < 10 ^ i
-
--- before the first character
-pub spelling-start : (s : List ℕ) → Spelling s 0 0
-spelling-start s = record { inside = omega arith; digits = λ j h. absurd (omega arith); value = refl; small = omega arith }
 
 module _ (s : List ℕ) (x i : ℕ) (p : Spelling s x i) where
   -- one digit more

@@ -6,7 +6,7 @@
 --     no-newline             no character of `fields k n` is a newline
 --     text-bare, text-ended, text-newline    a text with no newline in it, with or without one behind it, by the last character
 --     line-bare, line-ended  so the line of k and n
---     ended-says, bare-says  what the fields say, the line says
+--     ended-says, bare-says  what the fields say, the line says; split-ended, split-bare by the last character and what stands before it
 --     one_line               a line spells at most one pair
 --     line-short             a line has at most 8 characters
 --     one-parse              no line has two answers
@@ -14,7 +14,7 @@ use Rattle.words.proofs.Plain.{ℕ, suc, ◌+◌, ◌-◌, ◌<◌, ◌≤◌, a
 use Rattle.words.proofs.Plain.{get_or, take, drop, length-append, List·get_d-append, drop_of_length-le, take-append_seam, drop-append-add, get_or-append_seam}
 use Rattle.words.proofs.Plain.{get_or-append-add, split_at, take_at, eqb-true, eqb-false}
 use Rattle.words.proofs.Split.{lt, eq, gt, tri, passes, fails, test}
-use Rattle.line_spec.specs.{declared.Parsed.Parsed, declared.Parsed.TheVariants.Pair, declared.Parsed.TheVariants.Line}
+use Rattle.std.specs.Prelude.{Option, Some, None}
 use Rattle.text_spec.specs.Decimal.{decimal}
 use Rattle.line_spec.specs.Line.{fields, Spells, ParseSays, FieldsSays, TwoSays, SpaceAt}
 use Rattle.text_spec.proofs.Digits.{decimal-digits, decimal-one, length-decimal}
@@ -67,12 +67,12 @@ fields_join t at k n p h e f =
     split_at t at 0 h ∙ rw (e, p.here h, g)
 
 -- so a text with a number before its first space and one behind it
-pub two_fields : (t : List ℕ) (at : ℕ) → SpaceAt t at → at < length t → (r : Parsed) → TwoSays (take at t) (drop (at + 1) t) r → FieldsSays t r
-two_fields t at p h (Pair k n) says = (says.0, says.1, fields_join t at k n p h says.2 says.3)
-two_fields t at p h Line says = λ k n hk hn e. let f = fields_at k n t at e p in says k n hk hn f.1 f.2
+pub two_fields : (t : List ℕ) (at : ℕ) → SpaceAt t at → at < length t → (r : Option (ℕ × ℕ)) → TwoSays (take at t) (drop (at + 1) t) r → FieldsSays t r
+two_fields t at p h (Some (k, n)) says = (says.0, says.1, fields_join t at k n p h says.2 says.3)
+two_fields t at p h None says = λ k n hk hn e. let f = fields_at k n t at e p in says k n hk hn f.1 f.2
 
 -- a text without a space
-pub no_fields : (t : List ℕ) (at : ℕ) → SpaceAt t at → length t ≤ at → FieldsSays t Line
+pub no_fields : (t : List ℕ) (at : ℕ) → SpaceAt t at → length t ≤ at → FieldsSays t None
 no_fields t at p h = λ k n hk hn e. omega (arith, (fields_at k n t at e p).0)
 
 -- ---- the newline
@@ -128,13 +128,29 @@ module _ (s : List ℕ) (k n : ℕ) where
   line-ended l z p = text-ended s (fields k n) (no-newline k n) l z p.text
 
 -- what the fields say, the line says
-pub ended-says : (s : List ℕ) (p : Parsed) → 0 < length s → get_or s (length s - 1) 0 ≡ 10 → FieldsSays (take (length s - 1) s) p → ParseSays s p
-ended-says s (Pair k n) l z f = record { k-short = f.0; n-short = f.1; text = inr (text-newline s (fields k n) l z f.2) }
-ended-says s Line l z f = λ k n p. f k n p.k-short p.n-short (line-ended s k n l z p)
+pub ended-says : (s : List ℕ) (p : Option (ℕ × ℕ)) → 0 < length s → get_or s (length s - 1) 0 ≡ 10 → FieldsSays (take (length s - 1) s) p → ParseSays s p
+ended-says s (Some (k, n)) l z f = record { k-short = f.0; n-short = f.1; text = inr (text-newline s (fields k n) l z f.2) }
+ended-says s None l z f = λ k n p. f k n p.k-short p.n-short (line-ended s k n l z p)
 
-pub bare-says : (s : List ℕ) (p : Parsed) → 0 < length s → (get_or s (length s - 1) 0 ≡ 10 → ⊥) → FieldsSays s p → ParseSays s p
-bare-says s (Pair k n) l z f = record { k-short = f.0; n-short = f.1; text = inl f.2 }
-bare-says s Line l z f = λ k n p. f k n p.k-short p.n-short (line-bare s k n l z p)
+pub bare-says : (s : List ℕ) (p : Option (ℕ × ℕ)) → 0 < length s → (get_or s (length s - 1) 0 ≡ 10 → ⊥) → FieldsSays s p → ParseSays s p
+bare-says s (Some (k, n)) l z f = record { k-short = f.0; n-short = f.1; text = inl f.2 }
+bare-says s None l z f = λ k n p. f k n p.k-short p.n-short (line-bare s k n l z p)
+
+-- so by the last character and what stands before it
+module _ (s t : List ℕ) (a : ℕ) (p : Option (ℕ × ℕ)) (e : s ≡ t ++ (a ∷ [])) where
+  last : get_or s (length s - 1) 0 ≡ a
+  last = rw e (last_of t a)
+
+  some : 0 < length s
+  some = omega (arith, simp length-append at (ap length e))
+
+  pub split-ended : a ≡ 10 → FieldsSays t p → ParseSays s p
+  split-ended z f =
+      let h : take (length s - 1) s ≡ t = rw e (take_at t (a ∷ []) (length (t ++ (a ∷ [])) - 1) (simp length-append (omega arith))) in
+      ended-says s p some (last ∙ z) (rw h f)
+
+  pub split-bare : (a ≡ 10 → ⊥) → FieldsSays s p → ParseSays s p
+  split-bare z f = bare-says s p some (λ q. z (sym last ∙ q)) f
 
 -- ---- one answer
 
@@ -174,8 +190,8 @@ one_line s k n k' n' p q =
     ]
 
 -- no line has two answers
-pub one-parse : (s : List ℕ) (p q : Parsed) → ParseSays s p → ParseSays s q → p ≡ q
-one-parse s (Pair k n) (Pair k' n') p q = let e = one_line s k n k' n' p q in ap (λ (x : ℕ). Pair x n) e.0 ∙ ap (λ (x : ℕ). Pair k' x) e.1
-one-parse s (Pair k n) Line p q = absurd (q k n p)
-one-parse s Line (Pair k n) p q = absurd (p k n q)
-one-parse s Line Line p q = refl
+pub one-parse : (s : List ℕ) (p q : Option (ℕ × ℕ)) → ParseSays s p → ParseSays s q → p ≡ q
+one-parse s (Some (k, n)) (Some (k', n')) p q = let e = one_line s k n k' n' p q in cc
+one-parse s (Some (k, n)) None p q = absurd (q k n p)
+one-parse s None (Some (k, n)) p q = absurd (p k n q)
+one-parse s None None p q = refl

@@ -4,11 +4,11 @@
 --     refused-room, refused_says        a refusal's line
 --     first_small, first-refused, first-listed    the first page: no room for a line, a refusal, a listing
 --     next-none, next-filled            any other page: from a state that is not good, and from one that is
-use Rattle.words.proofs.Plain.{ℕ, ◌+◌, ◌^◌, ◌<◌, ◌≤◌, arith, ◌≡◌, refl, sym, ap, ◌∙◌, List, [], ◌++◌, length, sets-eq}
+use Rattle.words.proofs.Plain.{ℕ, ◌+◌, ◌^◌, ◌<◌, ◌≤◌, arith, ◌≡◌, refl, ap, ◌∙◌, List, [], ◌++◌, length, sets-eq}
 use Rattle.refusal.specs.{declared.Refusal.Refusal, Numbers.number_of}
 use Rattle.text_spec.specs.{Text.refused_line, Put.Placed}
 use Rattle.text_spec.proofs.{Digits.length-decimal, Put.length-refused}
-use Rattle.limits_spec.specs.declared.Planned.TheVariants.{Accepted, Refused}
+use Rattle.std.specs.Prelude.{Ok, Err}
 use Rattle.plan_spec.specs.Plan.{PlanSays}
 use Rattle.plan_spec.proofs.Numbers.{plan-number}
 use Rattle.listing_spec.specs.{declared.State.State, declared.Page.Page, Listing.opening, Prints.most_printed}
@@ -41,15 +41,15 @@ module _ (s b : List ℕ) (r : Page) where
   first_small h e = paged-none (FirstPage s (length b)) b r e (small h refl (ap (λ (x : Page). x.state) e))
 
   -- a refusal's line fits, and is the page
-  refused-fits : row_room ≤ length b → (x : Refusal) → PlanSays most_printed s (Refused x) → length (refused_line (number_of x)) ≤ length b
+  refused-fits : row_room ≤ length b → (x : Refusal) → PlanSays most_printed s (Err x) → length (refused_line (number_of x)) ≤ length b
   refused-fits h x p = omega (arith, length-refused (number_of x), length-decimal 1 (number_of x) (omega (arith, plan-number most_printed s x p)))
 
-  pub first-refused : (b' : List ℕ) → row_room ≤ length b → (x : Refusal) → PlanSays most_printed s (Refused x) → RefusedPageSays x b r b' → Paged (FirstPage s (length b)) b r b'
+  pub first-refused : (b' : List ℕ) → row_room ≤ length b → (x : Refusal) → PlanSays most_printed s (Err x) → RefusedPageSays x b r b' → Paged (FirstPage s (length b)) b r b'
   first-refused b' h x p q =
       placed-paged (FirstPage s (length b)) b r b' (refused_line (number_of x)) q.placed (refused-fits h x p) (refused h x p refl q.state)
 
   -- a listing's first page
-  pub first-listed : (b' : List ℕ) → row_room ≤ length b → (k n : ℕ) → PlanSays most_printed s (Accepted k n) → OpenSays k n b r b' → Paged (FirstPage s (length b)) b r b'
+  pub first-listed : (b' : List ℕ) → row_room ≤ length b → (k n : ℕ) → PlanSays most_printed s (Ok (k, n)) → OpenSays k n b r b' → Paged (FirstPage s (length b)) b r b'
   first-listed b' h k n p q =
       placed-paged (FirstPage s (length b)) b r b' (opening k n ++ q.text) q.placed (omega (arith, q.inside, q.placed.next))
       (listed h k n q.text q.rest p q.goes refl q.state)

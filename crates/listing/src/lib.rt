@@ -8,7 +8,7 @@ ghost use Rattle.listing_spec.specs.Prints.{most_printed};
 ghost use Rattle.listing_spec.specs.Paging.{row_room, FirstPage, Next, Paged};
 ghost use Rattle.listing.specs.Says.{empty_page, RefusedPageSays};
 
-use limits::{MOST_LISTED, Planned};
+use limits::MOST_LISTED;
 use listing_spec::{Page, State};
 use refusal::Refusal;
 
@@ -16,7 +16,7 @@ use refusal::Refusal;
 const LINE_ROOM: usize = 107;
 
 // What the listing program's line asks for.
-pub fn plan(line: &[u8]) -> Planned
+pub fn plan(line: &[u8]) -> Result<(usize, usize), Refusal>
     ensures { PlanSays most_printed line.now result }
 {
     plan::plan_line(line, MOST_LISTED)
@@ -55,8 +55,8 @@ pub fn first_page(line: &[u8], buf: &mut [u8]) -> Page
         return empty_page();
     }
     match plan(line) {
-        Planned::Refused(r) => refused_page(r, buf),
-        Planned::Accepted(k, n) => listing_pages_inner::open_page(k, n, buf),
+        Err(r) => refused_page(r, buf),
+        Ok((k, n)) => listing_pages_inner::open_page(k, n, buf),
     }
 }
 

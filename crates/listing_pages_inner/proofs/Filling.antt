@@ -2,8 +2,8 @@
 --     rows-length, page-full, page-last        what the loop promises, with nothing or the last line behind it, is what a page promises
 --     zeros-part, zeros-period, start-good     the all-zero ring: its sectors, its period, its state
 --     open-*, opened                           the first two lines have room, and what is placed behind them is the first page
-use Rattle.words.proofs.Plain.{ℕ, ◌+◌, ◌<◌, ◌≤◌, arith, ◌≡◌, refl, sym, ap, ◌∙◌, true, false, List, ◌++◌, append_assoc, length, take, drop, length-append}
-use Rattle.words.proofs.Plain.{length-replicate, ext_get_or, get_or-take, length-take-le}
+use Rattle.words.proofs.Plain.{ℕ, ◌+◌, ◌<◌, ◌≤◌, arith, ◌≡◌, sym, ◌∙◌, true, false, List, ◌++◌, length, take}
+use Rattle.words.proofs.Plain.{ext_get_or, get_or-take, length-take-le}
 use native.Mathlib.Nat.{mod-one}
 use Rattle.words.proofs.Sequence.{sec}
 use Rattle.rings.specs.Necklace.{period}
@@ -14,9 +14,9 @@ use Rattle.text_spec.proofs.Digits.{length-decimal}
 use Rattle.text_spec.proofs.Put.{placed-append, placed-length, length-first, length-ring}
 use Rattle.limits_spec.specs.Limits.{Listable}
 use Rattle.listing_spec.specs.{declared.State.State, declared.Page.Page, Listing.zero_ring, Listing.opening, Prints.most_printed}
-use Rattle.listing_spec.specs.State.{state_ring, GoodState, empty_state, start_state, over, on}
+use Rattle.listing_spec.specs.State.{GoodState, empty_state, start_state, over, on}
 use Rattle.listing_spec.specs.Paging.{row_room}
-use Rattle.listing_laws.proofs.Leaving.{counted_start, Stands, stands_good}
+use Rattle.listing_laws.proofs.Leaving.{counted_start, stands_good}
 use Rattle.listing_rows_inner.specs.{declared.Rows.Rows, Says.RowsSay}
 use Rattle.listing_pages_inner.specs.Says.{FillSays, OpenSays}
 

@@ -35,7 +35,7 @@ pub fn fill_page(s: State, buf: &mut [u8], from: usize) -> Page
     if rows.more {
         return Page {
             length: rows.at,
-            state: state,
+            state,
         };
     }
     let end = text_lines_inner::place_last(buf, rows.at, state.rings, state.moves);
@@ -55,9 +55,9 @@ pub fn open_page(k: usize, n: usize, buf: &mut [u8]) -> Page
     let first = text_lines_inner::place_first(buf, 0, k, n);
     let at = text_lines_inner::place_zero_ring(buf, first, &ring[..n]);
     let start = State {
-        k: k,
-        n: n,
-        ring: ring,
+        k,
+        n,
+        ring,
         rings: 1,
         moves: 0,
     };

@@ -2,7 +2,7 @@
 --     input-full    where the buffer is full
 --     input-by      by what was read
 use Rattle.words.proofs.Plain.{ℕ, ◌≤◌, ◌≡◌, List, length, take}
-use Rattle.limits_spec.specs.declared.Planned.TheVariants.{Accepted, Refused}
+use Rattle.std.specs.Prelude.{Ok, Err}
 use Rattle.plan_spec.proofs.First.{plan-first}
 use Rattle.listing_spec.specs.{declared.State.State, declared.Page.Page, Prints.most_printed}
 use Rattle.listing_spec.specs.Paging.{FirstPage, small, refused, listed, Paged}
@@ -13,8 +13,8 @@ use Rattle.listing_program_inner.specs.Says.{list_line_bytes, FirstPageSays}
 -- the first page for the first m characters, m at least 9, is that for all
 first-first : (m : ℕ) (s : List ℕ) → list_line_bytes ≤ m → (room : ℕ) (t : List ℕ) (state : State) → FirstPage (take m s) room t state → FirstPage s room t state
 first-first m s h room t state (small l e f) = small l e f
-first-first m s h room t state (refused l r p e f) = refused l r (plan-first m s h most_printed (Refused r) p) e f
-first-first m s h room t state (listed l k n u rest p g e f) = listed l k n u rest (plan-first m s h most_printed (Accepted k n) p) g e f
+first-first m s h room t state (refused l r p e f) = refused l r (plan-first m s h most_printed (Err r) p) e f
+first-first m s h room t state (listed l k n u rest p g e f) = listed l k n u rest (plan-first m s h most_printed (Ok (k, n)) p) g e f
 
 -- the first page for a full buffer is that for any input that begins so
 pub input-full : (line b : List ℕ) (r : Page) (b' : List ℕ) → list_line_bytes ≤ length line → Paged (FirstPage line (length b)) b r b' → FirstPageSays M.Full line b r b'

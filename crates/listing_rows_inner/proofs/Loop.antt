@@ -7,7 +7,7 @@
 --     came-size, came-moves           that ring's sectors, and its counts
 --     along-on                        with that line, and no other, one ring more
 --     says-full, says-ended           what the loop promises where it ends
-use Rattle.words.proofs.Plain.{ℕ, suc, ◌+◌, ◌*◌, ◌^◌, ◌<◌, ◌≤◌, add-one, arith, ◌≡◌, refl, sym, ap, ◌∙◌, ⊎_elim, Bool, true, false, none, some, List, [], ◌∷◌}
+use Rattle.words.proofs.Plain.{ℕ, suc, ◌+◌, ◌*◌, ◌^◌, ◌<◌, ◌≤◌, add-one, arith, ◌≡◌, refl, sym, ap, ◌∙◌, Bool, true, false, none, some, List, []}
 use Rattle.words.proofs.Plain.{◌++◌, append_assoc, append-nil, length, take, drop, length-append, length-drop, take-append-drop, take_at, drop_at}
 use Rattle.words.specs.{Order.before, Order.up_to, Readings.Reading}
 use Rattle.words.proofs.{Split.clash, Search.least-le}
@@ -16,7 +16,7 @@ use Rattle.rings.specs.Steps.{next_of, moves}
 use Rattle.ring_laws.proofs.{Words.necklace-prenecklace, FullWalk.next-facts}
 use Rattle.walk_kind_laws.specs.Kinds.{ReadyToStep}
 use Rattle.walk_spec.specs.{declared.Outcome.Outcome, Says.WentSays}
-use Rattle.walk_spec.specs.declared.Outcome.TheVariants.{Moved, Done, Refused}
+use Rattle.walk_spec.specs.declared.Outcome.TheVariants.{Moved, Done}
 use Rattle.text_spec.specs.{Text.ring_line, Text.last_line, Put.Placed}
 use Rattle.text_spec.proofs.Digits.{length-decimal}
 use Rattle.text_spec.proofs.Put.{placed-append, placed-length, length-ring, length_last}
@@ -123,7 +123,6 @@ module _ {n k : ℕ} {v tail : List ℕ} {rings₀ sum₀ : ℕ} {b : List ℕ} 
   pub stops : (v' : List ℕ) (o : Outcome) (p' : ℕ) → ((m : ℕ) → o ≡ Moved m → ⊥) → WentSays k (take n ring) v' o p' → (next_of necklace k a.last ≡ none) × (v' ++ drop n ring ≡ ring)
   stops v' (Moved m) p' t w = absurd (t m refl)
   stops v' (Done m) p' t w = (rw taken at w.0, ap (λ (x : List ℕ). x ++ drop n ring) w.2 ∙ take-append-drop n ring)
-  stops v' (Refused r) p' t w = absurd w
 
   -- the counts so far
   pub along-rings : rings ≤ 2 * most_printed

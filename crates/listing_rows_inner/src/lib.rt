@@ -35,8 +35,7 @@ pub fn fill_rows(s: State, buf: &mut [u8], from: usize) -> Rows
     let mut more = true;
     while at + LINE_ROOM <= buf.len() {
         let went = walk_ring_inner::go_on(&mut ring[..n], k);
-        let outcome = went.outcome;
-        let Outcome::Moved(m) = outcome else {
+        let Outcome::Moved(m) = went.outcome else {
             more = false;
             break;
         };
@@ -46,13 +45,13 @@ pub fn fill_rows(s: State, buf: &mut [u8], from: usize) -> Rows
     }
     Rows {
         state: State {
-            k: k,
-            n: n,
-            ring: ring,
-            rings: rings,
-            moves: moves,
+            k,
+            n,
+            ring,
+            rings,
+            moves,
         },
-        at: at,
-        more: more,
+        at,
+        more,
     }
 }

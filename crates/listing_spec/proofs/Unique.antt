@@ -3,18 +3,17 @@
 --     goes_one                             the lines that follow a ring are determined, and what they leave
 --     first_one, next_one                  so are the first page's text and state, and any other's
 --     one-page, one-first, one-next        and so are the answer and the buffer afterwards
-use Rattle.words.proofs.Plain.{ℕ, suc, ◌+◌, arith, ◌≡◌, refl, sym, ap, ◌∙◌, Bool, List, ◌∷◌, ◌++◌, length, drop}
+use Rattle.words.proofs.Plain.{ℕ, arith, ◌≡◌, refl, sym, ap, ◌∙◌, Bool, List, ◌∷◌, ◌++◌, length, drop}
 use Rattle.rings.specs.Necklace.{necklace}
 use Rattle.rings.specs.Steps.{FullWalk, done, step}
 use Rattle.ring_laws.proofs.FullWalk.{walk-moves}
 use Rattle.refusal.specs.{declared.Refusal.Refusal, Numbers.number_of}
 use Rattle.text_spec.specs.Text.{refused_line}
-use Rattle.limits_spec.specs.declared.Planned.{Planned}
-use Rattle.limits_spec.specs.declared.Planned.TheVariants.{Accepted, Refused}
+use Rattle.std.specs.Prelude.{Ok, Err}
 use Rattle.plan_spec.specs.Plan.{PlanSays}
 use Rattle.plan_spec.proofs.Unique.{one-plan}
 use Rattle.listing_spec.specs.{declared.State.State, declared.Page.Page, Prints.most_printed, Prints.ListPrints}
-use Rattle.listing_spec.specs.Listing.{row, opening, zero_ring, listing_text, Listing}
+use Rattle.listing_spec.specs.Listing.{row, opening, listing_text, Listing}
 use Rattle.listing_spec.specs.Prints as prints
 use Rattle.listing_spec.specs.State.{Rest, start_state, state_behind}
 use Rattle.listing_spec.specs.Paging.{Goes, full, total, line, FirstPage, small, refused, listed, Next, bad, good, Paged}
@@ -39,14 +38,17 @@ one-listing k n s t a b =
 
 module _ (s : List ℕ) where
   -- two refusals of an input are one; nor is an input both refused and listed; and it is listed with one k and n
-  refusals : (r t : Refusal) → PlanSays most_printed s (Refused r) → PlanSays most_printed s (Refused t) → r ≡ t
-  refusals r t p q = let e = one-plan most_printed s (Refused r) (Refused t) p q in cc
+  refusals : (r t : Refusal) → PlanSays most_printed s (Err r) → PlanSays most_printed s (Err t) → r ≡ t
+  refusals r t p q = let e = one-plan most_printed s (Err r) (Err t) p q in cc
 
-  not-both : (r : Refusal) (k n : ℕ) → PlanSays most_printed s (Refused r) → PlanSays most_printed s (Accepted k n) → ⊥
-  not-both r k n p q = let e = one-plan most_printed s (Refused r) (Accepted k n) p q in let z : ◌≡◌ {A = ℕ} 0 1 = cc in omega arith
+  not-both : (r : Refusal) (k n : ℕ) → PlanSays most_printed s (Err r) → PlanSays most_printed s (Ok (k, n)) → ⊥
+  not-both r k n p q = let e = one-plan most_printed s (Err r) (Ok (k, n)) p q in let z : ◌≡◌ {A = ℕ} 0 1 = cc in omega arith
 
-  numbers : (k n k' n' : ℕ) → PlanSays most_printed s (Accepted k n) → PlanSays most_printed s (Accepted k' n') → (k' ≡ k) × (n' ≡ n)
-  numbers k n k' n' p q = let e = one-plan most_printed s (Accepted k n) (Accepted k' n') p q in (cc, cc)
+  numbers : (k n k' n' : ℕ) → PlanSays most_printed s (Ok (k, n)) → PlanSays most_printed s (Ok (k', n')) → (k' ≡ k) × (n' ≡ n)
+  numbers k n k' n' p q =
+      let e = one-plan most_printed s (Ok (k, n)) (Ok (k', n')) p q in
+      let f : ◌≡◌ {A = ℕ × ℕ} (k', n') (k, n) = cc in
+      (ap (λ (x : ℕ × ℕ). x.0) f, ap (λ (x : ℕ × ℕ). x.1) f)
 
   -- an input has at most one output
   pub one-output : (t u : List ℕ) → ListPrints s t → ListPrints s u → t ≡ u

@@ -6,14 +6,13 @@
 --     Paged P b r b'     the page r stands in the buffer, b before and b' after, and P says its text and the state behind it
 --     Pages s text       pages one after another from the state s, up to one of no bytes, and their text
 -- That these determine the page, the state and the whole buffer: proofs/Unique. That all pages together are the output: listing_laws, Whole.pages-whole.
-use Rattle.std.specs.Prelude.{ℕ, suc, ◌+◌, ◌<◌, ◌≤◌, ◌≡◌, List, [], ◌++◌, length, take, drop}
+use Rattle.std.specs.Prelude.{ℕ, suc, ◌+◌, ◌<◌, ◌≤◌, ◌≡◌, List, [], ◌++◌, length, take, drop, Ok, Err}
 use Rattle.std.proofs.Math.Option.{none, some}
 use Rattle.rings.specs.Necklace.{necklace}
 use Rattle.rings.specs.Steps.{next_of, moves}
 use Rattle.refusal.specs.declared.Refusal.{Refusal}
 use Rattle.refusal.specs.Numbers.{number_of}
 use Rattle.text_spec.specs.Text.{last_line, refused_line}
-use Rattle.limits_spec.specs.declared.Planned.TheVariants.{Accepted, Refused}
 use Rattle.plan_spec.specs.Plan.{PlanSays}
 use Rattle.listing_spec.specs.declared.State.{State}
 use Rattle.listing_spec.specs.declared.Page.{Page}
@@ -34,8 +33,8 @@ pub data Goes (k room : ℕ) : (v : List ℕ) (rings sum at : ℕ) (text : List 
 -- the first page
 pub data FirstPage (s : List ℕ) (room : ℕ) (text : List ℕ) (state : State) : Type 0 where
   small : room < row_room → text ≡ [] → state ≡ empty_state → FirstPage s room text state
-  refused : row_room ≤ room → (r : Refusal) → PlanSays most_printed s (Refused r) → text ≡ refused_line (number_of r) → state ≡ empty_state → FirstPage s room text state
-  listed : row_room ≤ room → (k n : ℕ) (t : List ℕ) (rest : Rest) → PlanSays most_printed s (Accepted k n) → Goes k room (zero_ring n) 1 0 (length (opening k n)) t rest →
+  refused : row_room ≤ room → (r : Refusal) → PlanSays most_printed s (Err r) → text ≡ refused_line (number_of r) → state ≡ empty_state → FirstPage s room text state
+  listed : row_room ≤ room → (k n : ℕ) (t : List ℕ) (rest : Rest) → PlanSays most_printed s (Ok (k, n)) → Goes k room (zero_ring n) 1 0 (length (opening k n)) t rest →
       text ≡ opening k n ++ t → state ≡ state_behind (start_state k n) rest → FirstPage s room text state
 
 -- any other page

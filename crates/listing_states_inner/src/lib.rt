@@ -5,18 +5,17 @@
 ghost use Rattle.listing_spec.specs.State.{GoodState};
 ghost use Rattle.listing_states_inner.specs.Says.{NecklaceOf, TellsWhether};
 
-use classify::Classified;
-use limits::{MOST_LISTED, Planned};
+use limits::MOST_LISTED;
 use listing_spec::State;
 
 // Whether these sectors are a necklace of k shades.
 fn is_ring(ring: &[u8], k: usize) -> bool
     ensures { TellsWhether result (NecklaceOf ring.now k) }
 {
-    match classify::classify(ring, k) {
-        Classified::Refused(_) => false,
-        Classified::Is(c) => classify_inner::is_necklace(c),
-    }
+    let Ok(c) = classify::classify(ring, k) else {
+        return false;
+    };
+    classify_inner::is_necklace(c)
 }
 
 // Whether the ring is a necklace of numbers that may be listed, and the counts are none that no listing has.
@@ -29,11 +28,5 @@ pub fn is_good(s: State) -> bool
     if MOST_LISTED < s.moves {
         return false;
     }
-    let n = s.n;
-    let k = s.k;
-    let ring = s.ring;
-    match limits::plan_numbers(k, n, MOST_LISTED) {
-        Planned::Refused(_) => false,
-        Planned::Accepted(_, _) => is_ring(&ring[..n], k),
-    }
+    limits::plan_numbers(s.k, s.n, MOST_LISTED).is_ok() && is_ring(&s.ring[..s.n], s.k)
 }

@@ -20,8 +20,5 @@ pub fn no_page() -> Page
 pub fn goes_on(wrote: bool, length: usize) -> bool
     ensures { result ≡ goes_on wrote length }
 {
-    if !wrote {
-        return false;
-    }
-    0 < length
+    wrote && 0 < length
 }

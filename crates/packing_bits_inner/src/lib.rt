@@ -8,10 +8,11 @@ ghost use Rattle.words.specs.Readings.{Shaded};
 ghost use Rattle.packing_spec.specs.Width.{width};
 ghost use Rattle.packing_spec.specs.Packing.{packed_length, byte_of};
 
-// How many bits the highest of k shades needs: eight less the leading zeros of k - 1 as a u8.
+// How many bits the highest of k shades needs, which is at least one and at most four: eight less the leading zeros of k - 1 as a u8.
 pub fn width_of(k: usize) -> usize
     requires { Shaded k }
-    ensures { result ≡ width k }
+    ensures width { result ≡ width k }
+    ensures narrow { (1 ≤ result) × (result ≤ 4) }
 {
     let top = (k - 1) as u8;
     (8 - u8::leading_zeros(top)) as usize

@@ -5,9 +5,9 @@ use Rattle.words.proofs.Plain.{ℕ, zero, suc, ◌+◌, ◌*◌, ◌<◌, ◌≤
 use lib.Ieee.{Float, nan, binary32, of_bits, of_fields, lt, eq, le, ne}
 use Rattle.words.specs.Readings.{Sized, Shaded}
 use Rattle.refusal.specs.Calls.{Below}
-use Rattle.density_spec.specs.{declared.SectorRead.SectorRead, declared.Sector.TheVariants.Shade, declared.RingRead.RingRead}
-use Rattle.density_spec.specs.declared.SectorRead.TheVariants as S
-use Rattle.density_spec.specs.declared.RingRead.TheVariants as R
+use Rattle.std.specs.Prelude.{Result, Ok}
+use Rattle.refusal.specs.declared.Refusal.{Refusal}
+use Rattle.density_spec.specs.{declared.Sector.Sector, declared.Sector.TheVariants.Shade}
 use Rattle.density_spec.specs.Cuts.{good_card, shade_of, In}
 use Rattle.density_spec.specs.Says.{SectorSays, RingSays}
 use Rattle.density_spec.proofs.{Unique.one-sector, Unique.one-ring, Places.shade-at}
@@ -21,8 +21,8 @@ unfolding of_bits of_fields lt eq le ne
 full-good = refl
 
 module _ (tone : Tone) (k : ℕ) (a : Shaded k) where
-  pub sector-back : (s : ℕ) → s < k → (x : Float) → NearShade tone k s x → (r : SectorRead) → SectorSays x k full_card r → r ≡ S.Is (Shade s)
-  sector-back s h x n r p = one-sector x k full_card r (S.Is (Shade s)) p ((a, full-good), (n.value, sym (near-shade tone k a s h x n)))
+  pub sector-back : (s : ℕ) → s < k → (x : Float) → NearShade tone k s x → (r : Result Sector Refusal) → SectorSays x k full_card r → r ≡ Ok (Shade s)
+  sector-back s h x n r p = one-sector x k full_card r (Ok (Shade s)) p ((a, full-good), (n.value, sym (near-shade tone k a s h x n)))
 
   module _ (w : List ℕ) (z : Sized (length w)) (g : Below w (λ i. k)) (xs : List Float) (m : Measured tone k w xs) where
     -- what is measured of a sector is near the reflectance of its shade
@@ -37,7 +37,7 @@ module _ (tone : Tone) (k : ℕ) (a : Shaded k) where
         ext_get_or 0 w (map (shade_of full_card k) xs) (sym (length-map xs (shade_of full_card k) ∙ m.long))
         (λ i h. sym (near-shade tone k a (get_or w i 0) (g i h) (get_or xs i nan) (near i h)) ∙ sym (shade-at full_card k xs i (omega (arith, m.long))))
 
-    pub picture-back : (b : List ℕ) → length b ≡ length w → (r : RingRead) (d : List ℕ) → RingSays xs k full_card b r d → (r ≡ R.Written) × (d ≡ w)
+    pub picture-back : (b : List ℕ) → length b ≡ length w → (r : Result Unit Refusal) (d : List ℕ) → RingSays xs k full_card b r d → (r ≡ (Ok tt)) × (d ≡ w)
     picture-back b l r d p =
         let y : Sized (length xs) = rw m.long z in
-        one-ring xs k full_card b r R.Written d w p ((((y, (a, full-good)), l ∙ sym m.long), readable), shades)
+        one-ring xs k full_card b r (Ok tt) d w p ((((y, (a, full-good)), l ∙ sym m.long), readable), shades)

@@ -6,8 +6,10 @@ use Rattle.text_spec.specs.{Decimal.decimal, Text.hex_of}
 use Rattle.text_words_spec.specs.Words.{PieceAt}
 use Rattle.picture_spec.specs.declared.Tone.{Tone}
 use Rattle.desk_spec.proofs.Questions.{place-one}
-use Rattle.desk_words_inner.specs.{declared.Head.TheVariants.Number, declared.Head.TheVariants.Malformed, Says.HeadSays}
-use Rattle.desk_words_inner.proofs.{Heads.rest-words, Shapes.rest_all}
+use Rattle.std.specs.Prelude.{Some, None}
+use Rattle.std.proofs.lemmas.List.{take_rest}
+use Rattle.desk_words_inner.specs.Says.{HeadSays}
+use Rattle.desk_words_inner.proofs.Heads.{rest-words}
 use Rattle.picture_print_spec.specs.Prints.{ToneAsked, tone_words, ReadsTarget, ReadsPicture, PictureShows, PicturePrints}
 use Rattle.picture_words_inner.specs.Says.{PictureText, ReadsTone, WordsPrinted}
 use Rattle.picture_words_inner.proofs.Words.{print-as}
@@ -16,11 +18,11 @@ use Rattle.picture_print_inner.specs.Says.{LinePrints}
 -- ---- the line
 
 module _ (l : List ℕ) where
-  pub no_number_lem : HeadSays l Malformed → (q : ToneAsked) → ReadsTarget l q → ⊥
+  pub no_number_lem : HeadSays l None → (q : ToneAsked) → ReadsTarget l q → ⊥
   no_number_lem h q x = h q.0 (map hex_of q.1) (tone_words q.2) x.short x.words
 
-  pub put-line : (k at : ℕ) → HeadSays l (Number k at) → (b : List ℕ) (r : ℕ) (b' : List ℕ) → WordsPrinted k (take (length l - at) (drop at l)) b r b' → LinePrints l b r b'
-  put-line k at h b r b' x = print-as (ReadsTone (drop at l)) (λ q. PictureShows (k, q.0, q.1)) (ReadsTarget l) PictureShows on back b r b' (rw (rest_all l at) at x)
+  pub put-line : (k at : ℕ) → HeadSays l (Some (k, at)) → (b : List ℕ) (r : ℕ) (b' : List ℕ) → WordsPrinted k (take (length l - at) (drop at l)) b r b' → LinePrints l b r b'
+  put-line k at h b r b' x = print-as (ReadsTone (drop at l)) (λ q. PictureShows (k, q.0, q.1)) (ReadsTarget l) PictureShows on back b r b' (rw (take_rest l at) at x)
     where
       on : (q : List ℕ × Tone) → ReadsTone (drop at l) q → (y : ToneAsked) × ReadsTarget l y × ((u : List ℕ) → PictureShows (k, q.0, q.1) u → PictureShows y u)
       on q s = ((k, q.0, q.1), record { short = h.0; sectors = s.sectors; words = h.2 ∙ ap (λ (x : List (List ℕ)). decimal k ∷ x) s.words }, λ u y. y)

@@ -8,18 +8,16 @@ ghost use Rattle.picture_print_spec.specs.Prints.{PicturePrints};
 ghost use Rattle.picture_words_inner.specs.Says.{PictureText};
 ghost use Rattle.picture_print_inner.specs.Says.{LinePrints};
 
-use desk_words_inner::Head;
-
 // The line without its newline.
 fn print_line(l: &[u8], w: &mut [u8], buf: &mut [u8]) -> usize
     requires l_in_bounds { length l.now ≤ length w.old }
     requires picture_room_in_bounds { picture_room ≤ length buf.old }
     ensures { LinePrints l.now buf.old result buf.new }
 {
-    match desk_words_inner::head_of(l) {
-        Head::Malformed => desk_texts_inner::place_malformed(buf, 0),
-        Head::Number(k, at) => picture_words_inner::print_words(k, &l[at..], w, buf),
-    }
+    let Some((k, at)) = desk_words_inner::head_of(l) else {
+        return desk_texts_inner::place_malformed(buf, 0);
+    };
+    picture_words_inner::print_words(k, &l[at..], w, buf)
 }
 
 // What an input prints; w lends a byte for each of its own.

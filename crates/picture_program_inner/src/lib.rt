@@ -24,9 +24,8 @@ fn output_of_input(most: Most, line: &[u8], w: &mut [u8], buf: &mut [u8]) -> usi
     ensures { PictureInputSays most line.now buf.old result buf.new }
 {
     match most {
-        Most::Full => 0,
         Most::Ended(got) => picture_print_inner::print_input(&line[..got], w, buf),
-        Most::Failed => 0,
+        Most::Full | Most::Failed => 0,
     }
 }
 

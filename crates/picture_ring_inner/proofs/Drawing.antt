@@ -1,7 +1,6 @@
 -- A ring's arcs drawn sector after sector.
 --     split                                    the sectors from place i on, the first of them by itself
---     run_on, run_out, run-cut, run-le         a run counted sector by sector
---     fits_on, fits-arc                        what a sector draws
+--     fits_on, fits-arc, run-le                what a sector draws
 --     Drawing, drawing-none, drawing-on, drawing-room, drawing-end    sector after sector
 --     turned-long, turned-short, turned-some, turned-from, turned-below    a turned ring; ring-fits, and the whole of it
 use Rattle.words.proofs.Plain.{ℕ, zero, suc, ◌+◌, ◌-◌, ◌*◌, ◌<◌, ◌≤◌, add-one, arith, ◌≡◌, refl, sym, ap, ◌∙◌, List, [], ◌∷◌, ◌++◌, append_assoc, append-nil}
@@ -22,28 +21,6 @@ pub split : (t : List ℕ) (i : ℕ) → i < length t → drop i t ≡ get_or t 
 split [] i h = absurd (omega arith)
 split (a ∷ t) zero h = refl
 split (a ∷ t) (suc i) h = let e : suc i + 1 ≡ suc (i + 1) = omega arith in rw e (split t i (omega arith))
-
--- ---- runs
-
--- one sector more of a run: the sectors from place j on are as many fewer
-pub run_on : (s : ℕ) (w : List ℕ) (i j : ℕ) → i ≤ j → j < length w → get_or w j 0 ≡ s → reach s (drop i w) ≡ (j - i) + reach s (drop j w) →
-    reach s (drop i w) ≡ (j + 1 - i) + reach s (drop (j + 1) w)
-run_on s w i j l h e f =
-    let g : reach s (drop j w) ≡ suc (reach s (drop (j + 1) w)) = ap (λ (x : List ℕ). reach s x) (split w j h) ∙ reach-same s (get_or w j 0) (drop (j + 1) w) e in
-    omega (arith, f, g)
-
--- the end of a run, at the end of the ring or at another shade
-pub run_out : (s : ℕ) (w : List ℕ) (i j : ℕ) → length w ≤ j → reach s (drop i w) ≡ (j - i) + reach s (drop j w) → j - i ≡ reach s (drop i w)
-unfolding reach
-run_out s w i j h f =
-    let d : drop j w ≡ [] = drop_of_length-le w {i = j} h in
-    let e : reach s (drop j w) ≡ 0 = rw d refl in
-    omega (arith, f, e)
-
-pub run-cut : (s : ℕ) (w : List ℕ) (i j : ℕ) → j < length w → (get_or w j 0 ≡ s → ⊥) → reach s (drop i w) ≡ (j - i) + reach s (drop j w) → j - i ≡ reach s (drop i w)
-run-cut s w i j h e f =
-    let g : reach s (drop j w) ≡ 0 = ap (λ (x : List ℕ). reach s x) (split w j h) ∙ reach-other s (get_or w j 0) (drop (j + 1) w) e in
-    omega (arith, f, g)
 
 -- ---- one sector
 

@@ -17,14 +17,7 @@ fn run_at(ring: &[u8], i: usize) -> usize
     ensures { RunAt ring.now i result }
 {
     let s = ring[i];
-    let mut j = i;
-    while j < ring.len() {
-        if ring[j] != s {
-            return j - i;
-        }
-        j += 1;
-    }
-    j - i
+    ring[i..].iter().take_while(|&&x| x == s).count()
 }
 
 // An arc of d sectors from place i on, in the gray g.
@@ -81,11 +74,9 @@ fn place_arcs(buf: &mut [u8], at: usize, ring: &[u8], o: usize, k: usize, tone: 
 {
     let mut p = at;
     let mut before = 16u8;
-    let mut i = 0;
-    while i < ring.len() {
+    for (i, &s) in ring.iter().enumerate() {
         p = place_sector(buf, p, ring, i, before, o, k, tone);
-        before = ring[i];
-        i += 1;
+        before = s;
     }
     p
 }

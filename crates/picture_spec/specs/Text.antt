@@ -1,5 +1,5 @@
 -- The picture of a target as SVG: a dot inside a ring of n sectors, read clockwise from the top, in whole numbers. A sector is 710 units of a circle of radius 113 n,
--- since 355 / 113 is pi to seven digits; `path_length` says that the circle is 710 n units long, for a reader that knows it. An arc is a dash on that circle: the dashes
+-- since 355 / 113 is pi to seven digits; `pathLength` says that the circle is 710 n units long, for a reader that knows it. An arc is a dash on that circle: the dashes
 -- come again after 710 n units, so that one over the top of the ring is one dash too.
 --     arc_text tone n k a     an arc of a ring of n sectors in k shades
 --     arc_texts               arc after arc

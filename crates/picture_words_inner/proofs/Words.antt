@@ -4,9 +4,13 @@
 --     no-digits, put-target            digits that spell nothing, and those that do
 --     put-managed, put-levels, no-levels    one word behind the number, two, and what is none
 --     this-text, other_text            whether the rest of a text is that word
-use Rattle.words.proofs.Plain.{ℕ, ◌+◌, ◌-◌, ◌<◌, ◌≤◌, arith, ◌≡◌, refl, sym, ap, ◌∙◌, inl, inr, true, false, false≢true, List, [], ◌∷◌, map, length, take, drop}
-use Rattle.words.specs.Order.{same}
-use Rattle.words.proofs.Lex.{same_true, true_same}
+use Rattle.words.proofs.Plain.{ℕ, ◌+◌, ◌-◌, ◌<◌, ◌≤◌, arith, ◌≡◌, refl, sym, ap, ◌∙◌, inl, inr, Bool, true, false, not, eqb, false≢true, List, [], ◌∷◌, map, length, take, drop}
+use Rattle.words.proofs.Needs.{not-true, not-false}
+use Rattle.std.specs.Bool.{Decides}
+use Rattle.std.specs.Cmp.Lexicographic.{pointwise}
+use Rattle.std.proofs.lemmas.List.{take_rest}
+use Rattle.std.proofs.lemmas.Bool.Decides.{Decides-eqb}
+use Rattle.std.proofs.lemmas.Slice.Eq.{slice_eq-Decides}
 use Rattle.text_spec.specs.{Ascii.ascii, Text.hex_of}
 use Rattle.text_words_spec.specs.Words.{pieces, onto, PieceAt, Spelt}
 use Rattle.text_words_spec.proofs.Pieces.{pieces_more, pieces-single, pieces-some, behind-same, more-two, more-first, more-rest}
@@ -14,18 +18,18 @@ use Rattle.text_words_spec.proofs.Spelling.{spelt-plain}
 use Rattle.stream_spec.specs.Blocks.{Puts}
 use Rattle.refusal.specs.{declared.Refusal.Refusal, Order.Given, Calls.one_reading}
 use Rattle.picture_spec.specs.{declared.Tone.Tone, declared.Tone.TheVariants.Managed, declared.Tone.TheVariants.Levels}
-use Rattle.picture_spec.specs.{declared.Drawn.TheVariants.Whole, declared.Drawn.TheVariants.Refused, Text.picture_text}
+use Rattle.std.specs.Prelude.{Ok, Err}
+use Rattle.picture_spec.specs.Text.{picture_text}
 use Rattle.picture_spec.specs.Says.{picture_room, draw_order, DrawSays}
 use Rattle.desk_spec.specs.Texts.{refusal_text, malformed_text}
 use Rattle.desk_spec.specs.Questions.{Replies, good, bad}
 use Rattle.desk_texts_inner.specs.Says.{desk_room, LinePrinted}
-use Rattle.desk_words_inner.proofs.Shapes.{rest_all}
 use Rattle.picture_print_spec.specs.Prints.{tone_words, PictureShows, drawn, refused}
 use Rattle.picture_words_inner.specs.Says.{PictureText, TargetPrinted, SpeltPrinted, ReadsTone, WordsPrinted}
 
 -- ---- a target
 
-pub drawn-put : (k : ℕ) (w : List ℕ) (tone : Tone) (b : List ℕ) (m : ℕ) (b' : List ℕ) → DrawSays tone w k b (Whole m) b' → TargetPrinted k w tone b m b'
+pub drawn-put : (k : ℕ) (w : List ℕ) (tone : Tone) (b : List ℕ) (m : ℕ) (b' : List ℕ) → DrawSays tone w k b (Ok m) b' → TargetPrinted k w tone b m b'
 drawn-put k w tone b m b' p =
     record { text = picture_text tone k w; says = drawn p.0.0 refl; short = omega (arith, p.1.next, p.2); placed = p.1 }
 
@@ -34,7 +38,7 @@ of-reading : (k : ℕ) (w : List ℕ) (m : ℕ) (r : Refusal) → picture_room �
 of-reading k w m r h (inl g) = g
 of-reading k w m r h (inr g) = absurd (g.1.1 h)
 
-pub refused-put : (k : ℕ) (w : List ℕ) (tone : Tone) (b : List ℕ) (r : Refusal) (b₁ : List ℕ) (x : ℕ) (b' : List ℕ) → picture_room ≤ length b → DrawSays tone w k b (Refused r) b₁ →
+pub refused-put : (k : ℕ) (w : List ℕ) (tone : Tone) (b : List ℕ) (r : Refusal) (b₁ : List ℕ) (x : ℕ) (b' : List ℕ) → picture_room ≤ length b → DrawSays tone w k b (Err r) b₁ →
     LinePrinted b₁ 0 (refusal_text r) x b' → TargetPrinted k w tone b x b'
 refused-put k w tone b r b₁ x b' h p q =
     record { text = refusal_text r; says = refused r (of-reading k w (length b) r h p.0) refl; short = omega (arith, q.short); placed = rw p.1 at q.placed }
@@ -109,8 +113,12 @@ module _ (k : ℕ) (t : List ℕ) (e : ℕ) (p : PieceAt 32 t e) where
   no-levels h n (w, Levels) y = n (pieces-single 32 (drop (e + 1) t) _ (more-rest 32 t e p _ _ _ y.words))
 
 -- the rest of a text compared with a word
-pub this-text : (t : List ℕ) (at : ℕ) → same (take (length t - at) (drop at t)) (ascii "levels") ≡ true → drop at t ≡ ascii "levels"
-this-text t at e = sym (rest_all t at) ∙ same_true _ _ e
+module _ (t : List ℕ) (at : ℕ) (u : List ℕ) (w : u ≡ ascii "levels") where
+  told : Decides (pointwise eqb (take (length t - at) (drop at t)) u) (take (length t - at) (drop at t) ≡ u)
+  told = slice_eq-Decides Decides-eqb (take (length t - at) (drop at t)) u _ refl
 
-pub other_text : (t : List ℕ) (at : ℕ) → same (take (length t - at) (drop at t)) (ascii "levels") ≡ false → drop at t ≡ ascii "levels" → ⊥
-other_text t at e l = false≢true (sym e ∙ true_same _ _ (rest_all t at ∙ l))
+  pub this-text : false ≡ not (pointwise eqb (take (length t - at) (drop at t)) u) → drop at t ≡ ascii "levels"
+  this-text e = sym (take_rest t at) ∙ told.0 (not-false _ (sym e)) ∙ w
+
+  pub other_text : true ≡ not (pointwise eqb (take (length t - at) (drop at t)) u) → drop at t ≡ ascii "levels" → ⊥
+  other_text e l = false≢true (sym (not-true _ (sym e)) ∙ told.1 (take_rest t at ∙ l ∙ sym w))

@@ -6,7 +6,7 @@ ghost use Rattle.std.specs.Prelude.{◌≤◌, ◌≡◌, length};
 ghost use Rattle.picture_spec.specs.Says.{picture_room};
 ghost use Rattle.picture_words_inner.specs.Says.{TargetPrinted, SpeltPrinted, WordsPrinted};
 
-use picture_spec::{Drawn, Tone};
+use picture_spec::Tone;
 
 // The picture of a reading, or its refusal's line.
 fn print_target(k: usize, w: &[u8], tone: Tone, buf: &mut [u8]) -> usize
@@ -14,8 +14,8 @@ fn print_target(k: usize, w: &[u8], tone: Tone, buf: &mut [u8]) -> usize
     ensures { TargetPrinted k w.now tone buf.old result buf.new }
 {
     match pictures::draw(w, k, tone, buf) {
-        Drawn::Whole(m) => m,
-        Drawn::Refused(r) => desk_texts_inner::place_refusal(buf, 0, r),
+        Ok(m) => m,
+        Err(r) => desk_texts_inner::place_refusal(buf, 0, r),
     }
 }
 
@@ -41,7 +41,7 @@ pub fn print_words(k: usize, t: &[u8], w: &mut [u8], buf: &mut [u8]) -> usize
     if t.len() <= e {
         return print_spelt(k, t, Tone::Managed, &mut w[..e], buf);
     }
-    if !text_spell_inner::same_text(&t[e + 1..], b"levels") {
+    if &t[e + 1..] != b"levels".as_slice() {
         return desk_texts_inner::place_malformed(buf, 0);
     }
     print_spelt(k, &t[..e], Tone::Levels, &mut w[..e], buf)

@@ -4,16 +4,12 @@
 
 ghost use Rattle.plan_spec.specs.Plan.{PlanSays};
 
-use limits::Planned;
-use line::Parsed;
 use refusal::Refusal;
 
 // A line: 11, 1, 2, 12.
-pub fn plan_line(line: &[u8], limit: usize) -> Planned
+pub fn plan_line(line: &[u8], limit: usize) -> Result<(usize, usize), Refusal>
     ensures { PlanSays limit line.now result }
 {
-    match line::parse_line(line) {
-        Parsed::Line => Planned::Refused(Refusal::Line),
-        Parsed::Pair(k, n) => limits::plan_numbers(k, n, limit),
-    }
+    let (k, n) = line::parse_line(line).ok_or(Refusal::Line)?;
+    limits::plan_numbers(k, n, limit)
 }

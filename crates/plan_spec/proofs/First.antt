@@ -4,8 +4,8 @@
 use Rattle.words.proofs.Plain.{ℕ, ◌<◌, ◌≤◌, arith, dec_lt, List, length, take, length-take, take_all}
 use Rattle.line_spec.specs.Line.{Spells}
 use Rattle.line_spec.proofs.Lines.{line-short}
-use Rattle.limits_spec.specs.declared.Planned.{Planned}
-use Rattle.limits_spec.specs.declared.Planned.TheVariants.{Accepted, Refused}
+use Rattle.std.specs.Prelude.{Result, Ok, Err}
+use Rattle.refusal.specs.declared.Refusal.{Refusal}
 use Rattle.plan_spec.specs.Plan.{malformed, spelt, PlanSays}
 
 module _ (m : ℕ) (s : List ℕ) (room : 9 ≤ m) where
@@ -18,11 +18,11 @@ module _ (m : ℕ) (s : List ℕ) (room : 9 ≤ m) where
   spells-none h k n p = omega (arith, line-short s k n p)
 
   -- the plan of the first m characters is the plan of all
-  pub plan-first : (limit : ℕ) (p : Planned) → PlanSays limit (take m s) p → PlanSays limit s p
-  plan-first limit (Accepted k n) q = (spells-first k n q.0, q.1)
-  plan-first limit (Refused r) (malformed e f) =
+  pub plan-first : (limit : ℕ) (p : Result (ℕ × ℕ) Refusal) → PlanSays limit (take m s) p → PlanSays limit s p
+  plan-first limit (Ok (k, n)) q = (spells-first k n q.0, q.1)
+  plan-first limit (Err r) (malformed e f) =
       elim (dec_lt m (length s)) [
         | yes h ↦ malformed e (spells-none h)
         | no h ↦ malformed e (rw (take_all m s (omega arith)) at f)
       ]
-  plan-first limit (Refused r) (spelt k n t g) = spelt k n (spells-first k n t) g
+  plan-first limit (Err r) (spelt k n t g) = spelt k n (spells-first k n t) g

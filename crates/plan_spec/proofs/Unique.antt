@@ -5,23 +5,24 @@ use Rattle.words.proofs.Plain.{ℕ, ◌≡◌, refl, sym, ap, ◌∙◌, List}
 use Rattle.refusal.specs.declared.Refusal.TheVariants.{Line}
 use Rattle.line_spec.specs.Line.{Spells}
 use Rattle.line_spec.proofs.Lines.{one_line}
-use Rattle.limits_spec.specs.declared.Planned.{Planned}
-use Rattle.limits_spec.specs.{declared.Planned.TheVariants.Accepted, declared.Planned.TheVariants.Refused, Limits.NumbersSay}
+use Rattle.std.specs.Prelude.{Result, Ok, Err}
+use Rattle.refusal.specs.declared.Refusal.{Refusal}
+use Rattle.limits_spec.specs.Limits.{NumbersSay}
 use Rattle.limits_spec.proofs.Unique.{one-numbers}
 use Rattle.plan_spec.specs.Plan.{malformed, spelt, PlanSays}
 
 -- a plan is that of a malformed line, or that of the numbers that the line spells
-data Plans (limit : ℕ) (s : List ℕ) (p : Planned) : Type 0 where
-  none : p ≡ Refused Line → ((k n : ℕ) → Spells s k n → ⊥) → Plans limit s p
+data Plans (limit : ℕ) (s : List ℕ) (p : Result (ℕ × ℕ) Refusal) : Type 0 where
+  none : p ≡ Err Line → ((k n : ℕ) → Spells s k n → ⊥) → Plans limit s p
   made : (k n : ℕ) → Spells s k n → NumbersSay limit k n p → Plans limit s p
 
-plans : (limit : ℕ) (s : List ℕ) (p : Planned) → PlanSays limit s p → Plans limit s p
-plans limit s (Accepted k n) q = made k n q.0 (refl, refl, q.1)
-plans limit s (Refused r) (malformed e f) = none (ap Refused e) f
-plans limit s (Refused r) (spelt k n t g) = made k n t g
+plans : (limit : ℕ) (s : List ℕ) (p : Result (ℕ × ℕ) Refusal) → PlanSays limit s p → Plans limit s p
+plans limit s (Ok (k, n)) q = made k n q.0 (refl, refl, q.1)
+plans limit s (Err r) (malformed e f) = none (ap Err e) f
+plans limit s (Err r) (spelt k n t g) = made k n t g
 
 -- no line has two plans
-pub one-plan : (limit : ℕ) (s : List ℕ) (p q : Planned) → PlanSays limit s p → PlanSays limit s q → p ≡ q
+pub one-plan : (limit : ℕ) (s : List ℕ) (p q : Result (ℕ × ℕ) Refusal) → PlanSays limit s p → PlanSays limit s q → p ≡ q
 one-plan limit s p q a b = go (plans limit s p a) (plans limit s q b)
   where
     go : Plans limit s p → Plans limit s q → p ≡ q

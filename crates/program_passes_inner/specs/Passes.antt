@@ -1,28 +1,26 @@
 -- What becomes of a block of a file, and how a time through the file ends.
 --     limit, furthest          no place is as far as 2 to the power 62; and none of this machine's is as far as 2 to the power 63
---     part_of most m            what was read to a block of m bytes
+--     part_of most m            what was read to a block of m bytes; None where a read failed
 --     PartSays b r             the same of the block b, as it was left
 --     ReadTo b last m          the first m bytes of b were read: all of it, or (last) fewer, and then the input ended
---     Course, course_of t       what becomes of a block, as the record t tells it: so many bytes of it are done, and another follows; or all is done with so many bytes of it;
+--     Course, course_of t       what becomes of a block, as the answer t tells it: so many bytes of it are done, and another follows; or all is done with so many bytes of it;
 --                              or that is as far as it goes
 --     gone_by last m            m bytes are done of a block that is or is not the last
---     Finish, finish_of v       how a time through ended, as the record v tells it: at the end, which is at that place; or before it
+--     Finish, finish_of v       how a time through ended, as the answer v tells it: at the end, which is at that place; or before it
 --     goes_further p c          is another block read behind one that began at p?
 --     EndWithin p c            where the file ends with it, the place of its end is below 2 to the power 63
 --     finish_at p c             how a time ends with a block that began at p, behind which none is read
 --     failed_of w               how a run ends where a read fails, the first time and (w) the second
 --     same_end a b              how a run ends whose first time ended at a and the second at b
-use Rattle.std.specs.Prelude.{ℕ, ◌+◌, ◌-◌, ◌<◌, ◌≡◌, Bool, true, false, List, eqb, ltb, length}
+use Rattle.std.specs.Prelude.{ℕ, ◌+◌, ◌-◌, ◌<◌, ◌≡◌, Bool, true, false, List, eqb, ltb, length, Option, Some, None, Result, Ok, Err}
 use Rattle.program_ending_inner.specs.declared.Ending.{Ending}
 use Rattle.program_ending_inner.specs.declared.Ending.TheVariants as E
 use Rattle.program_reading_inner.specs.declared.Most.{Most}
 use Rattle.program_reading_inner.specs.declared.Most.TheVariants as M
 use Rattle.program_reading_inner.specs.Says.{MostSays}
 use Rattle.program_passes_inner.specs.declared.Part.{Part}
-use Rattle.program_passes_inner.specs.declared.Then.{Then}
-use Rattle.program_passes_inner.specs.declared.Then.TheVariants.{More, Over, Stop}
 use Rattle.program_passes_inner.specs.declared.Turn.{Turn}
-use Rattle.program_passes_inner.specs.declared.Pass.{Pass}
+use Rattle.program_passes_inner.specs.declared.Turn.TheVariants as T
 
 abbrev pub limit : ℕ
 limit = 4611686018427387904
@@ -32,12 +30,12 @@ furthest = 9223372036854775808
 
 -- ---- what was read
 
-abbrev pub part_of : Most → ℕ → Part
-part_of M.Full m = record { failed = false; len = m; last = false }
-part_of (M.Ended n) m = record { failed = false; len = n; last = true }
-part_of M.Failed m = record { failed = true; len = 0; last = true }
+abbrev pub part_of : Most → ℕ → Option Part
+part_of M.Full m = Some (record { len = m; last = false })
+part_of (M.Ended n) m = Some (record { len = n; last = true })
+part_of M.Failed m = None
 
-pub record PartSays (b : List ℕ) (r : Part) : Type 0 where
+pub record PartSays (b : List ℕ) (r : Option Part) : Type 0 where
   pub most : Most
   pub says : MostSays most b
   pub part : r ≡ part_of most (length b)
@@ -53,13 +51,10 @@ pub data Course : Type 0 where
   Done : ℕ → Course
   Stopped : Ending → Course
 
-abbrev pub course_by : Then → ℕ → Ending → Course
-course_by More m t = On m
-course_by Over m t = Done m
-course_by Stop m t = Stopped t
-
-abbrev pub course_of : Turn → Course
-course_of v = course_by v.then v.used v.why
+abbrev pub course_of : Result Turn Ending → Course
+course_of (Ok (T.On m)) = On m
+course_of (Ok (T.Over m)) = Done m
+course_of (Err t) = Stopped t
 
 abbrev pub gone_by : Bool → ℕ → Course
 gone_by false m = On m
@@ -71,12 +66,9 @@ pub data Finish : Type 0 where
   Through : ℕ → Finish
   Ended : Ending → Finish
 
-abbrev pub finish_by : Bool → ℕ → Ending → Finish
-finish_by true e t = Through e
-finish_by false e t = Ended t
-
-abbrev pub finish_of : Pass → Finish
-finish_of v = finish_by v.through v.at v.why
+abbrev pub finish_of : Result ℕ Ending → Finish
+finish_of (Ok e) = Through e
+finish_of (Err t) = Ended t
 
 abbrev pub goes_further : ℕ → Course → Bool
 goes_further p (On m) = ltb m (limit - p)

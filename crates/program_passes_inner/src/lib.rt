@@ -3,12 +3,12 @@
 
 #![tactic(auto)]
 
-ghost use Rattle.std.specs.Prelude.{◌<◌, ◌≡◌};
+ghost use Rattle.std.specs.Prelude.{◌<◌, ◌≡◌, Ok};
 ghost use Rattle.program_reading_inner.specs.Says.{MostSays};
 ghost use Rattle.std.specs.List.{starts_with};
 ghost use Rattle.std.specs.Prelude.{drop, nat_eq};
 ghost use Rattle.program_passes_inner.specs.Record.{record_start, mode_said, readable_said};
-ghost use Rattle.program_passes_inner.specs.Passes.{limit, failed_of, same_end, part_of, PartSays, Stopped, course_of, gone_by, goes_further, EndWithin, finish_of, finish_at};
+ghost use Rattle.program_passes_inner.specs.Passes.{limit, failed_of, same_end, part_of, PartSays, course_of, gone_by, goes_further, EndWithin, finish_of, finish_at};
 
 use program_ending_inner::Ending;
 use program_reading_inner::Most;
@@ -22,103 +22,49 @@ use std::{fs, str};
 // No file goes so far: 2 to the power 62.
 pub const LIMIT: usize = 4611686018427387904;
 
-// Behind a block: another follows, or it was the last, or that is as far as it goes.
-#[derive(Clone, Copy)]
-pub enum Then {
-    More,
-    Over,
-    Stop,
-}
-
-// What was read to a block: how many bytes, and whether the input ended behind them; or that a read failed.
+// What was read to a block: how many bytes, and whether the input ended behind them.
 #[derive(Clone, Copy)]
 pub struct Part {
-    pub failed: bool,
     pub len: usize,
     pub last: bool,
 }
 
-// What becomes of a block: so many bytes of it are done, and what follows; and why, where nothing does.
+// What becomes of a block: so many bytes of it are done, and another follows; or all is done with so many bytes of it.
 #[derive(Clone, Copy)]
-pub struct Turn {
-    pub then: Then,
-    pub used: usize,
-    pub why: Ending,
-}
-
-// How a time through the file ended: at its end, which is at that place; or before it, and why.
-#[derive(Clone, Copy)]
-pub struct Pass {
-    pub through: bool,
-    pub at: usize,
-    pub why: Ending,
+pub enum Turn {
+    On(usize),
+    Over(usize),
 }
 
 // So many bytes of a block are done; where it was the last, that is all.
 pub fn turn_by(last: bool, used: usize) -> Turn
-    ensures { course_of result ≡ gone_by last used }
+    ensures { course_of (Ok result) ≡ gone_by last used }
 {
     if last {
-        return Turn {
-            then: Then::Over,
-            used,
-            why: Ending::Whole,
-        };
+        return Turn::Over(used);
     }
-    Turn {
-        then: Then::More,
-        used,
-        why: Ending::Whole,
-    }
-}
-
-// That is as far as it goes.
-pub fn stop(why: Ending) -> Turn
-    ensures { course_of result ≡ Stopped why }
-{
-    Turn {
-        then: Then::Stop,
-        used: 0,
-        why,
-    }
+    Turn::On(used)
 }
 
 // Whether another block is read behind one that began at `at`.
 pub fn goes_on(at: usize, t: Turn) -> bool
     requires { at < limit }
-    ensures { result ≡ goes_further at (course_of t) }
+    ensures { result ≡ goes_further at (course_of (Ok t)) }
 {
-    let then = t.then;
-    match then {
-        Then::More => t.used < LIMIT - at,
-        Then::Over => false,
-        Then::Stop => false,
+    match t {
+        Turn::On(used) => used < LIMIT - at,
+        Turn::Over(_) => false,
     }
 }
 
-// How a time through the file ended with a block that began at `at`, behind which none is read.
-pub fn finish(at: usize, t: Turn) -> Pass
-    requires { EndWithin at (course_of t) }
-    ensures { finish_of result ≡ finish_at at (course_of t) }
+// How a time through the file ended with a block that began at `at`, behind which none is read: at its end, which is at that place; or before it, and why.
+pub fn finish(at: usize, t: Turn) -> Result<usize, Ending>
+    requires { EndWithin at (course_of (Ok t)) }
+    ensures { finish_of result ≡ finish_at at (course_of (Ok t)) }
 {
-    let then = t.then;
-    let why = t.why;
-    match then {
-        Then::More => Pass {
-            through: false,
-            at,
-            why: Ending::TooLong,
-        },
-        Then::Over => Pass {
-            through: true,
-            at: at + t.used,
-            why,
-        },
-        Then::Stop => Pass {
-            through: false,
-            at,
-            why,
-        },
+    match t {
+        Turn::On(_) => Err(Ending::TooLong),
+        Turn::Over(used) => Ok(at + used),
     }
 }
 
@@ -126,10 +72,7 @@ pub fn finish(at: usize, t: Turn) -> Pass
 pub fn failed(second: bool) -> Ending
     ensures { result ≡ failed_of second }
 {
-    if second {
-        return Ending::Lost;
-    }
-    Ending::Unread
+    if second { Ending::Lost } else { Ending::Unread }
 }
 
 // What the system's record of standard input begins with where it stands at its beginning.
@@ -158,15 +101,15 @@ fn at_beginning(said: &[u8]) -> bool
 fn mode_of(said: &[u8]) -> u8
     ensures { result ≡ mode_said 0 (drop 14 said.now) }
 {
+    let Some(flags) = said.get(BEGINS.len()..) else {
+        return 0;
+    };
     let mut mode = 0;
-    let mut i = BEGINS.len();
-    while i < said.len() {
-        let here = said[i];
+    for &here in flags {
         if here == b'\n' {
             return mode;
         }
         mode = here;
-        i += 1;
     }
     0
 }
@@ -200,24 +143,17 @@ fn open_standard(rt: &HostRuntime) -> Option<File> {
     if !is_readable(&said) {
         return open_unreadable(rt);
     }
-    match File::open(rt, "/dev/stdin") {
-        Ok(mut file) => {
-            if move_to(&mut file, 0) {
-                Some(file)
-            } else {
-                None
-            }
-        }
-        Err(_) => None,
+    let mut file = File::open(rt, "/dev/stdin").ok()?;
+    if !move_to(&mut file, 0) {
+        return None;
     }
+    Some(file)
 }
 
 // The file of that name, which is text.
 fn open_named(rt: &HostRuntime, name: &[u8]) -> Option<File> {
-    match str::from_utf8(name) {
-        Ok(path) => File::open(rt, path).ok(),
-        Err(_) => None,
-    }
+    let path = str::from_utf8(name).ok()?;
+    File::open(rt, path).ok()
 }
 
 // No name of a file is longer.
@@ -236,10 +172,9 @@ pub fn open_input(rt: &HostRuntime) -> Option<File> {
 // Moves a file to the place `at`, and tells whether it is there.
 fn move_to(input: &mut File, at: usize) -> bool {
     let place = at as u64;
-    match input.seek(SeekFrom::Start(place)) {
-        Ok(there) => there == place,
-        Err(_) => false,
-    }
+    input
+        .seek(SeekFrom::Start(place))
+        .is_ok_and(|there| there == place)
 }
 
 // Reads the input from `at` on until the block is full or the input ends.
@@ -254,30 +189,21 @@ pub fn read_from(input: &mut File, at: usize, block: &mut [u8]) -> Most
 }
 
 // What reading until a block of that room is full gave. Only a read of 0 bytes tells that it is the last.
-fn part_of(most: Most, room: usize) -> Part
+fn part_of(most: Most, room: usize) -> Option<Part>
     ensures { result ≡ part_of most room }
 {
     match most {
-        Most::Full => Part {
-            failed: false,
+        Most::Full => Some(Part {
             len: room,
             last: false,
-        },
-        Most::Ended(got) => Part {
-            failed: false,
-            len: got,
-            last: true,
-        },
-        Most::Failed => Part {
-            failed: true,
-            len: 0,
-            last: true,
-        },
+        }),
+        Most::Ended(len) => Some(Part { len, last: true }),
+        Most::Failed => None,
     }
 }
 
-// Reads a block from `at` on.
-pub fn read_block(input: &mut File, at: usize, block: &mut [u8]) -> Part
+// Reads a block from `at` on; None where a read failed.
+pub fn read_block(input: &mut File, at: usize, block: &mut [u8]) -> Option<Part>
     requires { at < limit }
     ensures { PartSays block.new result }
 {
@@ -290,7 +216,8 @@ pub fn same_end(first: usize, second: usize) -> Ending
     ensures { result ≡ same_end first second }
 {
     if first == second {
-        return Ending::Whole;
+        Ending::Whole
+    } else {
+        Ending::Changed
     }
-    Ending::Changed
 }

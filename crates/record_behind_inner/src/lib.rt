@@ -8,47 +8,39 @@ ghost use Rattle.record_spec.specs.Layout.{body_length};
 ghost use Rattle.record_body_inner.specs.Steps.{Held, HeadNumbersSay, BodySays, BehindSays};
 
 use record_spec::{HEAD, Kind};
-use refusal::{Checked, Refusal};
+use refusal::Refusal;
 
 // n and k: 1, 2. The check is that of every call; in a record its refusals have places of their own.
-pub fn check_counts(rest: &[u8], start: usize) -> Checked
+pub fn check_counts(rest: &[u8], start: usize) -> Result<(), Refusal>
     requires { Held (start + length rest.now) × (4 ≤ length rest.now) }
     ensures { HeadNumbersSay rest.now start result }
 {
-    let n = rest[2] as usize;
-    let k = rest[3] as usize;
+    let n = usize::from(rest[2]);
+    let k = usize::from(rest[3]);
     match check_numbers_inner::check_numbers(n, n, k) {
-        Checked::Refused(r) => {
-            if refusal::number(r) == 1 {
-                return Checked::Refused(Refusal::Length(start + 2));
-            }
-            Checked::Refused(Refusal::Shades(start + 3))
-        }
-        Checked::Good => Checked::Good,
+        Err(Refusal::Length(_)) => Err(Refusal::Length(start + 2)),
+        Err(_) => Err(Refusal::Shades(start + 3)),
+        Ok(()) => Ok(()),
     }
 }
 
 // What stands behind the mark of a record of the kind.
-pub fn check_behind(kind: Kind, rest: &[u8], start: usize) -> Checked
+pub fn check_behind(kind: Kind, rest: &[u8], start: usize) -> Result<(), Refusal>
     requires { Held (start + length rest.now) × (4 ≤ length rest.now) }
     ensures { BehindSays kind rest.now start result }
 {
-    match check_counts(rest, start) {
-        Checked::Refused(r) => Checked::Refused(r),
-        Checked::Good => {
-            let n = rest[2] as usize;
-            let k = rest[3] as usize;
-            let e = HEAD + record_stored_inner::body_length(kind, n, k);
-            if rest.len() < e {
-                return Checked::Refused(Refusal::Cut(start));
-            }
-            check_bytes(kind, &rest[HEAD..e], start, n, k)
-        }
+    check_counts(rest, start)?;
+    let n = usize::from(rest[2]);
+    let k = usize::from(rest[3]);
+    let e = HEAD + record_stored_inner::body_length(kind, n, k);
+    if rest.len() < e {
+        return Err(Refusal::Cut(start));
     }
+    check_bytes(kind, &rest[HEAD..e], start, n, k)
 }
 
 // The bytes of the sectors, in the form of the kind.
-fn check_bytes(kind: Kind, bytes: &[u8], start: usize, n: usize, k: usize) -> Checked
+fn check_bytes(kind: Kind, bytes: &[u8], start: usize, n: usize, k: usize) -> Result<(), Refusal>
     requires { Held (start + (4 + length bytes.now)) × Sized n × Shaded k × (length bytes.now ≡ body_length kind n k) }
     ensures { BodySays kind n k bytes.now start result }
 {

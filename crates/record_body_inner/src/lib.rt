@@ -8,9 +8,8 @@ ghost use Rattle.record_spec.specs.declared.Kind.TheVariants.{Front};
 ghost use Rattle.record_body_inner.specs.Steps.{Held, BodySays};
 ghost use Rattle.record_body_inner.specs.Looks.{LookSays};
 
-use classify::Classified;
 use record_spec::HEAD;
-use refusal::{Checked, Refusal};
+use refusal::Refusal;
 
 // What sectors are: home; or else which one is the first that is no shade, or, where all are, which one to look at.
 #[derive(Clone, Copy)]
@@ -26,24 +25,20 @@ pub fn look(sectors: &[u8], k: usize) -> Looked
     ensures { LookSays sectors.now k result }
 {
     match classify::classify(sectors, k) {
-        Classified::Refused(r) => Looked::NoShade(refusal::place(r)),
-        Classified::Is(c) => {
-            if classify_inner::is_necklace(c) {
-                return Looked::Home;
-            }
-            Looked::NotHome(classify_inner::loose_place(c))
-        }
+        Err(r) => Looked::NoShade(refusal::place(r)),
+        Ok(c) if classify_inner::is_necklace(c) => Looked::Home,
+        Ok(c) => Looked::NotHome(classify_inner::loose_place(c)),
     }
 }
 
 // The sectors of a front record, a byte each: 3, 9.
-pub fn check_body(body: &[u8], start: usize, k: usize) -> Checked
+pub fn check_body(body: &[u8], start: usize, k: usize) -> Result<(), Refusal>
     requires { Held (start + (4 + length body.now)) × Sized (length body.now) × Shaded k }
     ensures { BodySays Front (length body.now) k body.now start result }
 {
     match look(body, k) {
-        Looked::Home => Checked::Good,
-        Looked::NoShade(i) => Checked::Refused(Refusal::Sector(start + HEAD + i)),
-        Looked::NotHome(i) => Checked::Refused(Refusal::NotHome(start + HEAD + i)),
+        Looked::Home => Ok(()),
+        Looked::NoShade(i) => Err(Refusal::Sector(start + HEAD + i)),
+        Looked::NotHome(i) => Err(Refusal::NotHome(start + HEAD + i)),
     }
 }

@@ -28,10 +28,7 @@ fn put_head(rest: &mut [u8], second: u8, n: usize, k: usize)
     requires { (4 ≤ length rest.old) × (n ≤ 64) × (k ≤ 16) }
     ensures { rest.new ≡ headed rest.old second n k }
 {
-    rest[0] = MARK;
-    rest[1] = second;
-    rest[2] = n as u8;
-    rest[3] = k as u8;
+    rest[..HEAD].copy_from_slice(&[MARK, second, n as u8, k as u8]);
 }
 
 // The second byte of the mark.

@@ -6,23 +6,24 @@ ghost use Rattle.std.specs.Prelude.{◌≡◌, ◌+◌, length};
 ghost use Rattle.words.specs.Readings.{Shaded};
 ghost use Rattle.record_spec.specs.Layout.{body_length, shown, Marked};
 ghost use Rattle.record_spec.specs.Order.{GoodRecord};
-ghost use Rattle.record_body_inner.specs.Steps.{Held, RecordSays};
+ghost use Rattle.record_body_inner.specs.Steps.{Held};
+ghost use Rattle.record_spec.specs.Says.{Read};
 
-use record_spec::{Entry, HEAD, Kind};
+use record_spec::{HEAD, Kind, Record};
 
 // Writes the ring of a good record of the kind, and answers what it is.
-pub fn read_good(kind: Kind, rest: &[u8], start: usize, out: &mut [u8]) -> Entry
+pub fn read_good(kind: Kind, rest: &[u8], start: usize, out: &mut [u8]) -> Record
     requires { Held (start + length rest.now) × (length out.old ≡ 64) × GoodRecord kind rest.now × Marked rest.now kind }
-    ensures { RecordSays rest.now start out.old result out.new }
+    ensures { Read rest.now start out.old result.n result.k result.kind result.next out.new }
 {
-    let n = rest[2] as usize;
-    let k = rest[3] as usize;
+    let n = usize::from(rest[2]);
+    let k = usize::from(rest[3]);
     let e = HEAD + record_stored_inner::body_length(kind, n, k);
     show(kind, &rest[HEAD..e], k, &mut out[..n]);
-    Entry::Record {
-        n: n,
-        k: k,
-        kind: kind,
+    Record {
+        n,
+        k,
+        kind,
         next: start + e,
     }
 }
@@ -33,9 +34,7 @@ fn show(kind: Kind, body: &[u8], k: usize, out: &mut [u8])
     ensures { out.new ≡ shown kind (length out.old) k body.now }
 {
     match kind {
-        Kind::Front => {
-            byte_moves_inner::copy(body, out);
-        }
+        Kind::Front => out.copy_from_slice(body),
         Kind::Packed => packing_unpack_inner::unpack_into(
             body,
             packing_bits_inner::width_of(k),

@@ -11,8 +11,9 @@ use Rattle.refusal.specs.{declared.Refusal.Refusal, Order.Passed}
 use Rattle.refusal.proofs.Facts.{Tells, both-tell, either-tell, not-tell, at-most-tells, below-tells, equal-tells, same-tells, within, within-tells}
 use Rattle.refusal.proofs.Tests.{Tests, one, all, when, ◌▹◌, answer, given-answer, passed-answer}
 use Rattle.record_spec.specs.{declared.Kind.Kind, declared.Kind.TheVariants.Front, declared.Kind.TheVariants.Packed}
-use Rattle.record_spec.specs.{declared.Entry.Entry, Says.ReadSays}
-use Rattle.record_spec.specs.declared.Entry.TheVariants.{Record, End, Refused}
+use Rattle.std.specs.Prelude.{Result, Ok, Err, Some, None}
+use Rattle.std.specs.Prelude.{Option as Maybe}
+use Rattle.record_spec.specs.{declared.Record.Record, Says.entry, Says.ReadSays}
 use Rattle.record_spec.specs.Layout.{MarkBegins, Marked, kind_by_mark, body_length, is_clear, n_of, k_of, body_of, stored_ring}
 use Rattle.record_spec.specs.Order.{Known, behind_order, record_order, read_order, GoodRecord}
 use Rattle.record_spec.proofs.Forms.{kind-is, behind-passed}
@@ -79,30 +80,31 @@ read_tests c s m =
 -- ---- the answer
 
 -- the refusal, or else the record, or the end
-unfoldable pub refused_or : Option Refusal → Entry → Entry
+unfoldable pub refused_or : Option Refusal → Result (Maybe Record) Refusal → Result (Maybe Record) Refusal
 refused_or none e = e
-refused_or (some r) e = Refused r
+refused_or (some r) e = Err r
 
-unfoldable pub record_entry : List ℕ → ℕ → Entry
-record_entry t s = Record (n_of t) (k_of t) (kind_by_mark t) (s + 4 + body_length (kind_by_mark t) (n_of t) (k_of t))
+unfoldable pub record_entry : List ℕ → ℕ → Result (Maybe Record) Refusal
+record_entry t s = entry (n_of t) (k_of t) (kind_by_mark t) (s + 4 + body_length (kind_by_mark t) (n_of t) (k_of t))
 
-unfoldable pub entry_of : List ℕ → ℕ → ℕ → Entry
-entry_of c s m = refused_or (answer (read_tests c s m)) (elim (ltb s (length c)) [ true ↦ record_entry (drop s c) s | false ↦ End ])
+unfoldable pub entry_of : List ℕ → ℕ → ℕ → Result (Maybe Record) Refusal
+entry_of c s m = refused_or (answer (read_tests c s m)) (elim (ltb s (length c)) [ true ↦ record_entry (drop s c) s | false ↦ Ok None ])
 
 -- where every check has passed
-passed_entry : (c : List ℕ) (s m : ℕ) → Passed (read_order c s m) → entry_of c s m ≡ elim (ltb s (length c)) [ true ↦ record_entry (drop s c) s | false ↦ End ]
+passed_entry : (c : List ℕ) (s m : ℕ) → Passed (read_order c s m) → entry_of c s m ≡ elim (ltb s (length c)) [ true ↦ record_entry (drop s c) s | false ↦ Ok None ]
 unfolding entry_of refused_or
 passed_entry c s m p = rw (passed-answer (read_tests c s m) p)
 
 -- an answer that the contract allows is the computed one
-pub fixed : (c : List ℕ) (s : ℕ) (b : List ℕ) (r : Entry) (d : List ℕ) → ReadSays c s b r d → entry_of c s (length b) ≡ r
+pub fixed : (c : List ℕ) (s : ℕ) (b : List ℕ) (r : Result (Maybe Record) Refusal) (d : List ℕ) → ReadSays c s b r d → entry_of c s (length b) ≡ r
 unfolding entry_of record_entry refused_or
-fixed c s b (Record n k x next) d h =
+fixed c s b (Ok (Some r)) d h =
     let t = drop s c in
     let g = h.2 in
-    passed_entry c s (length b) (good-passed c s (length b) x h.0 h.1 g.marked g.good)
-    ∙ rw (lt-ltb s (length c) h.1, kind-is t x g.marked) (cc (g.sectors, g.shades, g.follows))
-fixed c s b End d h =
+    let e : entry (n_of t) (k_of t) r.kind (s + 4 + body_length r.kind (n_of t) (k_of t)) ≡ entry r.n r.k r.kind r.next = cc (g.sectors, g.shades, g.follows) in
+    passed_entry c s (length b) (good-passed c s (length b) r.kind h.0 h.1 g.marked g.good)
+    ∙ rw (lt-ltb s (length c) h.1, kind-is t r.kind g.marked) e
+fixed c s b (Ok None) d h =
     passed_entry c s (length b) (end-passed c s (length b) h.0 h.1)
     ∙ rw (le-ltb s (length c) (omega (arith, h.1)))
-fixed c s b (Refused r) d h = rw (given-answer (read_tests c s (length b)) r h.0)
+fixed c s b (Err r) d h = rw (given-answer (read_tests c s (length b)) r h.0)

@@ -12,13 +12,14 @@ use Rattle.refusal.specs.declared.Refusal.TheVariants.{Length, Shades, Sector, R
 use Rattle.refusal.proofs.Facts.{within}
 use Rattle.refusal.proofs.Tests.{unless, or_else, failing, answer}
 use Rattle.record_spec.specs.{declared.Kind.Kind, declared.Kind.TheVariants.Front, declared.Kind.TheVariants.Packed}
-use Rattle.record_spec.specs.{declared.Entry.Entry, Layout.kind_by_mark, Layout.stored_ring}
-use Rattle.record_spec.specs.declared.Entry.TheVariants.{Record, End, Refused}
+use Rattle.std.specs.Prelude.{Result, Ok, Err, Option, None}
+use Rattle.refusal.specs.declared.Refusal.{Refusal}
+use Rattle.record_spec.specs.{declared.Record.Record, Layout.kind_by_mark, Layout.stored_ring, Says.entry}
 use Rattle.record_spec.proofs.Wrote.{record_bytes}
 use Rattle.record_spec.proofs.Answer.{begins, known, behind_tests, record_tests, read_tests, refused_or, record_entry, entry_of}
 
 pub data Case : Type 0 where
-  answers : List ℕ → ℕ → ℕ → Entry → Case
+  answers : List ℕ → ℕ → ℕ → Result (Option Record) Refusal → Case
   shows : Kind → List ℕ → ℕ → List ℕ → Case
   stores : Kind → ℕ → List ℕ → List ℕ → Case
 
@@ -44,36 +45,36 @@ pack n k b = 0x52 ∷ 0x50 ∷ n ∷ k ∷ b
 unfoldable pub table : List Case
 table =
     -- the front record, alone and behind the back record, which is retired, whatever follows its mark; with fewer than 4 bytes it is cut
-    answers front_record 0 64 (Record 6 2 Front 10) ∷
+    answers front_record 0 64 (entry 6 2 Front 10) ∷
     shows Front front_record 0 (0 ∷ 0 ∷ 1 ∷ 0 ∷ 1 ∷ 1 ∷ []) ∷
-    answers (back_record ++ front_record) 10 64 (Record 6 2 Front 20) ∷
+    answers (back_record ++ front_record) 10 64 (entry 6 2 Front 20) ∷
     shows Front (back_record ++ front_record) 10 (0 ∷ 0 ∷ 1 ∷ 0 ∷ 1 ∷ 1 ∷ []) ∷
-    answers back_record 0 64 (Refused (Retired 0)) ∷
-    answers (front_record ++ (0x52 ∷ 0x42 ∷ 0 ∷ 99 ∷ [])) 10 64 (Refused (Retired 10)) ∷
-    answers (0x52 ∷ 0x42 ∷ 6 ∷ []) 0 64 (Refused (Cut 0)) ∷
-    answers (0x42 ∷ 0x42 ∷ 6 ∷ 2 ∷ []) 0 64 (Refused (Mark 0)) ∷
+    answers back_record 0 64 (Err (Retired 0)) ∷
+    answers (front_record ++ (0x52 ∷ 0x42 ∷ 0 ∷ 99 ∷ [])) 10 64 (Err (Retired 10)) ∷
+    answers (0x52 ∷ 0x42 ∷ 6 ∷ []) 0 64 (Err (Cut 0)) ∷
+    answers (0x42 ∷ 0x42 ∷ 6 ∷ 2 ∷ []) 0 64 (Err (Mark 0)) ∷
     -- a catalogue of no bytes answers End at 0 and Cut at 1; the greatest start does not wrap
-    answers [] 0 64 End ∷
-    answers [] 1 64 (Refused (Cut 1)) ∷
-    answers front_record 10 64 End ∷
-    answers front_record 18446744073709551615 64 (Refused (Cut 18446744073709551615)) ∷
+    answers [] 0 64 (Ok None) ∷
+    answers [] 1 64 (Err (Cut 1)) ∷
+    answers front_record 10 64 (Ok None) ∷
+    answers front_record 18446744073709551615 64 (Err (Cut 18446744073709551615)) ∷
     -- n = 64 and k = 16 are accepted, 65 and 17 refused
-    answers (front 64 16 (replicate 64 15)) 0 64 (Record 64 16 Front 68) ∷
-    answers (front 65 16 (replicate 65 15)) 0 64 (Refused (Length 2)) ∷
-    answers (front 64 17 (replicate 64 15)) 0 64 (Refused (Shades 3)) ∷
+    answers (front 64 16 (replicate 64 15)) 0 64 (entry 64 16 Front 68) ∷
+    answers (front 65 16 (replicate 65 15)) 0 64 (Err (Length 2)) ∷
+    answers (front 64 17 (replicate 64 15)) 0 64 (Err (Shades 3)) ∷
     -- Room is first, also before End and Cut
-    answers [] 0 63 (Refused Room) ∷
-    answers [] 1 65 (Refused Room) ∷
+    answers [] 0 63 (Err Room) ∷
+    answers [] 1 65 (Err Room) ∷
     -- the head is cut, whatever its bytes; then the mark, whatever follows it; then n, k, the body
-    answers (0 ∷ 0 ∷ 0 ∷ []) 0 64 (Refused (Cut 0)) ∷
-    answers (0x46 ∷ 0x52 ∷ 0 ∷ 0 ∷ []) 0 64 (Refused (Mark 0)) ∷
-    answers (front_record ++ front 0 0 []) 10 64 (Refused (Length 12)) ∷
-    answers (front_record ++ front 4 1 (9 ∷ [])) 10 64 (Refused (Shades 13)) ∷
-    answers (front_record ++ front 4 2 (0 ∷ 9 ∷ 1 ∷ [])) 10 64 (Refused (Cut 10)) ∷
+    answers (0 ∷ 0 ∷ 0 ∷ []) 0 64 (Err (Cut 0)) ∷
+    answers (0x46 ∷ 0x52 ∷ 0 ∷ 0 ∷ []) 0 64 (Err (Mark 0)) ∷
+    answers (front_record ++ front 0 0 []) 10 64 (Err (Length 12)) ∷
+    answers (front_record ++ front 4 1 (9 ∷ [])) 10 64 (Err (Shades 13)) ∷
+    answers (front_record ++ front 4 2 (0 ∷ 9 ∷ 1 ∷ [])) 10 64 (Err (Cut 10)) ∷
     -- then the first bad sector, and last that the sectors are no necklace: Opening at the first of them, Loose where they go wrong
-    answers (front_record ++ front 4 2 (1 ∷ 0 ∷ 2 ∷ 3 ∷ [])) 10 64 (Refused (Sector 16)) ∷
-    answers (front_record ++ front 4 2 (0 ∷ 1 ∷ 1 ∷ 0 ∷ [])) 10 64 (Refused (NotHome 14)) ∷
-    answers (front_record ++ front 4 2 (0 ∷ 1 ∷ 0 ∷ 0 ∷ [])) 10 64 (Refused (NotHome 17)) ∷
+    answers (front_record ++ front 4 2 (1 ∷ 0 ∷ 2 ∷ 3 ∷ [])) 10 64 (Err (Sector 16)) ∷
+    answers (front_record ++ front 4 2 (0 ∷ 1 ∷ 1 ∷ 0 ∷ [])) 10 64 (Err (NotHome 14)) ∷
+    answers (front_record ++ front 4 2 (0 ∷ 1 ∷ 0 ∷ 0 ∷ [])) 10 64 (Err (NotHome 17)) ∷
     -- records written, from the home reading and from another turn; one sector; a ring that is not even-handed
     stores Front 2 (0 ∷ 0 ∷ 1 ∷ 0 ∷ 1 ∷ 1 ∷ []) front_record ∷
     stores Front 2 (1 ∷ 0 ∷ 1 ∷ 1 ∷ 0 ∷ 0 ∷ []) front_record ∷
@@ -82,30 +83,30 @@ table =
     -- the packed record, written and read, and behind a front record
     stores Packed 2 (0 ∷ 0 ∷ 1 ∷ 0 ∷ 1 ∷ 1 ∷ []) packed_record ∷
     stores Packed 2 (1 ∷ 0 ∷ 1 ∷ 1 ∷ 0 ∷ 0 ∷ []) packed_record ∷
-    answers packed_record 0 64 (Record 6 2 Packed 5) ∷
+    answers packed_record 0 64 (entry 6 2 Packed 5) ∷
     shows Packed packed_record 0 (0 ∷ 0 ∷ 1 ∷ 0 ∷ 1 ∷ 1 ∷ []) ∷
-    answers (front_record ++ packed_record) 10 64 (Record 6 2 Packed 15) ∷
+    answers (front_record ++ packed_record) 10 64 (entry 6 2 Packed 15) ∷
     -- 0 1 2 4 of five shades, 000 001 01|0 100 0000: the third sector straddles two bytes
     stores Packed 5 (4 ∷ 0 ∷ 1 ∷ 2 ∷ []) (pack 4 5 (0x05 ∷ 0x40 ∷ [])) ∷
     shows Packed (pack 4 5 (0x05 ∷ 0x40 ∷ [])) 0 (0 ∷ 1 ∷ 2 ∷ 4 ∷ []) ∷
     -- n = 64 and k = 16 take 32 bytes, and one less is cut; 9 sectors of two shades take two bytes
-    answers (pack 64 16 (replicate 32 0xFF)) 0 64 (Record 64 16 Packed 36) ∷
-    answers (pack 64 16 (replicate 31 0xFF)) 0 64 (Refused (Cut 0)) ∷
-    answers (front_record ++ pack 9 2 (0 ∷ [])) 10 64 (Refused (Cut 10)) ∷
+    answers (pack 64 16 (replicate 32 0xFF)) 0 64 (entry 64 16 Packed 36) ∷
+    answers (pack 64 16 (replicate 31 0xFF)) 0 64 (Err (Cut 0)) ∷
+    answers (front_record ++ pack 9 2 (0 ∷ [])) 10 64 (Err (Cut 10)) ∷
     -- Sector at the byte of its first bit: 0 1 7 0, whose third sector straddles, with bits set in the padding; the fourth, in the second byte
-    answers (front_record ++ pack 4 5 (0x07 ∷ 0x8F ∷ [])) 10 64 (Refused (Sector 14)) ∷
-    answers (front_record ++ pack 4 5 (0x05 ∷ 0x70 ∷ [])) 10 64 (Refused (Sector 15)) ∷
+    answers (front_record ++ pack 4 5 (0x07 ∷ 0x8F ∷ [])) 10 64 (Err (Sector 14)) ∷
+    answers (front_record ++ pack 4 5 (0x05 ∷ 0x70 ∷ [])) 10 64 (Err (Sector 15)) ∷
     -- Padding at the last byte, before Not home: 1 0 and 1 0 0 1 0 0 0 0 0 are no necklaces
-    answers (front_record ++ pack 2 2 (0x81 ∷ [])) 10 64 (Refused (Padding 14)) ∷
-    answers (front_record ++ pack 9 2 (0x90 ∷ 0x40 ∷ [])) 10 64 (Refused (Padding 15)) ∷
+    answers (front_record ++ pack 2 2 (0x81 ∷ [])) 10 64 (Err (Padding 14)) ∷
+    answers (front_record ++ pack 9 2 (0x90 ∷ 0x40 ∷ [])) 10 64 (Err (Padding 15)) ∷
     -- Not home: Opening at the first byte; Loose at the byte of the sector where it goes wrong: 1 1 0 1 at the third, which straddles, 011011010 at the ninth
-    answers (front_record ++ pack 4 2 (0x60 ∷ [])) 10 64 (Refused (NotHome 14)) ∷
-    answers (front_record ++ pack 4 5 (0x24 ∷ 0x10 ∷ [])) 10 64 (Refused (NotHome 14)) ∷
-    answers (front_record ++ pack 9 2 (0x6D ∷ 0x00 ∷ [])) 10 64 (Refused (NotHome 15)) ∷
+    answers (front_record ++ pack 4 2 (0x60 ∷ [])) 10 64 (Err (NotHome 14)) ∷
+    answers (front_record ++ pack 4 5 (0x24 ∷ 0x10 ∷ [])) 10 64 (Err (NotHome 14)) ∷
+    answers (front_record ++ pack 9 2 (0x6D ∷ 0x00 ∷ [])) 10 64 (Err (NotHome 15)) ∷
     -- the mark is looked at first, the numbers before the bytes
-    answers (0x52 ∷ 0x50 ∷ 6 ∷ []) 0 64 (Refused (Cut 0)) ∷
-    answers (pack 0 99 []) 0 64 (Refused (Length 2)) ∷
-    answers (pack 6 17 []) 0 64 (Refused (Shades 3)) ∷ []
+    answers (0x52 ∷ 0x50 ∷ 6 ∷ []) 0 64 (Err (Cut 0)) ∷
+    answers (pack 0 99 []) 0 64 (Err (Length 2)) ∷
+    answers (pack 6 17 []) 0 64 (Err (Shades 3)) ∷ []
 
 -- what a row says
 unfoldable pub Holds : Case → Type 0

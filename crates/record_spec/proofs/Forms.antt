@@ -11,9 +11,9 @@
 --     good-behind                      a record whose numbers and length are good is good, or refused, as its bytes are
 use Rattle.words.proofs.Plain.{ℕ, ◌<◌, ◌≤◌, arith, ◌≡◌, refl, inl, inr, true, List, length}
 use Rattle.words.specs.Readings.{Shaded}
-use Rattle.refusal.specs.{declared.Refusal.Refusal, Calls.Below, declared.Checked.Checked}
+use Rattle.refusal.specs.{declared.Refusal.Refusal, Calls.Below}
 use Rattle.refusal.specs.Order.{Passed, Given, CheckSays}
-use Rattle.refusal.specs.declared.Checked.TheVariants as C
+use Rattle.std.specs.Prelude.{Result, Ok, Err}
 use Rattle.packing_spec.specs.{Width.width, Packing.Bytes}
 use Rattle.packing_laws.proofs.Width.{shades-fit, narrow}
 use Rattle.packing_laws.proofs.Lengths.{packed-some, packed-le, byte-of-lt}
@@ -81,6 +81,6 @@ module _ (x : Kind) (t : List ℕ) (s : ℕ) (m : Marked t x) where
   behind-given r l g = inr (((l, inl (x, m)), not_back t x m), rw (kind-is t x m) g)
 
 -- a record whose numbers and length are good is good, or refused, as its bytes are
-pub good-behind : (x : Kind) (t : List ℕ) (s : ℕ) (v : Checked) → After7 x t → CheckSays (body_order x (n_of t) (k_of t) (body_of x t) s) v → CheckSays (behind_order x t s) v
-good-behind x t s C.Good a g = (a, g)
-good-behind x t s (C.Refused r) a g = inr (a, g)
+pub good-behind : (x : Kind) (t : List ℕ) (s : ℕ) (v : Result Unit Refusal) → After7 x t → CheckSays (body_order x (n_of t) (k_of t) (body_of x t) s) v → CheckSays (behind_order x t s) v
+good-behind x t s (Ok _) a g = (a, g)
+good-behind x t s (Err r) a g = inr (a, g)

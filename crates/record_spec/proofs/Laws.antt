@@ -6,8 +6,9 @@
 --     front-necklace                              the front ring is a necklace
 --     next-inside                                 the next record starts in the catalogue or at its end, past this one
 use Rattle.words.proofs.Plain.{ℕ, ◌+◌, ◌<◌, ◌≤◌, arith, ◌≡◌, sym, ap, ◌∙◌, true, List, length, take, drop, length-drop, length-take-le, take_at, drop_at}
+use Rattle.std.specs.Prelude.{Ok, Some}
 use Rattle.rings.specs.Necklace.{necklace}
-use Rattle.record_spec.specs.{declared.Kind.Kind, declared.Kind.TheVariants.Front, declared.Entry.TheVariants.Record}
+use Rattle.record_spec.specs.{declared.Kind.Kind, declared.Kind.TheVariants.Front, declared.Record.Record}
 use Rattle.record_spec.specs.Layout.{body_length, n_of, k_of, body_of, stored_ring, sectors_of}
 use Rattle.record_spec.specs.Says.{ReadSays}
 use Rattle.record_spec.proofs.Forms.{length-shown}
@@ -26,30 +27,30 @@ length-sectors t h = length-ring Front t h
 
 -- ---- the front ring
 
-module _ (c : List ℕ) (s : ℕ) (b : List ℕ) (n k : ℕ) (x : Kind) (next : ℕ) (d : List ℕ) (h : ReadSays c s b (Record n k x next) d) where
+module _ (c : List ℕ) (s : ℕ) (b : List ℕ) (r : Record) (d : List ℕ) (h : ReadSays c s b (Ok (Some r)) d) where
   -- the record is not cut
-  pub uncut : 4 + body_length x (n_of (drop s c)) (k_of (drop s c)) ≤ length (drop s c)
+  pub uncut : 4 + body_length r.kind (n_of (drop s c)) (k_of (drop s c)) ≤ length (drop s c)
   uncut = h.2.good.0.1
 
   -- the numbers of the answer are those of the record
-  pub read_length : body_length x n k ≡ body_length x (n_of (drop s c)) (k_of (drop s c))
-  read_length = ap (λ (i : ℕ). body_length x i k) h.2.sectors ∙ ap (λ (i : ℕ). body_length x (n_of (drop s c)) i) h.2.shades
+  pub read_length : body_length r.kind r.n r.k ≡ body_length r.kind (n_of (drop s c)) (k_of (drop s c))
+  read_length = ap (λ (i : ℕ). body_length r.kind i r.k) h.2.sectors ∙ ap (λ (i : ℕ). body_length r.kind (n_of (drop s c)) i) h.2.shades
 
-  long : length (stored_ring x (drop s c)) ≡ n
-  long = length-ring x (drop s c) uncut ∙ sym h.2.sectors
+  long : length (stored_ring r.kind (drop s c)) ≡ r.n
+  long = length-ring r.kind (drop s c) uncut ∙ sym h.2.sectors
 
   -- the first n bytes of the output are the front ring
-  pub output-front : take n d ≡ stored_ring x (drop s c)
-  output-front = rw h.2.ring (take_at (stored_ring x (drop s c)) (drop n b) n long)
+  pub output-front : take r.n d ≡ stored_ring r.kind (drop s c)
+  output-front = rw h.2.ring (take_at (stored_ring r.kind (drop s c)) (drop r.n b) r.n long)
 
   -- the others are as they were
-  pub output-rest : drop n d ≡ drop n b
-  output-rest = rw h.2.ring (drop_at (stored_ring x (drop s c)) (drop n b) n long)
+  pub output-rest : drop r.n d ≡ drop r.n b
+  output-rest = rw h.2.ring (drop_at (stored_ring r.kind (drop s c)) (drop r.n b) r.n long)
 
   -- the front ring is a necklace
-  pub front-necklace : necklace (take n d) ≡ true
+  pub front-necklace : necklace (take r.n d) ≡ true
   front-necklace = rw output-front h.2.good.1.1
 
   -- the next record starts past this one, in the catalogue or at its end
-  pub next-inside : (s < next) × (next ≤ length c)
+  pub next-inside : (s < r.next) × (r.next ≤ length c)
   next-inside = omega (arith, length-drop s c, h.1, uncut, h.2.follows, read_length)

@@ -9,8 +9,8 @@
 use Rattle.words.proofs.Plain.{ℕ, zero, suc, ◌+◌, ◌<◌, ◌≤◌, arith, ◌≡◌, refl, sym, ap, ◌∙◌, ◌⊎◌, inl, inr, List, [], ◌∷◌, ◌++◌, length, get_or, take, drop}
 use Rattle.words.proofs.Plain.{replicate, length-append, length-take, length-drop, length-replicate, get_or-take, take-take, drop_at}
 use Rattle.refusal.specs.{declared.Refusal.Refusal, declared.Refusal.TheVariants.Cut, Order.Given}
-use Rattle.record_spec.specs.{declared.Kind.Kind, declared.Entry.Entry, Says.Read, Says.ReadSays}
-use Rattle.record_spec.specs.declared.Entry.TheVariants.{Record, End, Refused}
+use Rattle.std.specs.Prelude.{Result, Ok, Err, Option, Some, None}
+use Rattle.record_spec.specs.{declared.Kind.Kind, declared.Record.Record, Says.Read, Says.ReadSays}
 use Rattle.record_spec.specs.Layout.{Marked, MarkedBack, kind_by_mark, body_length, n_of, k_of, body_of, stored_ring}
 use Rattle.record_spec.specs.Order.{Known, behind_order, record_order, read_order, After2, After7, GoodRecord}
 use Rattle.record_spec.proofs.{Forms.few_bytes, Unique.one-read}
@@ -114,7 +114,7 @@ module _ (t : List ℕ) where
 -- ---- any catalogue
 
 -- the answer is that for a catalogue of these bytes, with anything before them
-trimmed : (c : List ℕ) (s : ℕ) (b : List ℕ) (r : Entry) (d : List ℕ) → s ≤ length c → ReadSays c s b r d → ReadSays (replicate s 0 ++ opening (drop s c)) s b r d
+trimmed : (c : List ℕ) (s : ℕ) (b : List ℕ) (r : Result (Option Record) Refusal) (d : List ℕ) → s ≤ length c → ReadSays c s b r d → ReadSays (replicate s 0 ++ opening (drop s c)) s b r d
 trimmed c s b r d l = go r
   where
     t : List ℕ
@@ -129,10 +129,10 @@ trimmed c s b r d l = go r
     some : s < length c → s < length (replicate s 0 ++ opening t)
     some h = omega (arith, long, length-take 68 t, length-drop s c)
 
-    go : (r : Entry) → ReadSays c s b r d → ReadSays (replicate s 0 ++ opening t) s b r d
-    go (Record n k x next) (e, h, f) = (e, some h, rw part (opening-record t s b n k x next d f))
-    go End (e, h, f) = (e, omega (arith, long, length-take 68 t, length-drop s c), f)
-    go (Refused r) (g, f) = (refuse g, f)
+    go : (r : Result (Option Record) Refusal) → ReadSays c s b r d → ReadSays (replicate s 0 ++ opening t) s b r d
+    go (Ok (Some r)) (e, h, f) = (e, some h, rw part (opening-record t s b r.n r.k r.kind r.next d f))
+    go (Ok None) (e, h, f) = (e, omega (arith, long, length-take 68 t, length-drop s c), f)
+    go (Err r) (g, f) = (refuse g, f)
       where
         refuse : Given (read_order c s (length b)) r → Given (read_order (replicate s 0 ++ opening t) s (length b)) r
         refuse (inl (inl g)) = inl (inl g)
@@ -140,11 +140,11 @@ trimmed c s b r d l = go r
         refuse (inr (h, (i, k))) = inr ((h.0, omega (arith, long)), (some i, rw part (opening-given t s r k)))
 
 -- two catalogues that agree on the 68 bytes from the start on have one answer and one output
-pub only-record : (c c' : List ℕ) (s : ℕ) (b : List ℕ) (q r : Entry) (u v : List ℕ) → s ≤ length c → s ≤ length c' → opening (drop s c) ≡ opening (drop s c') →
+pub only-record : (c c' : List ℕ) (s : ℕ) (b : List ℕ) (q r : Result (Option Record) Refusal) (u v : List ℕ) → s ≤ length c → s ≤ length c' → opening (drop s c) ≡ opening (drop s c') →
     ReadSays c s b q u → ReadSays c' s b r v → (q ≡ r) × (u ≡ v)
 only-record c c' s b q r u v l l' e f g =
     one-read (replicate s 0 ++ opening (drop s c)) s b q r u v (trimmed c s b q u l f) (rw e (trimmed c' s b r v l' g))
 
 -- where the start is past the end, it is Cut whatever the bytes are, and the output is as it was
-pub past_end : (c : List ℕ) (s : ℕ) (b : List ℕ) (r : Entry) (d : List ℕ) → length b ≡ 64 → length c < s → ReadSays c s b r d → (r ≡ Refused (Cut s)) × (d ≡ b)
-past_end c s b r d e h f = one-read c s b r (Refused (Cut s)) d b f (inl (inr (e, (refl, λ l. omega arith))), refl)
+pub past_end : (c : List ℕ) (s : ℕ) (b : List ℕ) (r : Result (Option Record) Refusal) (d : List ℕ) → length b ≡ 64 → length c < s → ReadSays c s b r d → (r ≡ Err (Cut s)) × (d ≡ b)
+past_end c s b r d e h f = one-read c s b r (Err (Cut s)) d b f (inl (inr (e, (refl, λ l. omega arith))), refl)

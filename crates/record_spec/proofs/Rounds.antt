@@ -7,15 +7,16 @@
 --     same_bytes               the record of what the reader answered is the bytes that it read
 --     copied                   so that wherever it is written, the same bytes stand there
 --     read-writes, read-written    written back to its own place, the writer answers where the next record starts, and no byte of the catalogue changes
-use Rattle.words.proofs.Plain.{ℕ, ◌+◌, ◌<◌, ◌≤◌, arith, ◌≡◌, refl, sym, ap, ◌∙◌, subst, true, List, ◌++◌, length, get_or, take, drop, length-append, length-take}
+use Rattle.words.proofs.Plain.{ℕ, ◌+◌, ◌<◌, ◌≤◌, arith, ◌≡◌, refl, sym, ap, ◌∙◌, subst, true, List, ◌++◌, length, take, drop, length-append}
 use Rattle.words.proofs.Plain.{length-drop, take_at, get_or-take, get_or-drop}
 use Rattle.words.specs.Readings.{Sized, Shaded, Reading}
 use Rattle.rings.specs.{Necklace.necklace, Home.home}
 use Rattle.ring_home_laws.proofs.Home.{length-home, home-necklace, necklace-home}
 use Rattle.refusal.specs.{Order.Passed, Calls.Below, Calls.one_reading}
 use Rattle.packing_spec.specs.Packing.{Bytes}
-use Rattle.record_spec.specs.{declared.Kind.Kind, declared.Entry.Entry, declared.Entry.TheVariants.Record}
-use Rattle.record_spec.specs.{declared.Written.Written, declared.Written.TheVariants.After, Says.Read, Says.ReadSays}
+use Rattle.std.specs.Prelude.{Result, Ok, Option, Some}
+use Rattle.refusal.specs.declared.Refusal.{Refusal}
+use Rattle.record_spec.specs.{declared.Kind.Kind, declared.Record.Record, Says.Read, Says.entry, Says.ReadSays}
 use Rattle.record_spec.specs.Layout.{body_length, stored, shown, is_clear, n_of, k_of, body_of, stored_ring}
 use Rattle.record_spec.specs.Writes.{Wrote, WriteSays}
 use Rattle.record_spec.proofs.Forms.{shown-stored, stored-shown, clear-stored}
@@ -84,96 +85,97 @@ module _ (w : List ℕ) (k : ℕ) (x : Kind) (b : List ℕ) (p e : ℕ) (d : Lis
       omega (arith, l, length-drop p d)
 
   -- what the reader may answer
-  pub written-reads : (o : List ℕ) → length o ≡ 64 → ReadSays d p o (Record (length w) k x e) (home w ++ drop (length w) o)
+  pub written-reads : (o : List ℕ) → length o ≡ 64 → ReadSays d p o (entry (length w) k x e) (home w ++ drop (length w) o)
   written-reads o l = (l, within, rw (here, h.follows) (reads_here w k x (drop (4 + body_length x (length w) k) (drop p b)) h.passed p o))
 
   -- and what it does
-  pub written_read : (o : List ℕ) (r : Entry) (u : List ℕ) → length o ≡ 64 → ReadSays d p o r u → (r ≡ Record (length w) k x e) × (u ≡ home w ++ drop (length w) o)
-  written_read o r u l s = one-read d p o r (Record (length w) k x e) u (home w ++ drop (length w) o) s (written-reads o l)
+  pub written_read : (o : List ℕ) (r : Result (Option Record) Refusal) (u : List ℕ) → length o ≡ 64 → ReadSays d p o r u → (r ≡ entry (length w) k x e) × (u ≡ home w ++ drop (length w) o)
+  written_read o r u l s = one-read d p o r (entry (length w) k x e) u (home w ++ drop (length w) o) s (written-reads o l)
 
 -- ---- read, and then written back
 
-module _ (c : List ℕ) (s : ℕ) (b : List ℕ) (n k : ℕ) (x : Kind) (next : ℕ) (d : List ℕ) (h : ReadSays c s b (Record n k x next) d) where
+module _ (c : List ℕ) (s : ℕ) (b : List ℕ) (r : Record) (d : List ℕ) (h : ReadSays c s b (Ok (Some r)) d) where
   abbrev t : List ℕ
   t = drop s c
 
-  cut : 4 + body_length x (n_of t) (k_of t) ≤ length t
-  cut = uncut c s b n k x next d h
+  cut : 4 + body_length r.kind (n_of t) (k_of t) ≤ length t
+  cut = uncut c s b r d h
 
-  same : body_length x n k ≡ body_length x (n_of t) (k_of t)
-  same = read_length c s b n k x next d h
+  same : body_length r.kind r.n r.k ≡ body_length r.kind (n_of t) (k_of t)
+  same = read_length c s b r d h
 
-  long_ring : length (stored_ring x t) ≡ n
-  long_ring = length-ring x t cut ∙ sym h.2.sectors
+  long_ring : length (stored_ring r.kind t) ≡ r.n
+  long_ring = length-ring r.kind t cut ∙ sym h.2.sectors
 
-  sized : Sized n
+  sized : Sized r.n
   sized = rw h.2.sectors h.2.good.0.0.0
 
-  front : take n d ≡ stored_ring x t
-  front = output-front c s b n k x next d h
+  front : take r.n d ≡ stored_ring r.kind t
+  front = output-front c s b r d h
 
   -- what was answered has n sectors
-  pub length-answer : length (take n d) ≡ n
+  pub length-answer : length (take r.n d) ≡ r.n
   length-answer = ap (λ (v : List ℕ). length v) front ∙ long_ring
 
   -- and is its own home reading
-  pub answer-home : home (take n d) ≡ take n d
-  answer-home = ap home front ∙ necklace-home (stored_ring x t) (omega (arith, long_ring, sized.0)) h.2.good.1.1 ∙ sym front
+  pub answer-home : home (take r.n d) ≡ take r.n d
+  answer-home = ap home front ∙ necklace-home (stored_ring r.kind t) (omega (arith, long_ring, sized.0)) h.2.good.1.1 ∙ sym front
 
   -- it passes the writer's checks
-  pub answer-passes : Passed (one_reading (take n d) k)
+  pub answer-passes : Passed (one_reading (take r.n d) r.k)
   answer-passes =
-      rw front (reading-passed (stored_ring x t) k n sized (rw h.2.shades h.2.good.0.0.1)
+      rw front (reading-passed (stored_ring r.kind t) r.k r.n sized (rw h.2.shades h.2.good.0.0.1)
       (record { long = long_ring; shades = λ i l. rw h.2.shades (h.2.good.1.0.0 i (omega (arith, long_ring))) }))
 
   module _ (q : Bytes c) where
     -- the bytes behind the head are bytes
-    body_bytes : Bytes (body_of x t)
+    body_bytes : Bytes (body_of r.kind t)
     body_bytes i l =
-        let m : i < body_length x (n_of t) (k_of t) = omega (arith, length-body x t cut) in
-        rw (get_or-take (body_length x (n_of t) (k_of t)) (drop 4 t) i 0 m, get_or-drop 4 t i 0, get_or-drop s c (4 + i) 0) (q (s + (4 + i)) (omega (arith, cut, length-drop s c)))
+        let m : i < body_length r.kind (n_of t) (k_of t) = omega (arith, length-body r.kind t cut) in
+        rw (get_or-take (body_length r.kind (n_of t) (k_of t)) (drop 4 t) i 0 m, get_or-drop 4 t i 0, get_or-drop s c (4 + i) 0) (q (s + (4 + i)) (omega (arith, cut, length-drop s c)))
 
     -- and those of the ring that was answered
-    stands : stored x k (home (take n d)) ≡ body_of x t
+    stands : stored r.kind r.k (home (take r.n d)) ≡ body_of r.kind t
     stands =
-        ap (λ (v : List ℕ). stored x k v) (answer-home ∙ front)
-        ∙ ap (λ (i : ℕ). stored x i (stored_ring x t)) h.2.shades
-        ∙ stored-shown x (n_of t) (k_of t) (body_of x t) (length-body x t cut) body_bytes h.2.good.1.0.1
+        ap (λ (v : List ℕ). stored r.kind r.k v) (answer-home ∙ front)
+        ∙ ap (λ (i : ℕ). stored r.kind i (stored_ring r.kind t)) h.2.shades
+        ∙ stored-shown r.kind (n_of t) (k_of t) (body_of r.kind t) (length-body r.kind t cut) body_bytes h.2.good.1.0.1
 
     -- the catalogue from s on
-    split : t ≡ record_bytes x k (take n d) ++ drop (4 + body_length x (length (take n d)) k) t
-    split = whole x t (length (take n d)) k (stored x k (home (take n d))) (omega (arith, cut)) h.2.marked (length-answer ∙ h.2.sectors) h.2.shades stands
+    split : t ≡ record_bytes r.kind r.k (take r.n d) ++ drop (4 + body_length r.kind (length (take r.n d)) r.k) t
+    split = whole r.kind t (length (take r.n d)) r.k (stored r.kind r.k (home (take r.n d))) (omega (arith, cut)) h.2.marked (length-answer ∙ h.2.sectors) h.2.shades stands
 
-    length-again : length (record_bytes x k (take n d)) ≡ 4 + body_length x n k
-    length-again = length-record (take n d) k x answer-passes ∙ ap (λ (i : ℕ). 4 + body_length x i k) length-answer
+    length-again : length (record_bytes r.kind r.k (take r.n d)) ≡ 4 + body_length r.kind r.n r.k
+    length-again = length-record (take r.n d) r.k r.kind answer-passes ∙ ap (λ (i : ℕ). 4 + body_length r.kind i r.k) length-answer
 
     -- the bytes that were read
-    pub same_bytes : record_bytes x k (take n d) ≡ take (4 + body_length x n k) t
+    pub same_bytes : record_bytes r.kind r.k (take r.n d) ≡ take (4 + body_length r.kind r.n r.k) t
     same_bytes =
-        sym (ap (take (4 + body_length x n k)) split ∙ take_at (record_bytes x k (take n d)) (drop (4 + body_length x (length (take n d)) k) t) (4 + body_length x n k) length-again)
+        sym (ap (take (4 + body_length r.kind r.n r.k)) split ∙ take_at (record_bytes r.kind r.k (take r.n d)) (drop (4 + body_length r.kind (length (take r.n d)) r.k) t)
+        (4 + body_length r.kind r.n r.k) length-again)
 
     -- so that wherever it is written, the same bytes stand there
-    pub copied : (v : List ℕ) (p e : ℕ) (f : List ℕ) → WriteSays (take n d) k x v p (After e) f → take (4 + body_length x n k) (drop p f) ≡ take (4 + body_length x n k) t
+    pub copied : (v : List ℕ) (p e : ℕ) (f : List ℕ) → WriteSays (take r.n d) r.k r.kind v p (Ok e) f → take (4 + body_length r.kind r.n r.k) (drop p f) ≡ take (4 + body_length r.kind r.n r.k) t
     copied v p e f g =
-        ap (take (4 + body_length x n k)) (placed-bytes (take n d) k x answer-passes (drop p v) (drop p f) g.here)
-        ∙ take_at (record_bytes x k (take n d)) (drop (4 + body_length x (length (take n d)) k) (drop p v)) (4 + body_length x n k) length-again
+        ap (take (4 + body_length r.kind r.n r.k)) (placed-bytes (take r.n d) r.k r.kind answer-passes (drop p v) (drop p f) g.here)
+        ∙ take_at (record_bytes r.kind r.k (take r.n d)) (drop (4 + body_length r.kind (length (take r.n d)) r.k) (drop p v)) (4 + body_length r.kind r.n r.k) length-again
         ∙ same_bytes
 
     -- the number of bytes, told by the answer
-    told : body_length x (length (take n d)) k ≡ body_length x n k
-    told = ap (λ (i : ℕ). body_length x i k) length-answer
+    told : body_length r.kind (length (take r.n d)) r.k ≡ body_length r.kind r.n r.k
+    told = ap (λ (i : ℕ). body_length r.kind i r.k) length-answer
 
     -- what the writer may answer
-    pub read-writes : WriteSays (take n d) k x c s (After next) c
+    pub read-writes : WriteSays (take r.n d) r.k r.kind c s (Ok r.next) c
     read-writes =
         record {
           passed = answer-passes;
           fits = omega (arith, told, same, cut);
           follows = omega (arith, told, h.2.follows);
           before = refl;
-          here = bytes-placed (take n d) k x answer-passes t t split;
+          here = bytes-placed (take r.n d) r.k r.kind answer-passes t t split;
         }
 
     -- and what it does: the catalogue stays, byte for byte
-    pub read-written : (r : Written) (f : List ℕ) → WriteSays (take n d) k x c s r f → (r ≡ After next) × (f ≡ c)
-    read-written r f g = one-write (take n d) k x c s r (After next) f c g read-writes
+    pub read-written : (a : Result ℕ Refusal) (f : List ℕ) → WriteSays (take r.n d) r.k r.kind c s a f → (a ≡ Ok r.next) × (f ≡ c)
+    read-written a f g = one-write (take r.n d) r.k r.kind c s a (Ok r.next) f c g read-writes

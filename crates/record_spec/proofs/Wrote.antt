@@ -4,14 +4,14 @@
 --     placed-bytes, bytes-placed  the part that begins at the place is those bytes and what was behind them; and a part that is so holds the record
 --     wrote-bytes                 the whole buffer
 --     one-write                   no two answers satisfy the contract, the buffer included
-use Rattle.words.proofs.Plain.{ℕ, ◌+◌, ◌<◌, ◌≤◌, arith, ◌≡◌, refl, sym, ap, ◌∙◌, List, ◌++◌, length, take, drop, length-take, length-drop, take-append-drop}
+use Rattle.words.proofs.Plain.{ℕ, ◌+◌, ◌<◌, arith, ◌≡◌, refl, sym, ap, ◌∙◌, List, ◌++◌, length, take, drop, length-take, length-drop, take-append-drop}
 use Rattle.words.proofs.Plain.{drop_at}
 use Rattle.rings.specs.Home.{home}
 use Rattle.ring_home_laws.proofs.Home.{length-home, home-reading}
 use Rattle.refusal.specs.{declared.Refusal.Refusal, Order.Passed, Order.Given, Calls.Below, Calls.one_reading}
 use Rattle.refusal.proofs.Unique.{one-refusal, never_both}
-use Rattle.record_spec.specs.{declared.Kind.Kind, declared.Written.Written}
-use Rattle.record_spec.specs.declared.Written.TheVariants.{After, Refused}
+use Rattle.std.specs.Prelude.{Result, Ok, Err}
+use Rattle.record_spec.specs.declared.Kind.{Kind}
 use Rattle.record_spec.specs.Layout.{body_length, stored, n_of, k_of, body_of}
 use Rattle.record_spec.specs.Writes.{write_order, RecordPlaced, Wrote, WriteSays}
 use Rattle.record_spec.proofs.Forms.{length-stored, some_bytes}
@@ -77,9 +77,9 @@ module _ (w : List ℕ) (k : ℕ) (x : Kind) (b : List ℕ) (p : ℕ) where
   never e d r h g = never_both (write_order w k x (drop p b) p) r g (h.passed, h.fits)
 
   -- one answer, and one buffer after it
-  pub one-write : (r t : Written) (d f : List ℕ) → WriteSays w k x b p r d → WriteSays w k x b p t f → (r ≡ t) × (d ≡ f)
-  one-write (After e) (After a) d f g h =
-      (ap After (g.follows ∙ sym h.follows), wrote-bytes w k x g.passed b p e d g ∙ sym (wrote-bytes w k x h.passed b p a f h))
-  one-write (After e) (Refused t) d f g h = absurd (never e d t g h.0)
-  one-write (Refused r) (After a) d f g h = absurd (never a f r h g.0)
-  one-write (Refused r) (Refused t) d f g h = (ap Refused (one-refusal (write_order w k x (drop p b) p) r t g.0 h.0), g.1 ∙ sym h.1)
+  pub one-write : (r t : Result ℕ Refusal) (d f : List ℕ) → WriteSays w k x b p r d → WriteSays w k x b p t f → (r ≡ t) × (d ≡ f)
+  one-write (Ok e) (Ok a) d f g h =
+      (ap Ok (g.follows ∙ sym h.follows), wrote-bytes w k x g.passed b p e d g ∙ sym (wrote-bytes w k x h.passed b p a f h))
+  one-write (Ok e) (Err t) d f g h = absurd (never e d t g h.0)
+  one-write (Err r) (Ok a) d f g h = absurd (never a f r h g.0)
+  one-write (Err r) (Err t) d f g h = (ap Err (one-refusal (write_order w k x (drop p b) p) r t g.0 h.0), g.1 ∙ sym h.1)

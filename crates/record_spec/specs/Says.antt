@@ -1,12 +1,13 @@
 -- What reading a record promises (01, 'Catalogue records'; 02, j and k), by cases on the answer: for a catalogue c, a start s and an output that held b before and holds d after.
 --     Read t s b n k x next d    the record at s is whole and good, and the answer and the output are what it says
---     ReadSays c s b r d         the answer r
+--     entry n k x next           the answer that a record was read
+--     ReadSays c s b r d         the answer r: a record, the end, which is no record, or a refusal
 -- That no two answers satisfy it, the output included: proofs/Unique.
-use Rattle.std.specs.Prelude.{ℕ, ◌+◌, ◌<◌, ◌≡◌, List, ◌++◌, length, drop}
+use Rattle.std.specs.Prelude.{ℕ, ◌+◌, ◌<◌, ◌≡◌, List, ◌++◌, length, drop, Result, Ok, Err, Option, Some, None}
+use Rattle.refusal.specs.declared.Refusal.{Refusal}
 use Rattle.refusal.specs.Order.{Given}
 use Rattle.record_spec.specs.declared.Kind.{Kind}
-use Rattle.record_spec.specs.declared.Entry.{Entry}
-use Rattle.record_spec.specs.declared.Entry.TheVariants.{Record, End, Refused}
+use Rattle.record_spec.specs.declared.Record.{Record}
 use Rattle.record_spec.specs.Layout.{Marked, body_length, n_of, k_of, stored_ring}
 use Rattle.record_spec.specs.Order.{GoodRecord, read_order}
 
@@ -19,7 +20,10 @@ pub record Read (t : List ℕ) (s : ℕ) (b : List ℕ) (n k : ℕ) (x : Kind) (
   pub follows : next ≡ s + 4 + body_length x n k
   pub ring : d ≡ stored_ring x t ++ drop n b
 
-abbrev pub ReadSays : List ℕ → ℕ → List ℕ → Entry → List ℕ → Type 0
-ReadSays c s b (Record n k x next) d = (length b ≡ 64) × (s < length c) × Read (drop s c) s b n k x next d
-ReadSays c s b End d = (length b ≡ 64) × (s ≡ length c) × (d ≡ b)
-ReadSays c s b (Refused r) d = Given (read_order c s (length b)) r × (d ≡ b)
+abbrev pub entry : ℕ → ℕ → Kind → ℕ → Result (Option Record) Refusal
+entry n k x next = Ok (Some (record { n = n; k = k; kind = x; next = next }))
+
+abbrev pub ReadSays : List ℕ → ℕ → List ℕ → Result (Option Record) Refusal → List ℕ → Type 0
+ReadSays c s b (Ok (Some r)) d = (length b ≡ 64) × (s < length c) × Read (drop s c) s b r.n r.k r.kind r.next d
+ReadSays c s b (Ok None) d = (length b ≡ 64) × (s ≡ length c) × (d ≡ b)
+ReadSays c s b (Err r) d = Given (read_order c s (length b)) r × (d ≡ b)

@@ -5,14 +5,13 @@
 --     Wrote w k x b p e d         the record stands at p, e is the place after it, and every other byte is as it was
 --     WriteSays w k x b p r d     the answer r
 -- That no two answers satisfy it, the buffer included: proofs/Wrote. That writing and reading undo one another: proofs/Rounds.
-use Rattle.std.specs.Prelude.{ℕ, ◌+◌, ◌≤◌, ◌≡◌, refl, List, [], ◌∷◌, length, take, drop}
+use Rattle.std.specs.Prelude.{ℕ, ◌+◌, ◌≤◌, ◌≡◌, refl, List, [], ◌∷◌, length, take, drop, Result, Ok, Err}
 use Rattle.rings.specs.Home.{home}
+use Rattle.refusal.specs.declared.Refusal.{Refusal}
 use Rattle.refusal.specs.declared.Refusal.TheVariants.{Cut}
 use Rattle.refusal.specs.Order.{Checks, fact, ◌▸◌, Given, Passed, numbered}
 use Rattle.refusal.specs.Calls.{one_reading}
 use Rattle.record_spec.specs.declared.Kind.{Kind}
-use Rattle.record_spec.specs.declared.Written.{Written}
-use Rattle.record_spec.specs.declared.Written.TheVariants.{After, Refused}
 use Rattle.record_spec.specs.Layout.{Marked, body_length, stored, n_of, k_of, body_of}
 
 -- the checks of the reading, and then whether the buffer has the bytes of head and sectors from the place on; past its end it has none
@@ -40,6 +39,6 @@ pub record Wrote (w : List ℕ) (k : ℕ) (x : Kind) (b : List ℕ) (p e : ℕ) 
   pub here : RecordPlaced w k x (drop p b) (drop p d)
 
 -- a refusal writes nothing
-abbrev pub WriteSays : List ℕ → ℕ → Kind → List ℕ → ℕ → Written → List ℕ → Type 0
-WriteSays w k x b p (After e) d = Wrote w k x b p e d
-WriteSays w k x b p (Refused r) d = Given (write_order w k x (drop p b) p) r × (d ≡ b)
+abbrev pub WriteSays : List ℕ → ℕ → Kind → List ℕ → ℕ → Result ℕ Refusal → List ℕ → Type 0
+WriteSays w k x b p (Ok e) d = Wrote w k x b p e d
+WriteSays w k x b p (Err r) d = Given (write_order w k x (drop p b) p) r × (d ≡ b)

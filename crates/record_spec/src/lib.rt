@@ -2,8 +2,6 @@
 
 #![tactic(auto)]
 
-use refusal::Refusal;
-
 // The mark: its first byte, its second byte in a front record and in a packed one, and that of a back record, which is retired (02, j).
 pub const MARK: u8 = b'R';
 
@@ -23,22 +21,11 @@ pub enum Kind {
     Packed,
 }
 
-// What reading a record answers; the front ring itself is written to the output.
+// What reading a record answers, unless it is the end (`None`) or refused; the front ring itself is written to the output.
 #[derive(Clone, Copy)]
-pub enum Entry {
-    Record {
-        n: usize,
-        k: usize,
-        kind: Kind,
-        next: usize,
-    },
-    End,
-    Refused(Refusal),
-}
-
-// What writing a record answers: the place after it; the record itself is written to the buffer.
-#[derive(Clone, Copy)]
-pub enum Written {
-    After(usize),
-    Refused(Refusal),
+pub struct Record {
+    pub n: usize,
+    pub k: usize,
+    pub kind: Kind,
+    pub next: usize,
 }

@@ -1,16 +1,14 @@
 -- The bytes that a record stores of a ring. w is the reading, of k shades, which passed the checks; u is the width, as a call told it.
 --     length-told     the number of bytes of the packed form
 --     pack-asks       the home reading v may be packed into a part of m bytes
---     pack-told       and what it is packed to is what a packed record stores
 use Rattle.words.proofs.Plain.{ℕ, ◌≤◌, arith, ◌≡◌, sym, ap, ◌∙◌, List, length}
-use Rattle.words.specs.Readings.{Shaded}
 use Rattle.rings.specs.Home.{home}
 use Rattle.ring_home_laws.proofs.Home.{length-home}
 use Rattle.packing_spec.specs.Width.{width}
-use Rattle.packing_spec.specs.Packing.{BitsFit, packed_length, packed}
+use Rattle.packing_spec.specs.Packing.{BitsFit, packed_length}
 use Rattle.packing_laws.proofs.Width.{shades-fit, narrow}
 use Rattle.refusal.specs.{Order.Passed, Calls.one_reading}
-use Rattle.record_spec.specs.{declared.Kind.TheVariants.Packed, Layout.body_length, Layout.stored}
+use Rattle.record_spec.specs.{declared.Kind.TheVariants.Packed, Layout.body_length}
 use Rattle.record_spec.proofs.Wrote.{home_below}
 
 -- the number of bytes
@@ -22,7 +20,3 @@ pub pack-asks : (w : List ℕ) (k u m : ℕ) (v : List ℕ) → Passed (one_read
     (u ≤ 8) × BitsFit u v × (m ≡ packed_length u (length v))
 pack-asks w k u m v g e f l =
     (omega (arith, e, narrow k g.0.0.0.0.1), rw (e, f) (shades-fit k (home w) (home_below w k g)), rw (e, f) (l ∙ ap (packed_length (width k)) (sym (length-home w g.0.0.0.0.0.0.0))))
-
--- what comes of it
-pub pack-told : (w : List ℕ) (k u : ℕ) (v o : List ℕ) → u ≡ width k → v ≡ home w → o ≡ packed u v → o ≡ stored Packed k (home w)
-pack-told w k u v o e f q = q ∙ ap (λ (x : ℕ). packed x v) e ∙ ap (packed (width k)) f

@@ -2,7 +2,7 @@
 
 #![tactic(auto)]
 
-ghost use Rattle.std.specs.Prelude.{◌≡◌, ◌<◌, length};
+ghost use Rattle.std.specs.Prelude.{◌≡◌, ◌<◌, ◌≤◌, length};
 ghost use Rattle.words.specs.Readings.{Sized, Shaded};
 ghost use Rattle.rings.specs.Home.{home};
 ghost use Rattle.refusal.specs.Order.{Passed};
@@ -12,10 +12,11 @@ ghost use Rattle.record_spec.specs.Layout.{body_length, stored};
 
 use record_spec::Kind;
 
-// How many bytes they are.
+// How many bytes they are: at most one a sector.
 pub fn body_length(kind: Kind, n: usize, k: usize) -> usize
     requires { Sized n × Shaded k }
-    ensures { result ≡ body_length kind n k }
+    ensures length { result ≡ body_length kind n k }
+    ensures few { result ≤ 64 }
 {
     match kind {
         Kind::Front => n,
@@ -39,8 +40,7 @@ fn put_home(reading: &[u8], out: &mut [u8])
     requires { (0 < length reading.now) × (length out.old ≡ length reading.now) }
     ensures { out.new ≡ home reading.now }
 {
-    let i = home_shift_inner::least_shift(reading);
-    home_turns_inner::write_turn(reading, i, out);
+    home_turns_inner::write_turn(reading, home_shift_inner::least_shift(reading), out);
 }
 
 // Writes the home reading packed.
@@ -48,8 +48,8 @@ fn put_packed(reading: &[u8], k: usize, out: &mut [u8])
     requires { Passed (one_reading reading.now k) × (length out.old ≡ body_length Packed (length reading.now) k) }
     ensures { out.new ≡ stored Packed k (home reading.now) }
 {
-    let n = reading.len();
-    let mut ring = [0u8; 64];
-    put_home(reading, &mut ring[..n]);
-    packing_pack_inner::pack_into(&ring[..n], packing_bits_inner::width_of(k), out);
+    let mut room = [0u8; 64];
+    let ring = &mut room[..reading.len()];
+    put_home(reading, ring);
+    packing_pack_inner::pack_into(ring, packing_bits_inner::width_of(k), out);
 }

@@ -6,3 +6,4 @@ pub mod Tests
 pub mod Answer
 pub mod Cases
 pub mod More
+pub mod Handed

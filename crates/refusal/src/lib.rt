@@ -27,12 +27,6 @@ pub enum Refusal {
     Padding(usize),
 }
 
-#[derive(Clone, Copy)]
-pub enum Checked {
-    Good,
-    Refused(Refusal),
-}
-
 pub fn number(r: Refusal) -> usize
     ensures { result ≡ number_of r }
 {

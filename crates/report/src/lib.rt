@@ -28,11 +28,7 @@ fn tidied(bytes: &[u8], len: usize) -> Pending
     ensures { result ≡ state_of (take len bytes.now) }
 {
     let mut line = [0u8; 9];
-    let mut i = 0;
-    while i < len {
-        line[i] = bytes[i];
-        i += 1;
-    }
+    line[..len].copy_from_slice(&bytes[..len]);
     Pending { line, len }
 }
 
@@ -41,9 +37,9 @@ fn tidied(bytes: &[u8], len: usize) -> Pending
 pub fn feed(p: Pending, block: &[u8], buf: &mut [u8]) -> Fed
     ensures { FeedSays p block.now buf.old result buf.new }
 {
-    let taken = stream_blocks_inner::smaller_of(buf.len() / LINE_ROOM, block.len());
+    let taken = (buf.len() / LINE_ROOM).min(block.len());
     let mut line = p.line;
-    let len = stream_blocks_inner::smaller_of(p.len, 9);
+    let len = p.len.min(9);
     let q = stream_blocks_inner::take_bytes(Kind::Count, &mut line, len, &block[..taken], buf);
     let state = tidied(&line, q.len);
     Fed {
@@ -62,6 +58,6 @@ pub fn finish(p: Pending, buf: &mut [u8]) -> usize
         return 0;
     }
     let line = p.line;
-    let len = stream_blocks_inner::smaller_of(p.len, 9);
+    let len = p.len.min(9);
     stream_blocks_inner::place_last(Kind::Count, &line[..len], buf)
 }

@@ -15,7 +15,6 @@ ghost use Rattle.report_spec.specs.Lines.{counts_line, Answers};
 ghost use Rattle.report_spec.specs.Blocks.{line_room};
 
 use how_many::MOST;
-use limits::Planned;
 use refusal::Refusal;
 
 // Two numbers, a space between them, and a newline.
@@ -55,7 +54,7 @@ pub fn place_answer(line: &[u8], buf: &mut [u8], at: usize) -> usize
     ensures { Puts (Answers line.now) line_room buf.old at result buf.new }
 {
     match plan::plan_line(line, MOST) {
-        Planned::Refused(r) => place_refusal(buf, at, r),
-        Planned::Accepted(k, n) => place_numbers(buf, at, k, n),
+        Err(r) => place_refusal(buf, at, r),
+        Ok((k, n)) => place_numbers(buf, at, k, n),
     }
 }

@@ -7,8 +7,8 @@ use Rattle.words.proofs.Plain.{ℕ, ◌-◌, arith, ◌≡◌, refl, sym, ap, su
 use Rattle.stream_spec.specs.{Lines.under, Texts.over, Texts.block}
 use Rattle.stream_spec.specs.Texts as stream
 use Rattle.stream_spec.proofs.Cut as cut
-use Rattle.report_spec.specs.{declared.Pending.Pending, declared.Fed.Fed, Lines.Answers, Lines.Reports}
-use Rattle.report_spec.specs.Blocks.{line_room, keep, line_of, state_of, bytes_for, FeedSays, FinishSays, small, last, ReportRun, ends, feeds}
+use Rattle.report_spec.specs.{declared.Pending.Pending, Lines.Answers, Lines.Reports}
+use Rattle.report_spec.specs.Blocks.{keep, line_of, state_of, bytes_for, small, last, ReportRun, ends, feeds}
 use Rattle.report_laws.proofs.Kept.{report-tells}
 
 -- the line under way of a state

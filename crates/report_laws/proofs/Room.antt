@@ -1,7 +1,7 @@
 -- How long the report's lines are.
 --     answer-short    no line prints more than 22 bytes
-use Rattle.words.proofs.Plain.{ℕ, ◌+◌, ◌^◌, ◌<◌, ◌≤◌, arith, ◌≡◌, refl, ap, Bool, true, List, length, length-append}
-use Rattle.words.specs.Readings.{readings, count}
+use Rattle.words.proofs.Plain.{ℕ, ◌^◌, ◌≤◌, arith, refl, Bool, true, List, length, length-append}
+use Rattle.words.specs.Readings.{readings}
 use Rattle.words.proofs.{Readings.readings-all, Count.count-le}
 use Rattle.rings.specs.{Necklace.necklace, Necklace.lyndon, Steps.how_many}
 use Rattle.ring_total_laws.proofs.Totals.{readings-size}

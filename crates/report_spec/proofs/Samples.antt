@@ -1,6 +1,6 @@
 -- A text worked out by hand.
 --     counts-sample     the line of 2 4
-use Rattle.words.proofs.Plain.{ℕ, ◌≡◌, refl, List, [], ◌∷◌, ◌++◌}
+use Rattle.words.proofs.Plain.{◌≡◌, refl}
 use Rattle.text_spec.specs.{Ascii.ascii, Decimal.decimal, Decimal.decimal_in}
 use Rattle.report_spec.specs.Lines.{counts_line}
 

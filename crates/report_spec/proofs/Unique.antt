@@ -2,32 +2,31 @@
 --     one-text       a line prints one text
 --     one-report     and so does an input
 --     one-feed, one_end    a block that is taken, and the end of the input: the answer and the buffer afterwards
-use Rattle.words.proofs.Plain.{ℕ, arith, ◌≡◌, refl, sym, ap, ◌∙◌, List, [], ◌∷◌, ◌++◌, length, take, drop}
+use Rattle.words.proofs.Plain.{ℕ, arith, ◌≡◌, sym, ap, ◌∙◌, List, ◌++◌, length, take, drop}
 use Rattle.rings.specs.{Necklace.necklace, Necklace.lyndon, Steps.how_many}
 use Rattle.refusal.specs.{declared.Refusal.Refusal, Numbers.number_of}
 use Rattle.text_spec.specs.Text.{refused_line}
-use Rattle.limits_spec.specs.declared.Planned.{Planned}
-use Rattle.limits_spec.specs.declared.Planned.TheVariants.{Accepted, Refused}
+use Rattle.std.specs.Prelude.{Result, Ok, Err}
 use Rattle.plan_spec.proofs.Unique.{one-plan}
 use Rattle.how_many_spec.specs.Says.{most_counted}
-use Rattle.stream_spec.specs.Lines.{ended, under, last_of, lines}
+use Rattle.stream_spec.specs.Lines.{ended, last_of, lines}
 use Rattle.stream_spec.specs.Texts.{Texts}
 use Rattle.stream_spec.proofs.Unique as stream
 use Rattle.report_spec.specs.{declared.Pending.Pending, declared.Fed.Fed}
 use Rattle.report_spec.specs.Lines.{counts_line, Answers, counted, refused, Reports}
-use Rattle.report_spec.specs.Blocks.{line_room, line_of, state_of, bytes_for, FeedSays, FinishSays, small, last}
+use Rattle.report_spec.specs.Blocks.{line_of, bytes_for, FeedSays, FinishSays, small, last}
 
 -- the text of a plan
-abbrev text_of : Planned → List ℕ
-text_of (Accepted k n) = counts_line (how_many necklace n k) (how_many lyndon n k)
-text_of (Refused r) = refused_line (number_of r)
+abbrev text_of : Result (ℕ × ℕ) Refusal → List ℕ
+text_of (Ok (k, n)) = counts_line (how_many necklace n k) (how_many lyndon n k)
+text_of (Err r) = refused_line (number_of r)
 
 -- a line prints one text
 pub one-text : (s t u : List ℕ) → Answers s t → Answers s u → t ≡ u
-one-text s t u (counted k n p e) (counted j m q f) = e ∙ ap text_of (one-plan most_counted s (Accepted k n) (Accepted j m) p q) ∙ sym f
-one-text s t u (counted k n p e) (refused r q f) = e ∙ ap text_of (one-plan most_counted s (Accepted k n) (Refused r) p q) ∙ sym f
-one-text s t u (refused r p e) (counted j m q f) = e ∙ ap text_of (one-plan most_counted s (Refused r) (Accepted j m) p q) ∙ sym f
-one-text s t u (refused r p e) (refused x q f) = e ∙ ap text_of (one-plan most_counted s (Refused r) (Refused x) p q) ∙ sym f
+one-text s t u (counted k n p e) (counted j m q f) = e ∙ ap text_of (one-plan most_counted s (Ok (k, n)) (Ok (j, m)) p q) ∙ sym f
+one-text s t u (counted k n p e) (refused r q f) = e ∙ ap text_of (one-plan most_counted s (Ok (k, n)) (Err r) p q) ∙ sym f
+one-text s t u (refused r p e) (counted j m q f) = e ∙ ap text_of (one-plan most_counted s (Err r) (Ok (j, m)) p q) ∙ sym f
+one-text s t u (refused r p e) (refused x q f) = e ∙ ap text_of (one-plan most_counted s (Err r) (Err x) p q) ∙ sym f
 
 -- lines print one text
 one-texts : (ls : List (List ℕ)) (t u : List ℕ) → Texts Answers ls t → Texts Answers ls u → t ≡ u

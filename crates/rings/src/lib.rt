@@ -10,7 +10,7 @@ pub const FEWEST_SHADES: usize = 2;
 
 pub const MOST_SHADES: usize = 16;
 
-#[derive(Clone, Copy)]
+#[derive(Clone, Copy, PartialEq, Eq)]
 pub enum Class {
     // no prenecklace, with the place of the first sector whose beginning, up to and including it, is none
     Loose(usize),

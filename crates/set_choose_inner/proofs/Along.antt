@@ -4,7 +4,8 @@
 --     Turned, turned                a step to a next Lyndon word, which is offered; fewer readings are above
 --     along-ended                   there is none: not full
 --     along-full                    there are enough
-use Rattle.words.proofs.Plain.{ℕ, zero, suc, ◌-◌, ◌<◌, ◌≤◌, arith, ◌≡◌, refl, sym, ap, subst, ◌∙◌, ⊎_elim, true, false, none, some, List, [], ◌∷◌, eqb, length}
+use Rattle.std.specs.Prelude.{Result, Ok, Err}
+use Rattle.words.proofs.Plain.{ℕ, zero, suc, ◌-◌, ◌<◌, ◌≤◌, arith, ◌≡◌, refl, sym, ap, subst, ◌∙◌, true, false, none, some, List, [], ◌∷◌, eqb, length}
 use Rattle.words.proofs.Plain.{get_or, take, length-append, length-set, ext_get_or, get_or-take, length-take-le, lt-ltb, eq-eqb, ne_eqb}
 use Rattle.walk_spec.proofs.Unique.{one-start}
 use Rattle.words.specs.{Order.before, Search.tab}
@@ -13,11 +14,10 @@ use Rattle.words.proofs.Split.{passes, fails, test, lt, eq, gt, tri}
 use Rattle.rings.specs.{Necklace.lyndon, Prenecklace.prenecklace, Open.open-all, Steps.next_of, Counts.occurs, Counts.counts_of}
 use Rattle.ring_laws.proofs.{Classes.lyndon-necklace, Words.necklace-prenecklace}
 use Rattle.ring_laws.proofs.FullWalk.{next-facts, fewer-above, zeros, length-zeros, zeros-at, zeros-reading, zeros-prenecklace}
-use Rattle.refusal.specs.{declared.Checked.Checked, Order.Passed}
-use Rattle.refusal.specs.declared.Checked.TheVariants as C
+use Rattle.refusal.specs.{declared.Refusal.Refusal, Order.Passed}
 use Rattle.refusal.proofs.Unique.{never_both}
 use Rattle.walk_spec.specs.{declared.Walk.Walk, declared.Started.Started, declared.Outcome.Outcome}
-use Rattle.walk_spec.specs.declared.Outcome.TheVariants.{Moved, Done, Refused}
+use Rattle.walk_spec.specs.declared.Outcome.TheVariants.{Moved, Done}
 use Rattle.walk_spec.specs.Record.{ring_of, walk_of, walk_asked}
 use Rattle.walk_spec.specs.Says.{StartSays, StepSays, Onto, Ended}
 use Rattle.walk_record_laws.proofs.Good.{ring_of_lem, walk-good}
@@ -54,11 +54,11 @@ zeros-part n m h =
     ext_get_or 0 (take n (zeros m)) (zeros n) (e ∙ sym (length-zeros n)) (λ i b. get_or-take n (zeros m) i 0 (rw e at b) ∙ zeros-at m i ∙ sym (zeros-at n i))
 
 -- whatever a start from the all-zero ring answers, it hands out that ring's record
-pub started : {n k d want : ℕ} → Askable n k d want → {v : List ℕ} (w : Walk) (a : Checked) → v ≡ zeros n → StartSays v k w a → w ≡ walk_of k (zeros n)
+pub started : {n k d want : ℕ} → Askable n k d want → {v : List ℕ} (w : Walk) (a : Result Unit Refusal) → v ≡ zeros n → StartSays v k w a → w ≡ walk_of k (zeros n)
 started {n = n} {k = k} ask w a e p =
     let o = handed_out n k (omega (arith, ask.numbers.sized)) ask.numbers.shaded in
     let q : StartSays (zeros n) k w a = rw e at p in
-    ap (λ (x : Started). x.walk) (one-start (zeros n) k w o.first a C.Good q o.started) ∙ o.started.1
+    ap (λ (x : Started). x.walk) (one-start (zeros n) k w o.first a (Ok tt) q o.started) ∙ o.started.1
 
 -- at most one ring is taken at the start
 pub taken-few : (rule : Rule) (n t : ℕ) → t ≡ zero_taken rule n → t ≤ 1
@@ -177,19 +177,19 @@ module _ {rule : Rule} {n k d want : ℕ} (ask : Askable n k d want) {w : Walk} 
   sized : Sized n
   sized = omega (arith, ask.numbers.sized)
 
-  came : {w' : Walk} {m : ℕ} → StepSays lyndon w w' (Moved m) → Came k a.last w'
+  came : {w' : Walk} {m : ℕ} → StepSays lyndon w w' (Ok (Moved m)) → Came k a.last w'
   came {w' = w'} {m = m} s = let o : Onto lyndon (walk_of k a.last) w' m = rw a.walk at s in record { ring = o.to; next = rw (ring_of_lem k a.last) at o.next; handed = o.handed }
 
   good : Passed (walk_asked w)
   good = rw a.walk (walk-good n k a.last sized ask.numbers.shaded a.reading a.pre)
 
-  stops : (w' : Walk) (o : Outcome) → ((m : ℕ) → o ≡ Moved m → ⊥) → StepSays lyndon w w' o → next_of lyndon k a.last ≡ none
-  stops w' (Moved m) t s = absurd (t m refl)
-  stops w' (Done m) t s = let o : Ended lyndon (walk_of k a.last) w' m = rw a.walk at s in rw (ring_of_lem k a.last) at o.next
-  stops w' (Refused r) t s = absurd (never_both (walk_asked w) r s.0 good)
+  stops : (w' : Walk) (o : Result Outcome Refusal) → ((m : ℕ) → o ≡ Ok (Moved m) → ⊥) → StepSays lyndon w w' o → next_of lyndon k a.last ≡ none
+  stops w' (Ok (Moved m)) t s = absurd (t m refl)
+  stops w' (Ok (Done m)) t s = let o : Ended lyndon (walk_of k a.last) w' m = rw a.walk at s in rw (ring_of_lem k a.last) at o.next
+  stops w' (Err r) t s = absurd (never_both (walk_asked w) r s.0 good)
 
   -- none is left
-  pub along-ended : (w' : Walk) (o : Outcome) → ((m : ℕ) → o ≡ Moved m → ⊥) → StepSays lyndon w w' o → t < want → SetChosen n k d want (chosen_by rule n k d want) p t false
+  pub along-ended : (w' : Walk) (o : Result Outcome Refusal) → ((m : ℕ) → o ≡ Ok (Moved m) → ⊥) → StepSays lyndon w w' o → t < want → SetChosen n k d want (chosen_by rule n k d want) p t false
   along-ended w' o b s h =
       let e = stops w' o b s in
       let f : a.set ≡ chosen_by rule n k d want = sym (greedy-none (may_join rule d) (want - length a.set) a.set) ∙ ap
@@ -261,7 +261,7 @@ module _ {rule : Rule} {n k d want : ℕ} (ask : Askable n k d want) {w : Walk} 
         }
 
   -- a step that moved leads to a word that can be offered
-  pub turned : {w' : Walk} {m : ℕ} → t < want → StepSays lyndon w w' (Moved m) → Turned rule n k d want w p q t w'
+  pub turned : {w' : Walk} {m : ℕ} → t < want → StepSays lyndon w w' (Ok (Moved m)) → Turned rule n k d want w p q t w'
   turned h s =
       let c = came s in
       record {

@@ -7,7 +7,6 @@ ghost use Rattle.set_pick_spec.specs.Says.{SetSays};
 ghost use Rattle.guard_spec.specs.Choice.{chosen_by};
 
 use guard_spec::Rule;
-use refusal::Checked;
 use set_pick_spec::Picked;
 use walk_spec::Outcome;
 
@@ -25,33 +24,30 @@ pub fn choose(rule: Rule, n: usize, k: usize, d: usize, wanted: usize) -> Picked
     tallies[0] = taken as u8;
     while taken < wanted {
         let stepped = set_words_inner::next_word(w);
-        let outcome = stepped.outcome;
-        let Outcome::Moved(_) = outcome else {
+        let Ok(Outcome::Moved(_)) = stepped.outcome else {
             return Picked {
-                places: places,
-                taken: taken,
+                places,
+                taken,
                 full: false,
-                answer: Checked::Good,
+                answer: Ok(()),
             };
         };
         w = stepped.walk;
-        let ring = w.ring;
-        let counts = w.counts;
         taken = set_places_inner::offer(
             rule,
             &mut places,
             &mut tallies,
             taken,
-            &ring[..n],
-            &counts,
+            &w.ring[..n],
+            &w.counts,
             k,
             d,
         );
     }
     Picked {
-        places: places,
-        taken: taken,
+        places,
+        taken,
         full: true,
-        answer: Checked::Good,
+        answer: Ok(()),
     }
 }

@@ -6,7 +6,7 @@
 --     one-good, pair-good    a ring, and two of them, pass the checks of the library
 --     place-length, place-room    the reading in a place, and that it and its tally lie inside
 --     part-asked             the part of the places that the code lends is a reading, and the part of the tallies has its counts
---     clear-start, clear-on, clear-ends, clear-all    the loop
+--     clear-ends, clear-all      the loop
 use Rattle.words.proofs.Plain.{ℕ, zero, suc, ◌+◌, ◌-◌, ◌*◌, ◌<◌, ◌≤◌, arith, ◌≡◌, refl, sym, ap, subst, ◌∙◌, Bool, true, false, List, [], ◌++◌, length, get_or}
 use Rattle.words.proofs.Plain.{take, drop, length-append, List·get_d-append, get_or-append-add}
 use Rattle.words.specs.{Search.all_below, Readings.Reading}
@@ -32,9 +32,6 @@ stock-length s = rw s.holds.places (laid-length s.set)
 pub record ClearFrom (d : ℕ) (p : List ℕ) (t : ℕ) (w : List ℕ) (i : ℕ) : Type 0 where
   pub some : i ≤ t
   pub far : (j : ℕ) → i ≤ j → j < t → far_from d (place_at (length w) p j) w ≡ true
-
-pub clear-start : {d : ℕ} {p : List ℕ} {t : ℕ} {w : List ℕ} → ClearFrom d p t w t
-clear-start = record { some = omega arith; far = λ j h l. absurd (omega arith) }
 
 -- all places were looked at
 pub clear-all : {d : ℕ} {p : List ℕ} {t : ℕ} {w : List ℕ} {i : ℕ} → ClearFrom d p t w i → i ≤ 0 → true ≡ clear_in (length w) d p t w
@@ -118,8 +115,3 @@ module _ {p q : List ℕ} {t : ℕ} {w c : List ℕ} {k : ℕ} (a : Comparable p
     pub clear-ends : r ≡ false → false ≡ clear_in (length w) d p t w
     clear-ends l =
         sym (refuted (clear_in (length w) d p t w) (λ h. clash (far_from d (place_at (length w) p j) w) (all-at t (λ j. far_from d (place_at (length w) p j) w) h j b) (sym told ∙ l)))
-
-    -- one that is not is left behind
-    pub clear-on : r ≡ true → {i : ℕ} → ClearFrom d p t w i → i ≤ j + 1 → ClearFrom d p t w j
-    clear-on l {i = i} f q =
-        record { some = omega arith; far = λ x h s. elim (tri x j) [ lt g ↦ absurd (omega arith) | eq g ↦ rw g (sym told ∙ l) | gt g ↦ f.far x (omega arith) s ] }

@@ -25,17 +25,14 @@ pub fn is_clear(
     ensures { result ≡ clear_in (length ring.now) d places.now taken ring.now }
 {
     let n = ring.len();
-    let mut left = taken;
-    while 0 < left {
-        let j = left - 1;
+    for j in (0..taken).rev() {
         let at = SECTORS * j;
-        let end = at + n;
         let first = SHADES * j;
-        let past = first + SHADES;
-        if !set_far_inner::is_far(&places[at..end], &tallies[first..past], ring, counts, k, d) {
+        let place = &places[at..at + n];
+        let tally = &tallies[first..first + SHADES];
+        if !set_far_inner::is_far(place, tally, ring, counts, k, d) {
             return false;
         }
-        left = j;
     }
     true
 }

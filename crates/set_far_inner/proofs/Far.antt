@@ -1,14 +1,14 @@
 -- Whether two readings are at least d apart.
 --     surplus-more, counts-sixteen     one shade more, and there are 16
 --     far-counts                       the shade counts tell
---     far-yes, far-no, far-never       they do not, and the library tells; it does not refuse readings that pass its checks
-use Rattle.words.proofs.Plain.{ℕ, suc, ◌+◌, ◌-◌, ◌*◌, ◌≤◌, arith, ◌≡◌, refl, true, false, List, ltb, length, le-ltb}
+--     far-told                         they do not, and the library tells
+use Rattle.std.specs.{Prelude.Result, Prelude.Ok, Prelude.Err, Result.result_unwrap_or}
+use Rattle.words.proofs.Plain.{ℕ, suc, ◌+◌, ◌-◌, ◌*◌, ◌≤◌, arith, ◌≡◌, refl, Bool, true, not, List, ltb, length, le-ltb}
 use Rattle.words.proofs.{Search.length-tab, Search.get_d-tab, Sequence.sec}
 use Rattle.rings.specs.{Alike.apart, Counts.occurs, Counts.counts_of}
 use Rattle.ring_home_laws.proofs.Counts.{surplus, surplus-cong, surplus-apart}
 use Rattle.refusal.specs.{declared.Refusal.Refusal, Order.Passed, Calls.two_readings}
 use Rattle.refusal.proofs.Unique.{never_both}
-use Rattle.home_spec.specs.declared.Told.TheVariants.{Yes, No, Refused}
 use Rattle.home_spec.specs.Says.{ToldSays}
 use Rattle.set_spec.specs.Greedy.{far_from}
 
@@ -30,15 +30,9 @@ far-counts d v w a b l p q x e h =
     let s = surplus-cong 16 (sec a) (sec b) (λ i. occurs i v) (λ i. occurs i w) (λ i m. rw p (get_d-tab 16 (λ j. occurs j v) i 0 m)) (λ i m. rw q (get_d-tab 16 (λ j. occurs j w) i 0 m)) in
     rw (le-ltb (apart v w) d (omega (arith, s, surplus-apart 16 v w l))) refl
 
--- they do not: what the library tells
-module _ (d k : ℕ) (v w : List ℕ) (good : Passed (two_readings v w k)) where
-  pub far-no : ToldSays (two_readings v w k) (ltb (apart v w) d) Yes → false ≡ far_from d v w
-  unfolding far_from
-  far-no s = rw s.1 refl
-
-  pub far-yes : ToldSays (two_readings v w k) (ltb (apart v w) d) No → true ≡ far_from d v w
-  unfolding far_from
-  far-yes s = rw s.1 refl
-
-  pub far-never : (r : Refusal) → ToldSays (two_readings v w k) (ltb (apart v w) d) (Refused r) → ⊥
-  far-never r s = never_both (two_readings v w k) r s good
+-- they do not: what the library tells, which does not refuse readings that pass its checks
+pub far-told : (d k : ℕ) (v w : List ℕ) (r : Result Bool Refusal) → Passed (two_readings v w k) → ToldSays (two_readings v w k) (ltb (apart v w) d) r →
+    not (result_unwrap_or r true) ≡ far_from d v w
+unfolding far_from
+far-told d k v w (Ok b) p s = rw s.1 refl
+far-told d k v w (Err r) p s = absurd (never_both (two_readings v w k) r s p)

@@ -10,28 +10,14 @@ ghost use Rattle.refusal.specs.Order.{Passed};
 ghost use Rattle.refusal.specs.Calls.{two_readings};
 ghost use Rattle.set_spec.specs.Greedy.{far_from};
 
-use home::Told;
-
-// By how much x is above y.
-fn above(x: u8, y: u8) -> usize
-    ensures { result ≡ x - y }
-{
-    if x <= y {
-        return 0;
-    }
-    (x - y) as usize
-}
-
 // How many more the first counts have of each shade than the second, summed over the 16 shades.
 fn surplus_of(a: &[u8], b: &[u8]) -> usize
     requires { (length a.now ≡ 16) × (length b.now ≡ 16) }
     ensures { result ≡ surplus 16 (sec a.now) (sec b.now) }
 {
     let mut more = 0;
-    let mut s = 0;
-    while s < 16 {
-        more += above(a[s], b[s]);
-        s += 1;
+    for (&x, &y) in a.iter().zip(b) {
+        more += usize::from(x.saturating_sub(y));
     }
     more
 }
@@ -43,12 +29,5 @@ pub fn is_far(a: &[u8], ca: &[u8], b: &[u8], cb: &[u8], k: usize, d: usize) -> b
     requires cb_value { cb.now ≡ counts_of 16 b.now }
     ensures { result ≡ far_from d a.now b.now }
 {
-    if d <= surplus_of(ca, cb) {
-        return true;
-    }
-    match home::nearer(a, b, k, d) {
-        Told::Yes => false,
-        Told::No => true,
-        Told::Refused(_) => false,
-    }
+    d <= surplus_of(ca, cb) || !home::nearer(a, b, k, d).unwrap_or(true)
 }

@@ -2,11 +2,10 @@
 --     end-to-end-more, ring-room        one ring more, and the room for it
 --     Laid n p t out j                  the first j of t rings stand at the beginning of the output
 --     Turn n p t out j                  and there is one more, for which there is room
---     laid-start, laid_on, laid-all     from none on to all of them
+--     laid-start, laid_on               from none on, one ring more
 use Rattle.words.proofs.Plain.{ℕ, suc, ◌+◌, ◌-◌, ◌*◌, ◌<◌, ◌≤◌, arith, ◌≡◌, refl, sym, ap, ◌∙◌, List, [], ◌∷◌, ◌++◌, append-nil, append_assoc, length, take}
-use Rattle.words.proofs.Plain.{drop, length-append, length-drop, length-take-le, take_at, take_all}
+use Rattle.words.proofs.Plain.{drop, length-append, length-drop, length-take-le, take_at}
 use native.Mathlib.Nat.{mul-suc, mul-le-mul_left}
-use Rattle.word_copy_laws.proofs.Copy.{copied}
 use Rattle.set_spec.specs.Places.{place_at, set_in}
 use Rattle.set_layout_spec.specs.Layout.{end_to_end}
 
@@ -39,12 +38,9 @@ pub record Turn (n : ℕ) (p : List ℕ) (t : ℕ) (out : List ℕ) (j : ℕ) : 
 
 -- one ring more, copied over its part
 module _ {n : ℕ} {p : List ℕ} {t : ℕ} {out : List ℕ} {j : ℕ} (turn : Turn n p t out j) where
-  -- the ring, and the part of the output that it goes to
+  -- the ring, and what stands behind the part of the output that it goes to
   abbrev v : List ℕ
   v = take (24 * j + n - 24 * j) (drop (24 * j) p)
-
-  abbrev o : List ℕ
-  o = take (n * j + n - n * j) (drop (n * j) out)
 
   abbrev rest : List ℕ
   rest = drop (n * j + n - n * j) (drop (n * j) out)
@@ -52,19 +48,15 @@ module _ {n : ℕ} {p : List ℕ} {t : ℕ} {out : List ℕ} {j : ℕ} (turn : T
   long : length v ≡ n
   long = length-take-le (24 * j + n - 24 * j) (drop (24 * j) p) (omega (arith, turn.fits, length-drop (24 * j) p)) ∙ omega arith
 
-  wide : length o ≡ n
-  wide = length-take-le (n * j + n - n * j) (drop (n * j) out) (omega (arith, turn.room, length-drop (n * j) out)) ∙ omega arith
-
   v-is : v ≡ place_at n p j
   v-is = let s : 24 * j + n - 24 * j ≡ n = omega arith in rw s refl
 
   front : length (take (n * j) out) ≡ n * j
   front = length-take-le (n * j) out (omega (arith, turn.room))
 
-  pub laid_on : {l : List ℕ} → l ≡ take (length v) v ++ drop (length v) o → Laid n p t (take (n * j) out ++ (l ++ rest)) (j + 1)
+  pub laid_on : {l : List ℕ} → l ≡ v → Laid n p t (take (n * j) out ++ (l ++ rest)) (j + 1)
   unfolding set_in
-  laid_on {l = l} q =
-      let is : l ≡ v = copied v o l q (wide ∙ sym long) in
+  laid_on {l = l} is =
       let more : n * (j + 1) ≡ n * j + n = omega (arith, mul-suc n j) in
       let one : j + 1 ≡ suc j = omega arith in
       let filled : length (take (n * j) out ++ l) ≡ n * j + n = length-append (take (n * j) out) l ∙ omega (arith, front, ap length is, long) in
@@ -87,9 +79,3 @@ module _ {n : ℕ} {p : List ℕ} {t : ℕ} {out : List ℕ} {j : ℕ} (turn : T
             ∙ ap (λ (x : List ℕ). x ++ l) turn.at.laid ∙ ap (λ (x : List ℕ). end_to_end (set_in n p j) ++ x) (is ∙ v-is)
             ∙ sym (rw one (end-to-end-more (set_in n p j) (place_at n p j))));
       }
-
--- all of them
-pub laid-all : {n : ℕ} {p : List ℕ} {t : ℕ} {out : List ℕ} {j : ℕ} → Laid n p t out j → t ≤ j → out ≡ end_to_end (set_in n p t)
-laid-all {n = n} {t = t} {out = out} {j = j} a h =
-    let e : j ≡ t = omega (arith, a.some) in
-    sym (take_all (n * t) out (omega (arith, a.long))) ∙ rw e at a.laid

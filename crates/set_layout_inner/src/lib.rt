@@ -14,13 +14,9 @@ pub fn write_rings(places: &[u8], n: usize, taken: usize, out: &mut [u8])
     requires { (length places.now ≡ 768) × (n ≤ 24) × (taken ≤ 32) × (length out.old ≡ n * taken) }
     ensures { out.new ≡ end_to_end (set_in n places.now taken) }
 {
-    let mut j = 0;
-    while j < taken {
+    for j in 0..taken {
         let from = SECTORS * j;
-        let past = from + n;
         let at = n * j;
-        let end = at + n;
-        byte_moves_inner::copy(&places[from..past], &mut out[at..end]);
-        j += 1;
+        out[at..at + n].copy_from_slice(&places[from..from + n]);
     }
 }

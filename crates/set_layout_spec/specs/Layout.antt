@@ -3,10 +3,9 @@
 --     layout_order n t m           the checks: 1 where n is not 1 to 24, 13 where more than 32 are taken, 4 where the output has not exactly n sectors for each ring taken
 --     LayoutSays n p t b r c      what the answer r promises, where t of the places p are taken, and the output held b before and holds c after
 -- That no two answers fit: proofs/Unique.
-use Rattle.std.specs.Prelude.{ℕ, ◌*◌, ◌≤◌, ◌≡◌, refl, List, [], ◌∷◌, ◌++◌, length}
+use Rattle.std.specs.Prelude.{ℕ, ◌*◌, ◌≤◌, ◌≡◌, refl, List, [], ◌∷◌, ◌++◌, length, Result, Ok, Err}
+use Rattle.refusal.specs.declared.Refusal.{Refusal}
 use Rattle.refusal.specs.declared.Refusal.TheVariants.{Length, Set, Room}
-use Rattle.refusal.specs.declared.Checked.{Checked}
-use Rattle.refusal.specs.declared.Checked.TheVariants.{Good, Refused}
 use Rattle.refusal.specs.Order.{Checks, fact, ◌▸◌, Passed, Given, numbered}
 use Rattle.set_spec.specs.Places.{set_in}
 
@@ -22,6 +21,6 @@ pub layout-numbers : (n t m : ℕ) → numbered (layout_order n t m) ≡ (1 ∷ 
 layout-numbers n t m = refl
 
 -- a refusal writes nothing
-abbrev pub LayoutSays : ℕ → List ℕ → ℕ → List ℕ → Checked → List ℕ → Type 0
-LayoutSays n p t b Good c = Passed (layout_order n t (length b)) × (c ≡ end_to_end (set_in n p t))
-LayoutSays n p t b (Refused r) c = Given (layout_order n t (length b)) r × (c ≡ b)
+abbrev pub LayoutSays : ℕ → List ℕ → ℕ → List ℕ → Result Unit Refusal → List ℕ → Type 0
+LayoutSays n p t b (Ok _) c = Passed (layout_order n t (length b)) × (c ≡ end_to_end (set_in n p t))
+LayoutSays n p t b (Err r) c = Given (layout_order n t (length b)) r × (c ≡ b)

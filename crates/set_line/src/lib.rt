@@ -4,9 +4,6 @@
 
 ghost use Rattle.set_line_spec.specs.Line.{SpellSays, FourSays, SecondSpace};
 
-use line::Parsed;
-pub use set_line_spec::Spelt;
-
 // The second space, or the length where there are not two.
 fn second_space(s: &[u8]) -> usize
     ensures { SecondSpace s.now result }
@@ -21,32 +18,25 @@ fn second_space(s: &[u8]) -> usize
 }
 
 // The line without its newline: two numbers before the second space and two behind it.
-fn parse_four(s: &[u8]) -> Spelt
+fn parse_four(s: &[u8]) -> Option<(usize, usize, usize, usize)>
     ensures { FourSays s.now result }
 {
     let at = second_space(s);
     if s.len() <= at {
-        return Spelt::Malformed;
+        return None;
     }
-    match line::parse_fields(&s[..at]) {
-        Parsed::Line => Spelt::Malformed,
-        Parsed::Pair(n, k) => match line::parse_fields(&s[at + 1..]) {
-            Parsed::Line => Spelt::Malformed,
-            Parsed::Pair(d, wanted) => Spelt::Numbers(n, k, d, wanted),
-        },
-    }
+    let (n, k) = line::parse_fields(&s[..at])?;
+    let (d, wanted) = line::parse_fields(&s[at + 1..])?;
+    Some((n, k, d, wanted))
 }
 
 // The whole line, the newline optional.
-pub fn parse_set(s: &[u8]) -> Spelt
+pub fn parse_set(s: &[u8]) -> Option<(usize, usize, usize, usize)>
     ensures { SpellSays s.now result }
 {
-    let m = s.len();
-    if m < 1 {
-        return Spelt::Malformed;
-    }
-    if s[m - 1] == b'\n' {
-        return parse_four(&s[..m - 1]);
+    let (&last, front) = s.split_last()?;
+    if last == b'\n' {
+        return parse_four(front);
     }
     parse_four(s)
 }

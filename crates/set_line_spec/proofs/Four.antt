@@ -3,21 +3,20 @@
 --     second-here, second_at     there is a space at the second space; of four numbers it stands behind the first two
 --     four-at, four-join         so two numbers stand before it and two behind it, and the other way round
 --     no-newline-four            no character of the four numbers is a newline
---     ended-four, bare-four      what the four numbers say, the line says
+--     ended-four, bare-four      what the four numbers say, the line says; split-four by the newline and what stands before it
 --     set-line-some              a line has characters
 --     one-set-line               a line spells at most four numbers
 --     set-line-short             a line has at most 16 characters
 --     one-spelt                  no line has two answers
-use Rattle.words.proofs.Plain.{ℕ, suc, ◌+◌, ◌-◌, ◌<◌, ◌≤◌, add-one, arith, dec_lt, ◌≡◌, refl, sym, ap, ◌∙◌, inl, inr, ⊎_elim, List, ◌∷◌, ◌++◌, append_assoc, eqb}
+use Rattle.std.specs.Prelude.{Option, None, Some}
+use Rattle.words.proofs.Plain.{ℕ, suc, ◌+◌, ◌-◌, ◌<◌, ◌≤◌, add-one, arith, dec_lt, ◌≡◌, refl, sym, ap, ◌∙◌, inl, inr, ⊎_elim, List, [], ◌∷◌, ◌++◌, append_assoc, eqb}
 use Rattle.words.proofs.Plain.{length, get_or, take, drop, length-append, length-drop, List·get_d-append, take-append_seam, drop-append-add, get_or-append_seam}
-use Rattle.words.proofs.Plain.{get_or-append-add, get_or-drop, split_at, take_all, eqb-true, eqb-false}
+use Rattle.words.proofs.Plain.{get_or-append-add, get_or-drop, split_at, take_at, take_all, eqb-true, eqb-false}
 use Rattle.words.proofs.Split.{lt, eq, gt, tri, passes, fails, test}
 use Rattle.text_spec.specs.Decimal.{decimal}
 use Rattle.text_spec.proofs.Digits.{decimal-digits, length-decimal}
 use Rattle.line_spec.specs.Line.{fields, SpaceAt}
 use Rattle.line_spec.proofs.Lines.{space-one, fields-one, length_fields, no-newline, text-bare, text-ended, text-newline}
-use Rattle.set_line_spec.specs.declared.Spelt.{Spelt}
-use Rattle.set_line_spec.specs.declared.Spelt.TheVariants.{Numbers, Malformed}
 use Rattle.set_line_spec.specs.Line.{four_fields, SpellsSet, SpellSays, FourSays, SecondSpace}
 
 -- ---- the second space
@@ -114,13 +113,21 @@ module _ (s : List ℕ) (n k d want : ℕ) (p : SpellsSet s n k d want) where
   ended l z = text-ended s (four_fields n k d want) (no-newline-four n k d want) l z p.text
 
 -- what the four numbers say, the line says
-pub ended-four : (s : List ℕ) (p : Spelt) → 0 < length s → get_or s (length s - 1) 0 ≡ 10 → FourSays (take (length s - 1) s) p → SpellSays s p
-ended-four s (Numbers n k d want) l z f = record { short = f.0; text = inr (text-newline s (four_fields n k d want) l z f.1) }
-ended-four s Malformed l z f = λ n k d want p. f n k d want p.short (ended s n k d want p l z)
+pub ended-four : (s : List ℕ) (p : Option (ℕ × ℕ × ℕ × ℕ)) → 0 < length s → get_or s (length s - 1) 0 ≡ 10 → FourSays (take (length s - 1) s) p → SpellSays s p
+ended-four s (Some (n, k, d, want)) l z f = record { short = f.0; text = inr (text-newline s (four_fields n k d want) l z f.1) }
+ended-four s None l z f = λ n k d want p. f n k d want p.short (ended s n k d want p l z)
 
-pub bare-four : (s : List ℕ) (p : Spelt) → (get_or s (length s - 1) 0 ≡ 10 → ⊥) → FourSays s p → SpellSays s p
-bare-four s (Numbers n k d want) z f = record { short = f.0; text = inl f.1 }
-bare-four s Malformed z f = λ n k d want p. f n k d want p.short (bare s n k d want p z)
+pub bare-four : (s : List ℕ) (p : Option (ℕ × ℕ × ℕ × ℕ)) → (get_or s (length s - 1) 0 ≡ 10 → ⊥) → FourSays s p → SpellSays s p
+bare-four s (Some (n, k, d, want)) z f = record { short = f.0; text = inl f.1 }
+bare-four s None z f = λ n k d want p. f n k d want p.short (bare s n k d want p z)
+
+-- so by the last character, a newline, and what stands before it
+pub split-four : (s t : List ℕ) (a : ℕ) (p : Option (ℕ × ℕ × ℕ × ℕ)) → s ≡ t ++ (a ∷ []) → a ≡ 10 → FourSays t p → SpellSays s p
+split-four s t a p e z f =
+    let n : length s - 1 ≡ length t = rw e (simp length-append (omega arith)) in
+    let h : take (length s - 1) s ≡ t = rw n (ap (take (length t)) e ∙ take_at t (a ∷ []) (length t) refl) in
+    let l : get_or s (length s - 1) 0 ≡ a = rw n (ap (λ (x : List ℕ). get_or x (length t) 0) e ∙ get_or-append_seam t a [] 0) in
+    ended-four s p (omega (arith, simp length-append at (ap length e))) (l ∙ z) (rw h f)
 
 -- ---- one answer
 
@@ -191,8 +198,8 @@ one-set-line s n k d want n' k' d' want' p q =
     ]
 
 -- no line has two answers
-pub one-spelt : (s : List ℕ) (p q : Spelt) → SpellSays s p → SpellSays s q → p ≡ q
-one-spelt s (Numbers n k d want) (Numbers n' k' d' want') p q = let e = one-set-line s n k d want n' k' d' want' p q in rw (e.n-same, e.k-same, e.d-same, e.want-same)
-one-spelt s (Numbers n k d want) Malformed p q = absurd (q n k d want p)
-one-spelt s Malformed (Numbers n k d want) p q = absurd (p n k d want q)
-one-spelt s Malformed Malformed p q = refl
+pub one-spelt : (s : List ℕ) (p q : Option (ℕ × ℕ × ℕ × ℕ)) → SpellSays s p → SpellSays s q → p ≡ q
+one-spelt s (Some (n, k, d, want)) (Some (n', k', d', want')) p q = let e = one-set-line s n k d want n' k' d' want' p q in rw (e.n-same, e.k-same, e.d-same, e.want-same)
+one-spelt s (Some (n, k, d, want)) None p q = absurd (q n k d want p)
+one-spelt s None (Some (n, k, d, want)) p q = absurd (p n k d want q)
+one-spelt s None None p q = refl

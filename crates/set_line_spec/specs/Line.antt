@@ -4,9 +4,7 @@
 --     SpellsSet s n k d want     s is that line, with or without a newline at its end, and each number has at most three digits
 --     SpellSays s p              what the answer p to the line s promises
 -- and what the parts of the parser promise: FourSays, SecondSpace. That no line has two answers, and none more than 16 characters: proofs/Four.
-use Rattle.std.specs.Prelude.{ℕ, ◌+◌, ◌<◌, ◌≤◌, ◌≡◌, ◌⊎◌, List, [], ◌∷◌, ◌++◌, length, drop}
-use Rattle.set_line_spec.specs.declared.Spelt.{Spelt}
-use Rattle.set_line_spec.specs.declared.Spelt.TheVariants.{Numbers, Malformed}
+use Rattle.std.specs.Prelude.{ℕ, ◌+◌, ◌<◌, ◌≤◌, ◌≡◌, ◌⊎◌, List, [], ◌∷◌, ◌++◌, length, drop, Option, None, Some}
 use Rattle.text_spec.specs.Ascii.{space, newline}
 use Rattle.line_spec.specs.Line.{fields, SpaceAt}
 
@@ -26,16 +24,16 @@ pub record SpellsSet (s : List ℕ) (n k d want : ℕ) : Type 0 where
   pub short : Short n k d want
   pub text : (s ≡ four_fields n k d want) ⊎ (s ≡ four_fields n k d want ++ (newline ∷ []))
 
-abbrev pub SpellSays : List ℕ → Spelt → Type 0
-SpellSays s (Numbers n k d want) = SpellsSet s n k d want
-SpellSays s Malformed = (n k d want : ℕ) → SpellsSet s n k d want → ⊥
+abbrev pub SpellSays : List ℕ → Option (ℕ × ℕ × ℕ × ℕ) → Type 0
+SpellSays s (Some (n, k, d, want)) = SpellsSet s n k d want
+SpellSays s None = (n k d want : ℕ) → SpellsSet s n k d want → ⊥
 
 -- ---- the parser's parts
 
 -- the line without its newline
-abbrev pub FourSays : List ℕ → Spelt → Type 0
-FourSays t (Numbers n k d want) = Short n k d want × (t ≡ four_fields n k d want)
-FourSays t Malformed = (n k d want : ℕ) → Short n k d want → t ≡ four_fields n k d want → ⊥
+abbrev pub FourSays : List ℕ → Option (ℕ × ℕ × ℕ × ℕ) → Type 0
+FourSays t (Some (n, k, d, want)) = Short n k d want × (t ≡ four_fields n k d want)
+FourSays t None = (n k d want : ℕ) → Short n k d want → t ≡ four_fields n k d want → ⊥
 
 -- r is the place of the second space of t, or the length of t where there are not two
 pub record SecondSpace (t : List ℕ) (r : ℕ) : Type 0 where

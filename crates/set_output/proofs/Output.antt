@@ -3,7 +3,8 @@
 --     line-malformed, line-numbers      the output for a malformed line, and for one of numbers
 --     numbers-refused, numbers-chosen   the output for numbers that are refused, and for others
 --     places-fit                        the places of an answer can be printed
-use Rattle.words.proofs.Plain.{ℕ, ◌+◌, ◌^◌, ◌<◌, ◌≤◌, arith, ◌≡◌, refl, ap, ◌∙◌, Bool, List, ◌++◌, eqb, length, length-append}
+use Rattle.std.specs.Prelude.{None, Some}
+use Rattle.words.proofs.Plain.{ℕ, ◌^◌, ◌<◌, ◌≤◌, arith, ◌≡◌, refl, ap, ◌∙◌, Bool, List, ◌++◌, eqb, length, length-append}
 use Rattle.refusal.specs.{declared.Refusal.Refusal, declared.Refusal.TheVariants.Line, Numbers.number_of, Order.Given}
 use Rattle.text_spec.specs.{Text.refused_line, Put.Placed}
 use Rattle.text_spec.proofs.{Digits.length-decimal, Put.length-refused}
@@ -13,7 +14,7 @@ use Rattle.set_laws.proofs.Places.{laid-length}
 use Rattle.set_pick_spec.specs.{Order.set_order, Says.SetChosen}
 use Rattle.set_pick_spec.proofs.Worth.{rule-most, rule-set}
 use Rattle.set_text_spec.specs.Text.{ring_texts, taken_text, set_text}
-use Rattle.set_line_spec.specs.{declared.Spelt.TheVariants.Numbers, declared.Spelt.TheVariants.Malformed, Line.SpellSays}
+use Rattle.set_line_spec.specs.Line.{SpellSays}
 use Rattle.set_text_spec.specs.Prints.{set_room, refused, chosen, malformed, spelt, PrintedBy, whole}
 use Rattle.set_text_spec.proofs.Lengths.{length-rings, length_taken}
 use Rattle.set_text_inner.specs.Says.{Rings}
@@ -28,10 +29,10 @@ pub refused_says : (r : Refusal) (x : ℕ) → x ≡ number_of r → x < 10 ^ 20
 refused_says r x e h b y b' q = record { fits = rw e at (refused-room x h); placed = rw e at q }
 
 -- a malformed line, and a line of numbers
-pub line-malformed : (rule : Rule) (s b : List ℕ) (y : ℕ) (b' : List ℕ) → set_room ≤ length b → SpellSays s Malformed → RefusedSetSays Line b y b' → PrintedBy rule s b y b'
+pub line-malformed : (rule : Rule) (s b : List ℕ) (y : ℕ) (b' : List ℕ) → set_room ≤ length b → SpellSays s None → RefusedSetSays Line b y b' → PrintedBy rule s b y b'
 line-malformed rule s b y b' h p q = whole h (refused_line (number_of Line)) (malformed p refl) q.fits q.placed
 
-pub line-numbers : (rule : Rule) (s b : List ℕ) (y : ℕ) (b' : List ℕ) (n k d want : ℕ) → set_room ≤ length b → SpellSays s (Numbers n k d want) →
+pub line-numbers : (rule : Rule) (s b : List ℕ) (y : ℕ) (b' : List ℕ) (n k d want : ℕ) → set_room ≤ length b → SpellSays s (Some (n, k, d, want)) →
     SetNumbersSay rule n k d want b y b' → PrintedBy rule s b y b'
 line-numbers rule s b y b' n k d want h p q = whole h q.text (spelt n k d want p q.says) q.fits q.placed
 

@@ -7,8 +7,7 @@ ghost use Rattle.set_text_spec.specs.Prints.{set_room, Printed, PrintedBy};
 ghost use Rattle.set_output.specs.Says.{SetNumbersSay, RefusedSetSays};
 
 pub use guard_spec::Rule;
-use refusal::{Checked, Refusal};
-use set_line::Spelt;
+use refusal::Refusal;
 
 // No output is longer.
 const ROOM: usize = 818;
@@ -27,16 +26,9 @@ fn print_numbers(rule: Rule, n: usize, k: usize, d: usize, wanted: usize, buf: &
     ensures { SetNumbersSay rule n k d wanted buf.old result buf.new }
 {
     let picked = sets::pick_by(rule, n, k, d, wanted);
-    let answer = picked.answer;
-    match answer {
-        Checked::Refused(r) => print_refused(r, buf),
-        Checked::Good => set_text_inner::place_set(
-            buf,
-            &picked.places,
-            n,
-            picked.taken,
-            picked.full,
-        ),
+    match picked.answer {
+        Err(r) => print_refused(r, buf),
+        Ok(()) => { set_text_inner::place_set(buf, &picked.places, n, picked.taken, picked.full) }
     }
 }
 
@@ -48,8 +40,8 @@ pub fn print_by(rule: Rule, line: &[u8], buf: &mut [u8]) -> usize
         return 0;
     }
     match set_line::parse_set(line) {
-        Spelt::Malformed => print_refused(Refusal::Line, buf),
-        Spelt::Numbers(n, k, d, wanted) => print_numbers(rule, n, k, d, wanted, buf),
+        None => print_refused(Refusal::Line, buf),
+        Some((n, k, d, wanted)) => print_numbers(rule, n, k, d, wanted, buf),
     }
 }
 

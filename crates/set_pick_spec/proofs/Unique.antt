@@ -5,9 +5,9 @@
 --     one_set             whatever the set is to be, there is one answer, each of its 768 sectors included
 --     one-pick            so the call has one answer
 --     one-guarded         and the one for guarded sets
+use Rattle.std.specs.Prelude.{Result, Ok, Err}
 use Rattle.words.proofs.Plain.{ℕ, ◌≡◌, refl, sym, ap, ◌∙◌, Bool, List}
-use Rattle.refusal.specs.{declared.Refusal.Refusal, declared.Checked.Checked}
-use Rattle.refusal.specs.{declared.Checked.TheVariants.Good, declared.Checked.TheVariants.Refused, Order.Passed, Order.Given}
+use Rattle.refusal.specs.{declared.Refusal.Refusal, Order.Passed, Order.Given}
 use Rattle.refusal.proofs.Unique.{one-refusal, never_both}
 use Rattle.limits_spec.proofs.Unique.{listable-passed, passed-listable}
 use Rattle.set_spec.specs.Greedy.{picked}
@@ -28,11 +28,11 @@ module _ (n k d want : ℕ) where
   never : (r : Refusal) → Given (set_order n k d want) r → Askable n k d want → ⊥
   never r g q = never_both (set_order n k d want) r g (askable-passed q)
 
-  pub one-check : (v w : Checked) → SetCheckSays n k d want v → SetCheckSays n k d want w → v ≡ w
-  one-check Good Good p q = refl
-  one-check Good (Refused s) p q = absurd (never s q p)
-  one-check (Refused r) Good p q = absurd (never r p q)
-  one-check (Refused r) (Refused s) p q = ap Refused (one-refusal (set_order n k d want) r s p q)
+  pub one-check : (v w : Result Unit Refusal) → SetCheckSays n k d want v → SetCheckSays n k d want w → v ≡ w
+  one-check (Ok _) (Ok _) p q = refl
+  one-check (Ok _) (Err s) p q = absurd (never s q p)
+  one-check (Err r) (Ok _) p q = absurd (never r p q)
+  one-check (Err r) (Err s) p q = ap Err (one-refusal (set_order n k d want) r s p q)
 
 -- ---- the answer
 
@@ -40,12 +40,12 @@ same-pick : (a b : Picked) → a.places ≡ b.places → a.taken ≡ b.taken →
 same-pick a b p q r s = λ i. record { places = p i; taken = q i; full = r i; answer = s i }
 
 module _ (n k d want : ℕ) (ts : List (List ℕ)) where
-  fields : (p p' : List ℕ) (t t' : ℕ) (f f' : Bool) (v v' : Checked) → SetAnswers n k d want ts p t f v → SetAnswers n k d want ts p' t' f' v' → (p ≡ p') × (t ≡ t') × (f ≡ f') × (v ≡ v')
-  fields p p' t t' f f' Good Good a b = (a.places ∙ sym b.places, a.number ∙ sym b.number, a.full ∙ sym b.full, refl)
-  fields p p' t t' f f' Good (Refused s) a b = absurd (never n k d want s b.0 a.asked)
-  fields p p' t t' f f' (Refused r) Good a b = absurd (never n k d want r a.0 b.asked)
-  fields p p' t t' f f' (Refused r) (Refused s) a b =
-      (a.1.places ∙ sym b.1.places, a.1.number ∙ sym b.1.number, a.1.full ∙ sym b.1.full, ap Refused (one-refusal (set_order n k d want) r s a.0 b.0))
+  fields : (p p' : List ℕ) (t t' : ℕ) (f f' : Bool) (v v' : Result Unit Refusal) → SetAnswers n k d want ts p t f v → SetAnswers n k d want ts p' t' f' v' → (p ≡ p') × (t ≡ t') × (f ≡ f') × (v ≡ v')
+  fields p p' t t' f f' (Ok _) (Ok _) a b = (a.places ∙ sym b.places, a.number ∙ sym b.number, a.full ∙ sym b.full, refl)
+  fields p p' t t' f f' (Ok _) (Err s) a b = absurd (never n k d want s b.0 a.asked)
+  fields p p' t t' f f' (Err r) (Ok _) a b = absurd (never n k d want r a.0 b.asked)
+  fields p p' t t' f f' (Err r) (Err s) a b =
+      (a.1.places ∙ sym b.1.places, a.1.number ∙ sym b.1.number, a.1.full ∙ sym b.1.full, ap Err (one-refusal (set_order n k d want) r s a.0 b.0))
 
   -- whatever the set is to be, there is one answer
   pub one_set : (a b : Picked) → SetSays n k d want ts a → SetSays n k d want ts b → a ≡ b

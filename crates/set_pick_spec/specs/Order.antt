@@ -5,11 +5,10 @@
 --     set_order n k d want        the order; `set-numbers`: by its numbers, as the client says it
 --     SetCheckSays n k d want v     what the checks' answer v promises
 -- 1, 2 and 12 are those of `limits`, in its order. That no two answers fit: proofs/Unique.
-use Rattle.std.specs.Prelude.{ℕ, ◌≤◌, ◌≡◌, refl, [], ◌∷◌}
+use Rattle.std.specs.Prelude.{ℕ, ◌≤◌, ◌≡◌, refl, [], ◌∷◌, Result, Ok, Err}
+use Rattle.refusal.specs.declared.Refusal.{Refusal}
 use Rattle.refusal.specs.declared.Refusal.TheVariants.{Length, Set}
 use Rattle.refusal.specs.Order.{Checks, fact, ◌▸◌, Given, numbered}
-use Rattle.refusal.specs.declared.Checked.{Checked}
-use Rattle.refusal.specs.declared.Checked.TheVariants.{Good, Refused}
 use Rattle.limits_spec.specs.Limits.{most_listed, Listable, numbers_order}
 
 -- a ring of a set has at most 24 sectors
@@ -40,6 +39,6 @@ set_order n k d want = fact (n ≤ most_sectors) (Length 0) ▸ numbers_order mo
 pub set-numbers : (n k d want : ℕ) → numbered (set_order n k d want) ≡ (1 ∷ 1 ∷ 2 ∷ 12 ∷ 13 ∷ [])
 set-numbers n k d want = refl
 
-abbrev pub SetCheckSays : ℕ → ℕ → ℕ → ℕ → Checked → Type 0
-SetCheckSays n k d want Good = Askable n k d want
-SetCheckSays n k d want (Refused r) = Given (set_order n k d want) r
+abbrev pub SetCheckSays : ℕ → ℕ → ℕ → ℕ → Result Unit Refusal → Type 0
+SetCheckSays n k d want (Ok _) = Askable n k d want
+SetCheckSays n k d want (Err r) = Given (set_order n k d want) r

@@ -6,9 +6,8 @@
 --     Picks, PickSays n k d want r           and where it is that of 02, 'g'
 --     GuardChosen, GuardSays n k d want r    and where it is the guarded one
 -- That no two answers fit, and what the answer's set is worth: proofs/Unique, proofs/Worth.
-use Rattle.std.specs.Prelude.{ℕ, ◌≡◌, Bool, false, List, length, replicate, eqb}
-use Rattle.refusal.specs.declared.Checked.{Checked}
-use Rattle.refusal.specs.declared.Checked.TheVariants.{Good, Refused}
+use Rattle.std.specs.Prelude.{ℕ, ◌≡◌, Bool, false, List, length, replicate, eqb, Result, Ok, Err}
+use Rattle.refusal.specs.declared.Refusal.{Refusal}
 use Rattle.refusal.specs.Order.{Given}
 use Rattle.set_spec.specs.Greedy.{picked}
 use Rattle.set_spec.specs.Places.{laid}
@@ -29,9 +28,9 @@ pub record Nothing (p : List ℕ) (t : ℕ) (f : Bool) : Type 0 where
   pub number : t ≡ 0
   pub full : f ≡ false
 
-abbrev pub SetAnswers : ℕ → ℕ → ℕ → ℕ → List (List ℕ) → List ℕ → ℕ → Bool → Checked → Type 0
-SetAnswers n k d want ts p t f Good = SetChosen n k d want ts p t f
-SetAnswers n k d want ts p t f (Refused r) = Given (set_order n k d want) r × Nothing p t f
+abbrev pub SetAnswers : ℕ → ℕ → ℕ → ℕ → List (List ℕ) → List ℕ → ℕ → Bool → Result Unit Refusal → Type 0
+SetAnswers n k d want ts p t f (Ok _) = SetChosen n k d want ts p t f
+SetAnswers n k d want ts p t f (Err r) = Given (set_order n k d want) r × Nothing p t f
 
 abbrev pub SetSays : ℕ → ℕ → ℕ → ℕ → List (List ℕ) → Picked → Type 0
 SetSays n k d want ts r = SetAnswers n k d want ts r.places r.taken r.full r.answer
@@ -41,7 +40,7 @@ SetSays n k d want ts r = SetAnswers n k d want ts r.places r.taken r.full r.ans
 abbrev pub Chosen : ℕ → ℕ → ℕ → ℕ → List ℕ → ℕ → Bool → Type 0
 Chosen n k d want = SetChosen n k d want (picked n k d want)
 
-abbrev pub Picks : ℕ → ℕ → ℕ → ℕ → List ℕ → ℕ → Bool → Checked → Type 0
+abbrev pub Picks : ℕ → ℕ → ℕ → ℕ → List ℕ → ℕ → Bool → Result Unit Refusal → Type 0
 Picks n k d want = SetAnswers n k d want (picked n k d want)
 
 abbrev pub PickSays : ℕ → ℕ → ℕ → ℕ → Picked → Type 0

@@ -2,7 +2,7 @@
 
 #![tactic(auto)]
 
-use refusal::Checked;
+use refusal::Refusal;
 
 // The set in 32 places of 24 sectors, in the order taken and everything unused 0; how many were taken, and whether that is the wanted number. A refusal has
 // taken none, and is not full.
@@ -11,5 +11,5 @@ pub struct Picked {
     pub places: [u8; 768],
     pub taken: usize,
     pub full: bool,
-    pub answer: Checked,
+    pub answer: Result<(), Refusal>,
 }

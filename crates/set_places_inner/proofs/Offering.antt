@@ -4,7 +4,6 @@
 use Rattle.words.proofs.Plain.{ℕ, ◌+◌, ◌-◌, ◌*◌, ◌<◌, ◌≤◌, arith, ◌≡◌, refl, sym, ◌∙◌, Bool, true, false, List, ◌++◌, length, get_or, take, drop, length-drop}
 use Rattle.words.proofs.Plain.{ext_get_or, get_or-take, get_or-drop, length-take-le, drop-drop}
 use Rattle.words.proofs.Split.{lt, eq, gt, tri}
-use Rattle.word_copy_laws.proofs.Copy.{copied}
 use Rattle.set_far_inner.proofs.Far.{counts-sixteen}
 use Rattle.set_laws.proofs.Lists.{length_more, at_old, at_new}
 use Rattle.set_laws.proofs.Choice.{offered-yes, offered-no}
@@ -46,16 +45,12 @@ module _ (q c : List ℕ) (t : ℕ) (size : length q ≡ 512) (most : t < 32) (m
 
 -- ---- the offer
 
--- what is copied over its part of the places or of the tallies, which has its length
-abbrev pub Copied : List ℕ → List ℕ → ℕ → ℕ → List ℕ → Type 0
-Copied p w at end l = l ≡ take (length w) w ++ drop (length w) (take (end - at) (drop at p))
-
+-- what stands there with l in the part between two places
 abbrev pub laid_over : List ℕ → ℕ → ℕ → List ℕ → List ℕ
 laid_over p at end l = take at p ++ (l ++ drop (end - at) (drop at p))
 
-copied-over : (p w l : List ℕ) (at end : ℕ) → end ≡ at + length w → end ≤ length p → Copied p w at end l → laid_over p at end l ≡ over p at w
-copied-over p w l at end e b q =
-    let r : l ≡ w = copied w (take (end - at) (drop at p)) l q (length-take-le (end - at) (drop at p) (omega (arith, length-drop at p)) ∙ omega arith) in
+copied-over : (p w l : List ℕ) (at end : ℕ) → end ≡ at + length w → l ≡ w → laid_over p at end l ≡ over p at w
+copied-over p w l at end e r =
     let f : at + (end - at) ≡ at + length w = omega arith in
     rw (r, drop-drop (end - at) at p, f) refl
 
@@ -73,13 +68,13 @@ module _ {p q : List ℕ} {t : ℕ} {w c : List ℕ} {k : ℕ} (a : Comparable p
     sixteen : length c ≡ 16
     sixteen = (offer-room a most).2
 
-    pub offer-yes : x ≡ true → {l m : List ℕ} → Copied p w (24 * t) (24 * t + length w) l → Copied q c (16 * t) (16 * t + 16) m →
+    pub offer-yes : x ≡ true → {l m : List ℕ} → l ≡ w → m ≡ c →
         OfferSays rule k d p q t w (t + 1) (laid_over p (24 * t) (24 * t + length w) l) (laid_over q (16 * t) (16 * t + 16) m)
     offer-yes e {l = l} {m = m} f' g ts h =
         let joins = sym (may-in rule d w a.fit.short a.most h) ∙ sym f ∙ e in
-        rw (offered-yes (may_join rule d) ts w joins, copied-over q c m (16 * t) (16 * t + 16) (omega (arith, sixteen)) (offer-room a most).1 g)
+        rw (offered-yes (may_join rule d) ts w joins, copied-over q c m (16 * t) (16 * t + 16) (omega (arith, sixteen)) g)
         (record {
-          places = copied-over p w l (24 * t) (24 * t + length w) refl (offer-room a most).0 f' ∙ rw (h.places, h.number) (put-laid ts w (omega (arith, h.number)) a.fit.short);
+          places = copied-over p w l (24 * t) (24 * t + length w) refl f' ∙ rw (h.places, h.number) (put-laid ts w (omega (arith, h.number)) a.fit.short);
           number = omega (arith, h.number, length_more ts w);
           each = λ j b. elim (tri j (length ts)) [
             | lt l ↦ rw (at_old ts w j l) (h.each j l)

@@ -60,10 +60,8 @@ pub fn offer(
         return taken;
     }
     let at = SECTORS * taken;
-    let end = at + ring.len();
-    byte_moves_inner::copy(ring, &mut places[at..end]);
+    places[at..at + ring.len()].copy_from_slice(ring);
     let first = SHADES * taken;
-    let past = first + SHADES;
-    byte_moves_inner::copy(counts, &mut tallies[first..past]);
+    tallies[first..first + SHADES].copy_from_slice(counts);
     taken + 1
 }

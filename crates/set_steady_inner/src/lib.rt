@@ -7,16 +7,10 @@ ghost use Rattle.refusal.specs.Order.{Passed};
 ghost use Rattle.refusal.specs.Calls.{one_reading};
 ghost use Rattle.home_spec.specs.Turns.{steady};
 
-use home::Told;
-
 // Whether each turn of s but itself differs from it at d places at least.
 pub fn is_steady(s: &[u8], k: usize, d: usize) -> bool
     requires { Passed (one_reading s.now k) }
     ensures { result ≡ steady d s.now }
 {
-    match home::steady(s, k, d) {
-        Told::Yes => true,
-        Told::No => false,
-        Told::Refused(_) => false,
-    }
+    matches!(home::steady(s, k, d), Ok(true))
 }

@@ -28,12 +28,9 @@ fn place_rings(buf: &mut [u8], places: &[u8], n: usize, taken: usize) -> usize
     ensures { Placed buf.old 0 (ring_texts (set_in n places.now taken)) result buf.new }
 {
     let mut at = 0;
-    let mut j = 0;
-    while j < taken {
+    for j in 0..taken {
         let from = SECTORS * j;
-        let to = from + n;
-        at = place_ring(buf, at, &places[from..to]);
-        j += 1;
+        at = place_ring(buf, at, &places[from..from + n]);
     }
     at
 }

@@ -17,12 +17,7 @@ pub fn zero_taken(rule: Rule, n: usize) -> usize
 {
     match rule {
         Rule::Guarded => 0,
-        Rule::Plain => {
-            if n == 1 {
-                return 1;
-            }
-            0
-        }
+        Rule::Plain => usize::from(n == 1),
     }
 }
 

@@ -1,5 +1,3 @@
 -- A search with the counts and the reading that are left has the answer of the search with those that were given.
 --     Capping    what is above a capped reading, and the next ring above it
---     Writing    counting down to the last count, and writing the capped reading
 pub mod Capping
-pub mod Writing

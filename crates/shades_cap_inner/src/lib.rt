@@ -9,14 +9,10 @@ ghost use Rattle.shades_cap_inner.specs.Capped.{CountedTo, Cappable, Capped};
 pub fn counted_to(counts: &[usize]) -> usize
     ensures { CountedTo counts.now result }
 {
-    let mut j = counts.len();
-    while j != 0 {
-        if counts[j - 1] != 0 {
-            return j;
-        }
-        j -= 1;
-    }
-    j
+    counts
+        .iter()
+        .rposition(|&count| count != 0)
+        .map_or(0, |last| last + 1)
 }
 
 // The reading up to its first sector that is not below k, and from there on k - 1: a reading of k shades is above the one exactly where it is above the other.
@@ -27,10 +23,7 @@ pub fn cap(s: &[u8], k: usize) -> [u8; 64]
     let mut out = [0u8; 64];
     byte_moves_inner::copy(s, &mut out);
     let top = (k - 1) as u8;
-    let mut i = check_numbers_inner::first_bad(s, k);
-    while i < s.len() {
-        out[i] = top;
-        i += 1;
-    }
+    let from = check_numbers_inner::first_bad(s, k);
+    out[from..s.len()].fill(top);
     out
 }

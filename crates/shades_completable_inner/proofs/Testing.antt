@@ -1,40 +1,23 @@
 -- The test by the pool, turn by turn: the laws of `shades_laws`, Groups, for arrays of 80.
---     least_start, least_more, least-end                     the least letter that is left
---     Counting, count-start, count-more, count-end           the letters' numbers
+--     Counting, count-start, count-more, count-le           the letters' numbers
 --     test-none, test_low, test-high, test-letter            what the least letter alone decides
 --     Testing al rem first q a f e num pre next              the arrays hold the groups of a pool for al and the letters that rem counts
 --     test-start, test-stuck, test-dropped, test-pushed, test-chained, test-under, test-over, test_on, test-longer      the loop
 --     Bounds, test-bounds                                    what its numbers are bounded by
-use Rattle.words.proofs.Plain.{ℕ, zero, suc, ◌+◌, ◌-◌, ◌<◌, ◌≤◌, add-one, arith, ◌≡◌, refl, sym, ap, ◌∙◌, subst, Bool, true, false, true≢false, List, [], ◌∷◌}
+use Rattle.words.proofs.Plain.{ℕ, zero, suc, ◌+◌, ◌-◌, ◌<◌, ◌≤◌, arith, ◌≡◌, refl, sym, ap, ◌∙◌, subst, Bool, true, false, true≢false, List, [], ◌∷◌}
 use Rattle.words.proofs.Plain.{◌++◌, eqb, length, get_or, take, drop, set, replicate, length-set, length-replicate, length-drop, take-append-drop, get_or-set_same}
 use Rattle.words.proofs.Plain.{get_or-set_other, length-take-le, take-suc, eq-eqb, ne_eqb}
 use Rattle.words.specs.{Order.before, Sum.sum_of}
 use Rattle.words.proofs.Split.{lt, eq, gt, tri}
 use Rattle.words.proofs.{Sequence.sec, Lex.before-gt, Lex.before-irrefl}
-use Rattle.rings.specs.{Necklace.necklace, Necklace.lyndon, Counts.occurs}
+use Rattle.rings.specs.{Necklace.necklace, Counts.occurs}
 use Rattle.ring_laws.proofs.{Run.Lyn, Lyndon.of-lyndon, Lyndon.lyndon-pos}
 use Rattle.shades_laws.proofs.Under.{◌≪◌, here, Short, opening, before-place}
 use Rattle.shades_laws.proofs.Made.{Completed, made_none}
 use Rattle.shades_laws.proofs.Letters.{letters, occurs-letters, length-letters}
 use Rattle.shades_laws.proofs.Groups.{Grouped, spread, group-start, group-dropped, group-few, group-pushed, group-taken, group-stuck, group-low, group-yes}
 use Rattle.shades_pool_inner.specs.Chain.{Spelled, Chained, Ranked, Compares}
-use Rattle.shades_completable_inner.specs.Completion.{Completing, Hopeless, Decides, Least, Numbered, Opened}
-
--- ---- the least letter that is left
-
--- no letter below b is left
-pub record Seeking (rem : List ℕ) (b : ℕ) : Type 0 where
-  pub within : b ≤ length rem
-  pub none : (x : ℕ) → x < b → get_or rem x 0 ≡ 0
-
-pub least_start : (rem : List ℕ) → Seeking rem 0
-least_start rem = record { within = omega arith; none = λ x h. absurd (omega arith) }
-
-pub least_more : (rem : List ℕ) (b : ℕ) → Seeking rem b → b < length rem → get_or rem b 0 ≡ 0 → Seeking rem (b + 1)
-least_more rem b p h z = record { within = omega arith; none = λ x k. elim (tri x b) [ lt e ↦ p.none x e | eq e ↦ rw e z | gt e ↦ absurd (omega arith) ] }
-
-pub least-end : (rem : List ℕ) (b : ℕ) → Seeking rem b → (b < length rem → get_or rem b 0 ≡ 0 → ⊥) → Least rem b
-least-end rem b p h = record { within = p.within; none = p.none; some = h }
+use Rattle.shades_completable_inner.specs.Completion.{Completing, Decides, Least, Numbered, Opened}
 
 -- ---- the letters' numbers
 

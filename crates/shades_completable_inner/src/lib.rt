@@ -11,14 +11,7 @@ ghost use Rattle.shades_completable_inner.specs.Completion.{Completing, Decides,
 fn least_left(rem: &[usize]) -> usize
     ensures { Least rem.now result }
 {
-    let mut b: usize = 0;
-    while b < rem.len() {
-        if rem[b] != 0 {
-            return b;
-        }
-        b += 1;
-    }
-    b
+    rem.iter().position(|&left| left != 0).unwrap_or(rem.len())
 }
 
 // How many there are of each letter: of letter b at place 64 + b.
@@ -27,10 +20,8 @@ fn numbers(rem: &[usize]) -> [u8; 80]
     ensures { Numbered rem.now result }
 {
     let mut num = [0u8; 80];
-    let mut b: usize = 0;
-    while b < rem.len() {
-        num[64 + b] = rem[b] as u8;
-        b += 1;
+    for (b, &left) in rem.iter().enumerate() {
+        num[64 + b] = left as u8;
     }
     num
 }

@@ -12,11 +12,7 @@ fn put(w: &mut [u8], i: usize, e: usize, x: u8)
     requires { (i ≤ e) × (e ≤ length w.old) }
     ensures { take e w.new ≡ take i w.old ++ replicate (e - i) x }
 {
-    let mut j = i;
-    while j < e {
-        w[j] = x;
-        j += 1;
-    }
+    w[i..e].fill(x);
 }
 
 // The letters of the counts in increasing order, at the front of w; how many they are.
@@ -24,13 +20,11 @@ pub fn fill(w: &mut [u8], counts: &[usize]) -> usize
     requires { Fillable w.old counts.now }
     ensures { (result ≡ sum_of counts.now) × (take result w.new ≡ letters counts.now) }
 {
-    let mut l: usize = 0;
-    let mut b: usize = 0;
-    while b < counts.len() {
-        let e = l + counts[b];
+    let mut l = 0;
+    for (b, &count) in counts.iter().enumerate() {
+        let e = l + count;
         put(w, l, e, b as u8);
         l = e;
-        b += 1;
     }
     l
 }

@@ -3,7 +3,7 @@
 --     parts-under, parts-over, parts_whole       a beginning of al and a word that agrees with what follows in al
 --     Following al pre next first g a i c        the first a letters of al and the word of node g are the first c and the word of node i
 --     follow-start, follow-whole, follow-under, follow-over, follow-on, follow-letter    node after node
-use Rattle.words.proofs.Plain.{ℕ, suc, ◌+◌, ◌-◌, ◌<◌, ◌≤◌, add-one, arith, ◌≡◌, refl, sym, ap, ◌∙◌, subst, true, false, List, [], ◌∷◌, ◌++◌, append_assoc}
+use Rattle.words.proofs.Plain.{ℕ, ◌+◌, ◌-◌, ◌<◌, ◌≤◌, add-one, arith, ◌≡◌, refl, sym, ap, ◌∙◌, subst, false, List, [], ◌∷◌, ◌++◌, append_assoc}
 use Rattle.words.proofs.Plain.{length, get_or, take, drop, length-append, length-drop, take-append-drop, length-take-le, get_or-take, get_or-drop, take-suc, take-add}
 use Rattle.words.proofs.{Plain.take_all, Plain.ext_get_or, Lex.before-asym, Lex.before-irrefl}
 use Rattle.words.specs.Order.{before}

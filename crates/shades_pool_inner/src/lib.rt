@@ -8,17 +8,10 @@ ghost use Rattle.shades_pool_inner.specs.Chain.{Agree, Chained, Compares};
 fn agree(v: &[u8], w: &[u8]) -> usize
     ensures { Agree v.now w.now result }
 {
-    let mut j: usize = 0;
-    while j < v.len() {
-        if j == w.len() {
-            return j;
-        }
-        if v[j] != w[j] {
-            return j;
-        }
-        j += 1;
-    }
-    j
+    v.iter()
+        .zip(w)
+        .position(|(x, y)| x != y)
+        .unwrap_or(v.len().min(w.len()))
 }
 
 // How the first a sectors of al, with the word of node g behind them, compare with al: 0 where they lie under it, their number where they are a beginning of it, and the

@@ -2,19 +2,9 @@
 
 #![tactic(auto)]
 
-use refusal::Refusal;
-
-// What `first_ring` answers: the ring is in the output, or the call is refused.
+// What `next_ring` answers where it is not refused: the ring is in the output, or there is none.
 #[derive(Clone, Copy)]
-pub enum FirstAnswer {
-    Ring,
-    Refused(Refusal),
-}
-
-// What `next_ring` answers: the ring is in the output, or there is none, or the call is refused.
-#[derive(Clone, Copy)]
-pub enum NextAnswer {
+pub enum Next {
     Ring,
     Done,
-    Refused(Refusal),
 }

@@ -5,7 +5,7 @@
 --     counted-not, counted_is             a prenecklace with a known lyn is a necklace with given counts, or is not
 -- Occurs of `shades_laws` is passed on.
 use Rattle.words.proofs.Plain.{ℕ, zero, suc, ◌+◌, ◌%◌, ◌<◌, ◌≤◌, add-one, arith, ◌≡◌, refl, sym, ap, ◌∙◌, Bool, true, false, List, [], ◌∷◌, length, get_or, take}
-use Rattle.words.proofs.Plain.{take-suc, take_all, ext_get_or, eq-eqb, ne_eqb}
+use Rattle.words.proofs.Plain.{take-suc, take_all, ext_get_or}
 use Rattle.words.specs.Search.{tab}
 use Rattle.words.proofs.Split.{lt, eq, gt, tri, refuted}
 use Rattle.words.proofs.{Search.length-tab, Search.get_d-tab, Sequence.sec, Lex.same_true, Lex.true_same}

@@ -12,13 +12,11 @@ ghost use Rattle.shades_tally_inner.specs.Remaining.{Remains, Fittable, Fitted};
 fn tally(s: &[u8], b: usize) -> usize
     ensures { result ≡ occurs b s.now }
 {
-    let mut x: usize = 0;
-    let mut i: usize = 0;
-    while i < s.len() {
-        if (s[i] as usize) == b {
+    let mut x = 0;
+    for &here in s {
+        if usize::from(here) == b {
             x += 1;
         }
-        i += 1;
     }
     x
 }
@@ -27,12 +25,10 @@ fn tally(s: &[u8], b: usize) -> usize
 fn has_counts(s: &[u8], counts: &[usize]) -> bool
     ensures { result ≡ has_counts counts.now s.now }
 {
-    let mut b: usize = 0;
-    while b < counts.len() {
-        if tally(s, b) != counts[b] {
+    for (b, &count) in counts.iter().enumerate() {
+        if tally(s, b) != count {
             return false;
         }
-        b += 1;
     }
     true
 }
@@ -42,10 +38,7 @@ pub fn is_counted(s: &[u8], p: usize, counts: &[usize]) -> bool
     requires { Run (sec s.now) (length s.now) p }
     ensures { result ≡ counted_necklace counts.now s.now }
 {
-    if s.len() % p != 0 {
-        return false;
-    }
-    has_counts(s, counts)
+    s.len() % p == 0 && has_counts(s, counts)
 }
 
 // What the counts leave where no sector is taken.
@@ -54,11 +47,7 @@ fn untouched(counts: &[usize]) -> [usize; 16]
     ensures { Remains counts.now [] result }
 {
     let mut rem = [0usize; 16];
-    let mut b: usize = 0;
-    while b < counts.len() {
-        rem[b] = counts[b];
-        b += 1;
-    }
+    rem[..counts.len()].copy_from_slice(counts);
     rem
 }
 
@@ -75,14 +64,12 @@ pub fn fitting(counts: &[usize], s: &[u8]) -> Fit
     ensures { Fitted counts.now s.now result }
 {
     let mut rem = untouched(counts);
-    let mut i: usize = 0;
-    while i < s.len() {
-        let x = s[i] as usize;
+    for (i, &here) in s.iter().enumerate() {
+        let x = usize::from(here);
         if rem[x] == 0 {
-            return Fit { end: i, rem: rem };
+            return Fit { end: i, rem };
         }
         rem[x] -= 1;
-        i += 1;
     }
-    Fit { end: i, rem: rem }
+    Fit { end: s.len(), rem }
 }

@@ -75,15 +75,19 @@ fn place_cell(buf: &mut [u8], at: usize, sheet: Sheet, i: usize, ring: &[u8]) ->
     requires at_in_bounds { at + 17792 ≤ length buf.old }
     ensures { Fits 17792 buf.old at (cell_text sheet i ring.now) result buf.new }
 {
-    let size = sheet.size;
-    let columns = sheet.columns;
-    let tone = sheet.tone;
+    let Sheet {
+        k,
+        tone,
+        size,
+        columns,
+        ..
+    } = sheet;
     let j = i % sheet_layout_inner::per_page(size, columns);
     let x = sheet_layout_inner::across_of(size, columns, j);
     let y = sheet_layout_inner::down_of(size, columns, j);
     let n = ring.len();
     let a = place_cell_head(buf, at, x, y, size, n);
-    let b = picture_ring_inner::place_ring(buf, a, ring, sheet.k, tone);
+    let b = picture_ring_inner::place_ring(buf, a, ring, k, tone);
     let c = picture_inner::place_tail(buf, b, n);
     place_cell_foot(buf, c, size, i, ring)
 }
@@ -123,17 +127,20 @@ fn place_foot(buf: &mut [u8], at: usize, sheet: Sheet, page: usize) -> usize
     requires { at + 320 ≤ length buf.old }
     ensures { Fits 320 buf.old at (foot_of sheet.source sheet.n sheet.k sheet.d sheet.wanted page) result buf.new }
 {
-    let n = sheet.n;
-    let k = sheet.k;
-    let d = sheet.d;
-    let want = sheet.wanted;
-    let source = sheet.source;
+    let Sheet {
+        n,
+        k,
+        d,
+        wanted,
+        source,
+        ..
+    } = sheet;
     match source {
         Source::Guarded => text_form_inner::place_form(
             buf,
             at,
             b"<text x=\"1050\" y=\"2890\" font-size=\"30\">n = %, k = %, d = %: guard % % % %, page %</text>\n</svg>\n",
-            &[n, k, d, n, k, d, want, page],
+            &[n, k, d, n, k, d, wanted, page],
             0,
             b"",
         ),
@@ -141,7 +148,7 @@ fn place_foot(buf: &mut [u8], at: usize, sheet: Sheet, page: usize) -> usize
             buf,
             at,
             b"<text x=\"1050\" y=\"2890\" font-size=\"30\">n = %, k = %, d = %: set % % % %, page %</text>\n</svg>\n",
-            &[n, k, d, n, k, d, want, page],
+            &[n, k, d, n, k, d, wanted, page],
             0,
             b"",
         ),
@@ -172,10 +179,7 @@ fn ends_page(i: usize, last: bool, per: usize) -> bool
     requires { (i < 1000000) × (0 < per) }
     ensures { result ≡ (last || eqb ((i + 1) % per) 0) }
 {
-    if last {
-        return true;
-    }
-    (i + 1) % per == 0
+    last || (i + 1) % per == 0
 }
 
 // Target i of a sheet, with the beginning and the end of its page where they fall there.

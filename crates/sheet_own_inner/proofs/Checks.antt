@@ -3,8 +3,8 @@
 --     lines_more, lines-wrong      one line more passes, or it is the first that is refused
 use Rattle.words.proofs.Plain.{ℕ, ◌+◌, ◌<◌, arith, dec_lt, ◌≡◌, refl, sym, subst, inl, inr, List, [], length, get_or}
 use Rattle.text_words_spec.specs.Words.{Spelt}
-use Rattle.refusal.specs.{declared.Refusal.Refusal, declared.Refusal.TheVariants.Line, declared.Checked.Checked}
-use Rattle.refusal.specs.declared.Checked.TheVariants.{Good, Refused}
+use Rattle.std.specs.Prelude.{Result, Ok, Err}
+use Rattle.refusal.specs.{declared.Refusal.Refusal, declared.Refusal.TheVariants.Line}
 use Rattle.refusal.specs.Order.{Passed, Given, CheckSays}
 use Rattle.sheet_spec.specs.{declared.Sheet.Sheet, Says.target_room, Says.sheet_order}
 use Rattle.sheet_print_spec.specs.Prints.{ring_in, line_order, own_order}
@@ -15,7 +15,7 @@ module _ (o : Sheet) (l : List ℕ) (i : ℕ) where
   pub line-unread : ((v : List ℕ) → Spelt l v → ⊥) → Given (line_order o l i) Line
   line-unread f = inl (refl, f (ring_in l))
 
-  pub line-checked : (w : List ℕ) → Spelt l w → (v : Checked) → CheckSays (sheet_order o w i target_room) v → CheckSays (line_order o l i) v
+  pub line-checked : (w : List ℕ) → Spelt l w → (v : Result Unit Refusal) → CheckSays (sheet_order o w i target_room) v → CheckSays (line_order o l i) v
   line-checked w s v c = go v (subst (λ (x : List ℕ). CheckSays (sheet_order o x i target_room) v) (sym e) c)
     where
       e : ring_in l ≡ w
@@ -24,9 +24,9 @@ module _ (o : Sheet) (l : List ℕ) (i : ℕ) where
       spelt : Spelt l (ring_in l)
       spelt = subst (Spelt l) (sym e) s
 
-      go : (v : Checked) → CheckSays (sheet_order o (ring_in l) i target_room) v → CheckSays (line_order o l i) v
-      go Good c = (spelt, c)
-      go (Refused r) c = inr (spelt, c)
+      go : (v : Result Unit Refusal) → CheckSays (sheet_order o (ring_in l) i target_room) v → CheckSays (line_order o l i) v
+      go (Ok _) c = (spelt, c)
+      go (Err r) c = inr (spelt, c)
 
 -- ---- line after line
 

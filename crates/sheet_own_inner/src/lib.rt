@@ -8,32 +8,32 @@ ghost use Rattle.refusal.specs.Order.{CheckSays};
 ghost use Rattle.sheet_print_spec.specs.Prints.{line_order};
 ghost use Rattle.sheet_own_inner.specs.Says.{LinesSay};
 
-use refusal::{Checked, Refusal};
+use refusal::Refusal;
 use sheet_spec::Sheet;
 
 // No text of a target is longer.
 const ROOM: usize = 18432;
 
-// What checking all lines told: so many, all good; or the first refusal, and the number of its line.
+// The first refusal of a text's lines, and the number of its line.
 #[derive(Clone, Copy)]
-pub enum LinesTold {
-    Good(usize),
-    Refused(Refusal, usize),
+pub struct RefusedLine {
+    pub refusal: Refusal,
+    pub line: usize,
 }
 
 // The checks of target i, which shows the ring of a line; it is spelt into the lent bytes.
-fn check_line(sheet: Sheet, line: &[u8], i: usize, ring: &mut [u8]) -> Checked
+fn check_line(sheet: Sheet, line: &[u8], i: usize, ring: &mut [u8]) -> Result<(), Refusal>
     requires { length ring.old ≡ length line.now }
     ensures { CheckSays (line_order sheet line.now i) result }
 {
     if !text_spell_inner::spell(line, ring) {
-        return Checked::Refused(Refusal::Line);
+        return Err(Refusal::Line);
     }
     sheets::check_target(sheet, ring, i, ROOM)
 }
 
-// The checks of all lines, in order.
-pub fn check_lines(sheet: Sheet, s: &[u8], ring: &mut [u8]) -> LinesTold
+// The checks of all lines, in order: how many they are.
+pub fn check_lines(sheet: Sheet, s: &[u8], ring: &mut [u8]) -> Result<usize, RefusedLine>
     requires { length s.now ≤ length ring.old }
     ensures { LinesSay sheet (lines s.now) result }
 {
@@ -42,15 +42,14 @@ pub fn check_lines(sheet: Sheet, s: &[u8], ring: &mut [u8]) -> LinesTold
     while at < s.len() {
         let e = sheet_lines_inner::line_end(s, at);
         let n = e - at;
-        match check_line(sheet, &s[at..e], i, &mut ring[..n]) {
-            Checked::Refused(r) => {
-                return LinesTold::Refused(r, i + 1);
-            }
-            Checked::Good => {
-                at = e + 1;
-                i += 1;
-            }
+        if let Err(refusal) = check_line(sheet, &s[at..e], i, &mut ring[..n]) {
+            return Err(RefusedLine {
+                refusal,
+                line: i + 1,
+            });
         }
+        at = e + 1;
+        i += 1;
     }
-    LinesTold::Good(i)
+    Ok(i)
 }

@@ -8,8 +8,7 @@ use Rattle.stream_spec.specs.Lines.{lines}
 use Rattle.refusal.specs.{declared.Refusal.Refusal, Order.Passed}
 use Rattle.refusal.proofs.Unique.{never_both}
 use Rattle.text_spell_inner.specs.Says.{SpelledSays}
-use Rattle.picture_spec.specs.declared.Drawn.{Drawn}
-use Rattle.picture_spec.specs.declared.Drawn.TheVariants as D
+use Rattle.std.specs.Prelude.{Result, Ok, Err}
 use Rattle.sheet_spec.specs.declared.Sheet.{Sheet}
 use Rattle.sheet_spec.specs.Says.{target_room, sheet_order, TargetSays}
 use Rattle.sheet_print_spec.specs.Prints.{ring_in, line_order, own_order}
@@ -32,15 +31,15 @@ module _ (o : Sheet) (l : List ℕ) (i : ℕ) (pass : Passed (line_order o l i))
         go false x = absurd (x (ring_in l) pass.0)
 
     -- so its target is placed, and never refused
-    module _ (last : Bool) (b : List ℕ) (d : Drawn) (b' : List ℕ) (t : TargetSays o w i last b d b') where
-      placed-as : (e : Drawn) → d ≡ e → TargetSays o (ring_in l) i last b e b'
+    module _ (last : Bool) (b : List ℕ) (d : Result ℕ Refusal) (b' : List ℕ) (t : TargetSays o w i last b d b') where
+      placed-as : (e : Result ℕ Refusal) → d ≡ e → TargetSays o (ring_in l) i last b e b'
       placed-as e q = rw (same-ring, q) at t
 
-      pub line-placed : (m : ℕ) → d ≡ D.Whole m → TargetSays o (ring_in l) i last b (D.Whole m) b'
-      line-placed m q = placed-as (D.Whole m) q
+      pub line-placed : (m : ℕ) → d ≡ Ok m → TargetSays o (ring_in l) i last b (Ok m) b'
+      line-placed m q = placed-as (Ok m) q
 
-      pub line-never : target_room ≤ length b → (x : Refusal) → d ≡ D.Refused x → ⊥
-      line-never room x q = never_both (sheet_order o (ring_in l) i (length b)) x (placed-as (D.Refused x) q).0 (pass.1.0, room)
+      pub line-never : target_room ≤ length b → (x : Refusal) → d ≡ Err x → ⊥
+      line-never room x q = never_both (sheet_order o (ring_in l) i (length b)) x (placed-as (Err x) q).0 (pass.1.0, room)
 
 -- ---- the target of a line of a text
 
@@ -48,5 +47,5 @@ module _ (o : Sheet) (s : List ℕ) (i : ℕ) (l : List ℕ) (is : get_or (lines
   pub line-passed : Passed (own_order o (lines s) i) → Passed (line_order o l i)
   line-passed p = subst (λ (x : List ℕ). Passed (line_order o x i)) is p
 
-  pub line_step : (t : ℕ) (b : List ℕ) (m e : ℕ) (b' : List ℕ) → TargetSays o (ring_in l) i (eqb (i + 1) t) b (D.Whole m) b' → LineReached s e (i + 1) → LineStep o s t i b m e b'
-  line_step t b m e b' p g = record { target = subst (λ (x : List ℕ). TargetSays o (ring_in x) i (eqb (i + 1) t) b (D.Whole m) b') (sym is) p; next = g }
+  pub line_step : (t : ℕ) (b : List ℕ) (m e : ℕ) (b' : List ℕ) → TargetSays o (ring_in l) i (eqb (i + 1) t) b (Ok m) b' → LineReached s e (i + 1) → LineStep o s t i b m e b'
+  line_step t b m e b' p g = record { target = subst (λ (x : List ℕ). TargetSays o (ring_in x) i (eqb (i + 1) t) b (Ok m) b') (sym is) p; next = g }

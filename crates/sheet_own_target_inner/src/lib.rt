@@ -2,17 +2,15 @@
 
 #![tactic(auto)]
 
-ghost use Rattle.std.specs.Prelude.{◌<◌, ◌≤◌, ◌≡◌, Bool, length};
+ghost use Rattle.std.specs.Prelude.{◌<◌, ◌≤◌, ◌≡◌, Bool, length, Ok};
 ghost use Rattle.stream_spec.specs.Lines.{lines};
 ghost use Rattle.refusal.specs.Order.{Passed};
-ghost use Rattle.picture_spec.specs.declared.Drawn.TheVariants.{Whole};
 ghost use Rattle.sheet_spec.specs.Says.{target_room, TargetSays};
 ghost use Rattle.sheet_print_spec.specs.Prints.{ring_in, line_order};
 ghost use Rattle.sheet_lines_inner.specs.Says.{LineReached};
 ghost use Rattle.sheet_own_inner.specs.Says.{LinesPass};
 ghost use Rattle.sheet_own_target_inner.specs.Says.{LineStep};
 
-use picture_spec::Drawn;
 use sheet_spec::Sheet;
 
 // What placing a target told: how long its text is, and where the next line begins.
@@ -34,12 +32,12 @@ fn place_spelt(
     requires passed { Passed (line_order sheet line.now i) }
     requires ring_len { length ring.old ≡ length line.now }
     requires target_room_in_bounds { target_room ≤ length buf.old }
-    ensures { TargetSays sheet (ring_in line.now) i last buf.old (Whole result) buf.new }
+    ensures { TargetSays sheet (ring_in line.now) i last buf.old (Ok result) buf.new }
 {
     text_spell_inner::spell(line, ring);
     match sheets::target(sheet, ring, i, last, buf) {
-        Drawn::Whole(m) => m,
-        Drawn::Refused(_) => 0,
+        Ok(m) => m,
+        Err(_) => 0,
     }
 }
 
@@ -47,7 +45,7 @@ fn place_spelt(
 fn place_line(sheet: Sheet, line: &[u8], i: usize, last: bool, buf: &mut [u8]) -> usize
     requires passed { Passed (line_order sheet line.now i) }
     requires target_room_in_bounds { target_room ≤ length buf.old }
-    ensures { TargetSays sheet (ring_in line.now) i last buf.old (Whole result) buf.new }
+    ensures { TargetSays sheet (ring_in line.now) i last buf.old (Ok result) buf.new }
 {
     let mut ring = [0u8; 64];
     let n = line.len();

@@ -8,7 +8,7 @@ use Rattle.refusal.specs.{declared.Refusal.Refusal, Order.Passed, Order.Given}
 use Rattle.refusal.proofs.Unique.{never_both}
 use Rattle.set_spec.specs.Places.{place_at, set_in}
 use Rattle.set_laws.proofs.Places.{set-in-at}
-use Rattle.picture_spec.specs.declared.Drawn.{Drawn}
+use Rattle.std.specs.Prelude.{Result}
 use Rattle.sheet_spec.specs.declared.Sheet.{Sheet}
 use Rattle.sheet_spec.specs.Says.{target_room, sheet_order, TargetSays}
 use Rattle.sheet_print_spec.specs.Prints.{target_order}
@@ -28,7 +28,7 @@ module _ (o : Sheet) (p : List ℕ) (t : ℕ) where
   given-at j h r s = subst (λ (w : List ℕ). Given (sheet_order o w j target_room) r) (sym (set-in-at o.n p t j h)) s
 
 -- what the call says of its slice, said of the place
-pub step-placed : (o : Sheet) (p : List ℕ) (i : ℕ) (last : Bool) (b : List ℕ) (d e : Drawn) (b' : List ℕ) →
+pub step-placed : (o : Sheet) (p : List ℕ) (i : ℕ) (last : Bool) (b : List ℕ) (d e : Result ℕ Refusal) (b' : List ℕ) →
     TargetSays o (take (24 * i + o.n - 24 * i) (drop (24 * i) p)) i last b d b' → d ≡ e → TargetSays o (place_at o.n p i) i last b e b'
 step-placed o p i last b d e b' s q = rw (slice_at o.n i p, q) at s
 

@@ -9,7 +9,6 @@ ghost use Rattle.sheet_spec.specs.Says.{target_room};
 ghost use Rattle.sheet_print_spec.specs.Prints.{target_order};
 ghost use Rattle.sheet_places_inner.specs.Says.{SetPlaces, PlacedAt};
 
-use picture_spec::Drawn;
 use sheet_spec::Sheet;
 
 // Target i of a sheet that is ready, at the beginning of the buffer, and how long that is.
@@ -23,7 +22,7 @@ pub fn place_step(sheet: Sheet, places: &[u8], count: usize, i: usize, buf: &mut
     let from = 24 * i;
     let to = from + n;
     match sheets::target(sheet, &places[from..to], i, i + 1 == count, buf) {
-        Drawn::Whole(m) => m,
-        Drawn::Refused(_) => 0,
+        Ok(m) => m,
+        Err(_) => 0,
     }
 }

@@ -1,23 +1,22 @@
 -- From what is placed to what an input prints.
 --     pass-more, wrong-at             one target more, or the first that is refused
 --     picked-places                   the places of a set that was picked
---     judge-refused, judge-none, judge-checked, set-prepared    what is ready, or printed instead
---     own-good, own-wrong, own-as, own-none, own-some    the same of lines
---     not-read, too_long, prepared-set, prepared-lines, prepared-none     what an input asks for
+--     judge-refused, judge-checked    what is ready, or printed instead
+--     own-wrong                       the same of lines
+--     prepared-set, refused-set, prepared-lines     what an input asks for
 --     steps-sheet                     the steps one after another are the sheet, whatever gives its rings
 --     steps-printed, own-printed      and they are what the input prints
-use Rattle.words.proofs.Plain.{ℕ, zero, suc, ◌+◌, ◌-◌, ◌*◌, ◌<◌, ◌≤◌, add-one, arith, dec_lt, ◌≡◌, refl, sym, ap, subst, ◌∙◌, inl, inr, Bool, true, false}
-use Rattle.words.proofs.Plain.{false≢true, List, [], ◌∷◌, ◌++◌, map, eqb, length, get_or, take, drop, length-map, eq-eqb, ne_eqb}
+use Rattle.words.proofs.Plain.{ℕ, zero, suc, ◌+◌, ◌-◌, ◌<◌, ◌≤◌, arith, dec_lt, ◌≡◌, refl, sym, ap, subst, ◌∙◌, Bool, true, false}
+use Rattle.words.proofs.Plain.{false≢true, List, [], ◌∷◌, map, eqb, length, get_or, take, drop, length-map, eq-eqb, ne_eqb}
 use Rattle.words.proofs.Split.{lt, eq, gt, tri}
-use Rattle.text_words_spec.specs.Words.{pieces, PieceAt}
+use Rattle.text_words_spec.specs.Words.{PieceAt}
 use Rattle.stream_spec.specs.Lines.{lines}
-use Rattle.refusal.specs.{declared.Refusal.Refusal, declared.Refusal.TheVariants.Line, declared.Refusal.TheVariants.Set}
-use Rattle.refusal.specs.{declared.Checked.Checked, declared.Checked.TheVariants.Good, declared.Checked.TheVariants.Refused}
-use Rattle.refusal.specs.Order.{Passed, Given, CheckSays}
+use Rattle.refusal.specs.{declared.Refusal.Refusal}
+use Rattle.std.specs.Prelude.{Result, Ok, Err, Some}
+use Rattle.refusal.specs.Order.{Passed, Given}
 use Rattle.set_spec.specs.Places.{place_at, set_in}
 use Rattle.set_laws.proofs.Places.{laid-length, length-set-in, set-in-at}
-use Rattle.guard_spec.specs.{declared.Rule.Rule, Choice.chosen_by}
-use Rattle.set_pick_spec.specs.{Order.set_order, Says.SetChosen, Says.SetAnswers}
+use Rattle.set_pick_spec.specs.{Order.set_order, Says.SetChosen}
 use Rattle.set_pick_spec.proofs.Worth.{rule-most, rule-set}
 use Rattle.sheet_spec.specs.{declared.Source.Source, declared.Sheet.Sheet, Text.sheet_text, Text.sheet_from}
 use Rattle.sheet_spec.specs.declared.Source.TheVariants as S
@@ -25,42 +24,39 @@ use Rattle.sheet_spec.specs.Text as text
 use Rattle.sheet_spec.specs.Says.{target_room, sheet_order}
 use Rattle.sheet_laws.specs.Placing.{Placing, all, then}
 use Rattle.sheet_laws.proofs.Placing.{placing-sheet}
-use Rattle.sheet_words_spec.proofs.Unique.{one-sheet}
 use Rattle.sheet_words_inner.specs.Says.{ReadsAs}
 use Rattle.desk_spec.specs.Texts.{refusal_text}
-use Rattle.desk_spec.specs.Questions.{Replies, good, bad}
-use Rattle.desk_spec.proofs.Questions.{place-one}
+use Rattle.desk_spec.specs.Questions.{good}
 use Rattle.program_refusal_spec.specs.Text.{refused_line_text}
-use Rattle.sheet_print_spec.specs.Prints.{none, wrong, whole, target_order, TargetsPrint, rule_of, chosen_for, ChosenPrints, refused, taken}
+use Rattle.sheet_print_spec.specs.Prints.{wrong, whole, target_order, TargetsPrint, rule_of, chosen_for, ChosenPrints, refused, taken}
 use Rattle.sheet_print_spec.specs.Prints.{ring_in, own_sheet, OwnPrints, ReadsSheet, PrintsBy, SheetPrints}
 use Rattle.sheet_print_spec.proofs.Rings.{rings-at}
 use Rattle.sheet_own_inner.specs.Says.{LinesPass, WrongLine}
-use Rattle.sheet_lines_inner.proofs.Lines.{rest-is}
+use Rattle.std.proofs.lemmas.List.{take_rest}
 use Rattle.sheet_places_inner.specs.Says.{SetPlaces}
 use Rattle.sheet_places_inner.proofs.Places.{passed-at, given-at}
 use Rattle.sheet_source_inner.specs.Says.{is_own, BehindLine}
-use Rattle.sheet_print_inner.specs.declared.Answer.{Answer}
-use Rattle.sheet_print_inner.specs.declared.Answer.TheVariants as A
-use Rattle.sheet_print_inner.specs.Says.{is_good, AllPass, FirstWrong, CheckedTargets, ReadySet, JobAnswers, set_answer, SetPrepared}
-use Rattle.sheet_print_inner.specs.Says.{own_answer, ReadyOwn, OwnPrepared, lines_at, Prepared}
+use Rattle.sheet_own_inner.specs.declared.RefusedLine.{RefusedLine}
+use Rattle.sheet_print_inner.specs.{declared.Rings.Rings, declared.Job.Job, declared.Stop.Stop}
+use Rattle.sheet_print_inner.specs.declared.Rings.TheVariants as R
+use Rattle.sheet_print_inner.specs.declared.Stop.TheVariants as P
+use Rattle.sheet_print_inner.specs.Says.{AllPass, FirstWrong, CheckedTargets, ReadySet, SetJudged, SetPrepared, ReadyOwn, OwnRings, OwnPrepared, lines_at, RingsReady, Prepared}
 use Rattle.sheet_print_inner.specs.Steps.{own_rings, SheetSteps, over, step}
 
 -- ---- the checks of all targets
 
 module _ (o : Sheet) (p : List ℕ) (t : ℕ) where
   -- one target more
-  pub pass-more : (j : ℕ) (v : Checked) → j < t → is_good v ≡ true → CheckSays (sheet_order o (place_at o.n p j) j target_room) v → AllPass o p t j → AllPass o p t (j + 1)
-  pass-more j Good h e s a i l =
+  pub pass-more : (j : ℕ) → j < t → Passed (sheet_order o (place_at o.n p j) j target_room) → AllPass o p t j → AllPass o p t (j + 1)
+  pass-more j h s a i l =
       elim (dec_lt i j) [
         | yes k ↦ a i k
         | no k ↦ let q : i ≡ j = omega arith in subst (λ (x : ℕ). Passed (target_order o (set_in o.n p t) x)) (sym q) (passed-at o p t j h s)
       ]
-  pass-more j (Refused r) h e s a i l = absurd (false≢true e)
 
   -- the first that is refused
-  pub wrong-at : (j : ℕ) (v : Checked) → j < t → is_good v ≡ false → CheckSays (sheet_order o (place_at o.n p j) j target_room) v → AllPass o p t j → CheckedTargets o p t v
-  wrong-at j Good h e s a = absurd (false≢true (sym e))
-  wrong-at j (Refused r) h e s a = record { place = j; within = h; before = a; given = given-at o p t j h r s }
+  pub wrong-at : (j : ℕ) (r : Refusal) → j < t → Given (sheet_order o (place_at o.n p j) j target_room) r → AllPass o p t j → FirstWrong o p t r
+  wrong-at j r h s a = record { place = j; within = h; before = a; given = given-at o p t j h r s }
 
 -- ---- a set that was picked
 
@@ -76,16 +72,13 @@ module _ (o : Sheet) (p : List ℕ) (t : ℕ) (f : Bool) where
   the-set : SetChosen o.n o.k o.d o.wanted (chosen_for o) p t f → set_in o.n p t ≡ chosen_for o
   the-set c = rule-set (rule_of o.source) o.n o.k o.d o.wanted p t f c
 
-  pub judge-refused : (r : Refusal) → Given (set_order o.n o.k o.d o.wanted) r → JobAnswers o p t (Refused r)
+  pub judge-refused : (r : Refusal) → Given (set_order o.n o.k o.d o.wanted) r → SetJudged o p t (Err r)
   judge-refused r g = refused r g refl
 
   module _ (c : SetChosen o.n o.k o.d o.wanted (chosen_for o) p t f) where
-    pub judge-none : t ≡ 0 → JobAnswers o p t (Refused Set)
-    judge-none e = taken c.asked (none (sym c.number ∙ e) refl)
-
-    pub judge-checked : (v : Checked) → (t ≡ 0 → ⊥) → CheckedTargets o p t v → JobAnswers o p t v
-    judge-checked Good z s = record { places = picked-places c; asked = c.asked; set = the-set c; some = omega arith; passed = s }
-    judge-checked (Refused r) z s =
+    pub judge-checked : (v : Result Unit Refusal) → (t ≡ 0 → ⊥) → CheckedTargets o p t v → SetJudged o p t v
+    judge-checked (Ok _) z s = record { places = picked-places c; asked = c.asked; set = the-set c; some = omega arith; passed = s }
+    judge-checked (Err r) z s =
         let e = the-set c in
         let l : s.place < length (chosen_for o) = omega (arith, s.within, c.number) in
         taken c.asked (wrong s.place l (rw e at s.before) r (rw e at s.given) refl)
@@ -100,40 +93,18 @@ ready-prints o p t r =
     let y : TargetsPrint o (chosen_for o) (sheet_text o (chosen_for o)) = subst (λ (ws : List (List ℕ)). TargetsPrint o ws (sheet_text o ws)) e x in
     subst (λ (ws : List (List ℕ)). ChosenPrints o (sheet_text o ws)) (sym e) (taken r.asked y)
 
--- what is printed of a set
-pub set-prepared : (o : Sheet) (p : List ℕ) (t : ℕ) (v : Checked) → JobAnswers o p t v → SetPrepared o p t (set_answer v)
-set-prepared o p t Good x = x
-set-prepared o p t (Refused r) x = x
-
 -- ---- rings of one's own
 
 module _ (o : Sheet) (ls : List (List ℕ)) (q : Sheet) (is : q ≡ own_sheet o ls) where
-  -- of lines that all pass
-  pub own-good : (t : ℕ) → (t ≡ length ls) × LinesPass q ls t → OwnPrepared o ls q t (own_answer t)
-  own-good zero x = none (sym x.0) refl
-  own-good (suc t) x = (is, record { number = x.0; some = omega arith; passed = x.1 })
-
   -- of a line that is refused
-  pub own-wrong : (t : ℕ) (r : Refusal) (j : ℕ) → WrongLine q ls r j → OwnPrepared o ls q t (A.Wrong r j)
-  own-wrong t r j w = wrong w.place w.within (rw is at w.before) r (rw is at w.given) (ap (refused_line_text r) w.number)
+  pub own-wrong : (f : ℕ) (x : RefusedLine) → WrongLine q ls x.refusal x.line → OwnPrepared o ls f (Err (P.Wrong x))
+  own-wrong f x w = wrong w.place w.within (rw is at w.before) x.refusal (rw is at w.given) (ap (refused_line_text x.refusal) w.number)
 
   -- what is ready prints the sheet
   own-prints : (t : ℕ) → ReadyOwn q ls t → OwnPrints o ls (sheet_text q (map ring_in ls))
   own-prints t r =
       let q : LinesPass q ls (length ls) = λ i h. r.passed i (omega (arith, r.number, h)) in
       whole (omega (arith, r.number, r.some)) (rw is at q) (ap (λ (x : Sheet). sheet_text x (map ring_in ls)) is)
-
--- the same of what is called by other names
-pub own-as : (o : Sheet) (ls : List (List ℕ)) (q r : Sheet) (t m : ℕ) (a b : Answer) → r ≡ q → m ≡ t → b ≡ a → OwnPrepared o ls q t a → OwnPrepared o ls r m b
-own-as o ls q r t m a b e f g x = rw (e, f, g) x
-
--- there are no lines, or there are some
-pub own-none : (t : ℕ) → t ≡ 0 → A.Refused Set ≡ own_answer t
-own-none t e = rw e refl
-
-pub own-some : (t : ℕ) → (t ≡ 0 → ⊥) → A.Own ≡ own_answer t
-own-some zero n = absurd (n refl)
-own-some (suc t) n = refl
 
 -- ---- an input
 
@@ -154,62 +125,39 @@ own-source S.Plain e = absurd (false≢true e)
 own-source S.Own e = refl
 
 module _ (s : List ℕ) (e : ℕ) (at : PieceAt 10 s e) where
-  line_of : (q : Sheet × List (List ℕ)) → ReadsSheet s q → ReadsAs (take e s) q.0 true
-  line_of q x = rw (place-one 10 s x.at e x.ends at) at x.line
-
-  pub not-read : (o : Sheet) → ReadsAs (take e s) o false → SheetPrints s (refusal_text Line)
-  not-read o n = bad (λ q x. n q.0 (line_of q x)) refl
-
-  module _ (o : Sheet) (l : ReadsAs (take e s) o true) where
-    source_of : (q : Sheet × List (List ℕ)) → ReadsSheet s q → q.0.source ≡ o.source
-    source_of q x = ap (λ (y : Sheet). y.source) (one-sheet (pieces 32 (take e s)) q.0 o (line_of q x) l)
-
+  module _ (o : Sheet) (l : ReadsAs (take e s) (Some o)) where
     module _ (set : is_own o.source ≡ false) where
-      not_own : (a : Source) → a ≡ o.source → a ≡ S.Own → ⊥
-      not_own a f g = false≢true (sym set ∙ ap is_own (sym f ∙ g))
+      set-reads : length s - e ≤ 1 → (x : List ℕ) → ChosenPrints o x → SheetPrints s x
+      set-reads h x y =
+          let reads : ReadsSheet s (o, lines (drop (e + 1) s)) = record { at = e; ends = at; line = l; behind = refl; alone = λ n. omega arith } in
+          good (o, lines (drop (e + 1) s)) reads (by-set o.source o (lines (drop (e + 1) s)) x set y)
 
-      -- something stands behind the line
-      pub too_long : 1 < length s - e → SheetPrints s (refusal_text Line)
-      too_long h = bad (λ q x. omega (arith, place-one 10 s x.at e x.ends at, x.alone (not_own q.0.source (source_of q x)), h)) refl
+      pub prepared-set : length s - e ≤ 1 → (a : Rings) → SetPrepared o (Ok a) → RingsReady s o a
+      prepared-set h (R.Set p t) y = (y, set-reads h _ (ready-prints o p t y))
+      prepared-set h (R.Own f t) y = absurd y
 
-      pub prepared-set : length s - e ≤ 1 → (r : Sheet) (p : List ℕ) (f t : ℕ) (a : Answer) → r ≡ o → SetPrepared o p t a → Prepared s r p f t a
-      prepared-set h r p f t a is j = rw is (go a j)
-        where
-          reads : ReadsSheet s (o, lines (drop (e + 1) s))
-          reads = record { at = e; ends = at; line = l; behind = refl; alone = λ n. omega arith }
-
-          prints : (x : List ℕ) → ChosenPrints o x → SheetPrints s x
-          prints x y = good (o, lines (drop (e + 1) s)) reads (by-set o.source o (lines (drop (e + 1) s)) x set y)
-
-          go : (a : Answer) → SetPrepared o p t a → Prepared s o p f t a
-          go A.Set y = (y, prints _ (ready-prints o p t y))
-          go A.Own y = absurd y
-          go (A.Refused r) y = prints _ y
-          go (A.Wrong r j) y = absurd y
+      pub refused-set : length s - e ≤ 1 → (r : Refusal) → SetPrepared o (Err r) → SheetPrints s (refusal_text r)
+      refused-set h r y = set-reads h _ y
 
     module _ (own : is_own o.source ≡ true) (f : ℕ) (b : BehindLine s e f) where
-      prepared-own : (q : Sheet) (p : List ℕ) (t : ℕ) (a : Answer) → OwnPrepared o (lines (drop f s)) q t a → Prepared s q p f t a
-      prepared-own q p t a j = go a j
-        where
-          reads : ReadsSheet s (o, lines (drop f s))
-          reads = record { at = e; ends = at; line = l; behind = ap lines b.same; alone = λ n. absurd (n (own-source o.source own)) }
+      own-reads : (x : List ℕ) → OwnPrints o (lines (drop f s)) x → SheetPrints s x
+      own-reads x y =
+          let reads : ReadsSheet s (o, lines (drop f s)) = record { at = e; ends = at; line = l; behind = ap lines b.same; alone = λ n. absurd (n (own-source o.source own)) } in
+          good (o, lines (drop f s)) reads (by-own o.source o (lines (drop f s)) x own y)
 
-          prints : (x : List ℕ) → OwnPrints o (lines (drop f s)) x → SheetPrints s x
-          prints x y = good (o, lines (drop f s)) reads (by-own o.source o (lines (drop f s)) x own y)
+      rings-ready : (q : Sheet) (a : Rings) → OwnRings o (lines (drop f s)) f q a → RingsReady s q a
+      rings-ready q (R.Set p t) y = absurd y
+      rings-ready q (R.Own g t) y =
+          rw y.1 (b.within, y.2, own-reads _ (own-prints o (lines (drop f s)) q y.0 t y.2))
 
-          go : (a : Answer) → OwnPrepared o (lines (drop f s)) q t a → Prepared s q p f t a
-          go A.Set y = absurd y
-          go A.Own y = (b.within, y.1, prints _ (own-prints o (lines (drop f s)) q y.0 t y.1))
-          go (A.Refused r) y = prints _ y
-          go (A.Wrong r j) y = prints _ y
+      prepared-own : (r : Result Job Stop) → OwnPrepared o (lines (drop f s)) f r → Prepared s r
+      prepared-own (Ok j) y = rings-ready j.sheet j.rings y
+      prepared-own (Err (P.Refused r)) y = own-reads _ y
+      prepared-own (Err (P.Wrong x)) y = own-reads _ y
 
       -- the same of a slice to the end
-      pub prepared-lines : (q : Sheet) (p : List ℕ) (g t : ℕ) (a : Answer) → g ≡ f → OwnPrepared o (lines (take (length s - f) (drop f s))) q t a → Prepared s q p g t a
-      prepared-lines q p g t a is j = rw is (prepared-own q p t a (rw (rest-is s f) at j))
-
--- the answer where nothing is asked for
-pub prepared-none : (s : List ℕ) (o : Sheet) (p : List ℕ) (f t : ℕ) (a : Answer) → a ≡ A.Refused Line → SheetPrints s (refusal_text Line) → Prepared s o p f t a
-prepared-none s o p f t a e x = rw e x
+      pub prepared-lines : (r : Result Job Stop) → OwnPrepared o (lines (take (length s - f) (drop f s))) f r → Prepared s r
+      prepared-lines r j = prepared-own r (rw (take_rest s f) at j)
 
 -- ---- step after step
 
@@ -249,13 +197,13 @@ module _ (o : Sheet) (ring : ℕ → List ℕ) (ws : List (List ℕ)) (gives : (
 
 -- the steps of a sheet that is ready are what the input prints: of a set, and of rings of one's own
 module _ (s : List ℕ) (o : Sheet) (p : List ℕ) (f t : ℕ) {x : List ℕ} where
-  pub steps-printed : Prepared s o p f t A.Set → SheetSteps o (place_at o.n p) t 0 x → SheetPrints s x
+  pub steps-printed : RingsReady s o (R.Set p t) → SheetSteps o (place_at o.n p) t 0 x → SheetPrints s x
   steps-printed r q =
       let ws = set_in o.n p t in
       let l = length-set-in o.n p t in
       rw (steps-sheet o (place_at o.n p) ws (λ i h. set-in-at o.n p t i (omega (arith, l, h))) (rw (sym l) at q)) r.1
 
-  pub own-printed : Prepared s o p f t A.Own → SheetSteps o (own_rings (lines_at s f)) t 0 x → SheetPrints s x
+  pub own-printed : RingsReady s o (R.Own f t) → SheetSteps o (own_rings (lines_at s f)) t 0 x → SheetPrints s x
   own-printed r q =
       let ls = lines_at s f in
       let l : t ≡ length (map ring_in ls) = r.1.number ∙ sym (length-map ls ring_in) in

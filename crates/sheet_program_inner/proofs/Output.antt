@@ -8,11 +8,13 @@ use Rattle.text_spec.specs.Put.{Placed}
 use Rattle.program_refusal_inner.specs.Room.{refused_line_room}
 use Rattle.sheet_spec.specs.{declared.Sheet.Sheet, Says.target_room}
 use Rattle.desk_texts_inner.specs.Says.{LinePrinted}
-use Rattle.sheet_print_inner.specs.declared.Answer.{Answer}
-use Rattle.sheet_print_inner.specs.declared.Answer.TheVariants as A
+use Rattle.std.specs.Prelude.{Result, Ok, Err}
+use Rattle.sheet_print_inner.specs.{declared.Rings.Rings, declared.Job.Job, declared.Stop.Stop}
+use Rattle.sheet_print_inner.specs.declared.Rings.TheVariants.{Set, Own}
+use Rattle.sheet_print_inner.specs.Says as Printed
 use Rattle.sheet_print_inner.specs.Says.{ReadyOwn, lines_at, Prepared}
-use Rattle.sheet_lines_inner.proofs.Lines.{rest-is}
-use Rattle.sheet_program_inner.specs.Says.{AnswerReady}
+use Rattle.std.proofs.lemmas.List.{take_rest}
+use Rattle.sheet_program_inner.specs.Says.{SheetReady, AnswerReady}
 
 pub line-inside : (b t : List ℕ) (m : ℕ) (b' : List ℕ) → target_room ≤ length b → LinePrinted b 0 t m b' → (m ≤ length b) × (length b' ≡ length b)
 line-inside b t m b' h s = (omega (arith, s.short, s.placed.next), placed-length b 0 t m b' s.placed)
@@ -20,12 +22,14 @@ line-inside b t m b' h s = (omega (arith, s.short, s.placed.next), placed-length
 pub wrong-inside : (b t : List ℕ) (m : ℕ) (b' : List ℕ) → target_room ≤ length b → Placed b 0 t m b' → m ≤ refused_line_room → (m ≤ length b) × (length b' ≡ length b)
 wrong-inside b t m b' h p l = (omega arith, placed-length b 0 t m b' p)
 
-pub ready_of : (s : List ℕ) (o : Sheet) (p : List ℕ) (f t : ℕ) (a : Answer) → Prepared s o p f t a → AnswerReady s o p f t a
-ready_of s o p f t A.Set x = x.0
-ready_of s o p f t A.Own x = (x.0, x.1)
-ready_of s o p f t (A.Refused r) x = tt
-ready_of s o p f t (A.Wrong r j) x = tt
+pub ready_of : (s : List ℕ) (r : Result Job Stop) → Prepared s r → AnswerReady s r
+ready_of s (Ok j) x = go j.rings x
+  where
+    go : (a : Rings) → Printed.RingsReady s j.sheet a → SheetReady s j.sheet a
+    go (Set p t) y = y.0
+    go (Own f t) y = (y.0, y.1)
+ready_of s (Err e) x = tt
 
 -- what a slice to the end holds
 pub lines-ready : (s : List ℕ) (o : Sheet) (f t : ℕ) → ReadyOwn o (lines_at s f) t → ReadyOwn o (lines (take (length s - f) (drop f s))) t
-lines-ready s o f t x = rw (rest-is s f) x
+lines-ready s o f t x = rw (take_rest s f) x

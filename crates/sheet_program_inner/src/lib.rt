@@ -6,11 +6,12 @@
 ghost use Rattle.std.specs.Prelude.{◌≤◌, length};
 ghost use Rattle.sheet_spec.specs.Says.{target_room};
 ghost use Rattle.program_reading_inner.specs.Says.{MostSays};
-ghost use Rattle.sheet_program_inner.specs.Says.{AnswerReady};
+ghost use Rattle.sheet_program_inner.specs.Says.{SheetReady, AnswerReady};
 
 use program_reading_inner::Most;
 use refusal::Refusal;
-use sheet_print_inner::{Answer, Job};
+use sheet_own_inner::RefusedLine;
+use sheet_print_inner::{Job, Rings, Stop};
 use std::rt::HostRuntime;
 
 // The number of standard error.
@@ -28,32 +29,37 @@ fn print_refusal(r: Refusal, buf: &mut [u8]) -> bool
 }
 
 // Writes the line of a refused line of the input.
-fn print_wrong(r: Refusal, j: usize, buf: &mut [u8]) -> bool
+fn print_wrong(wrong: RefusedLine, buf: &mut [u8]) -> bool
     requires { target_room ≤ length buf.old }
 {
-    let m = program_refusal_inner::place_refused_line(r, j, buf);
+    let m = program_refusal_inner::place_refused_line(wrong.refusal, wrong.line, buf);
     io::write_all(STDOUT_FILENO, &buf[..m])
 }
 
-// Writes what was made ready of an input: the sheet, or a refusal's line.
-fn print_job(job: Job, input: &[u8], buf: &mut [u8]) -> bool
-    requires answer_ready { AnswerReady input.now job.sheet job.places job.from job.count job.answer }
+// Writes a sheet that is ready.
+fn print_rings(job: Job, input: &[u8], buf: &mut [u8]) -> bool
+    requires rings_ready { SheetReady input.now job.sheet job.rings }
     requires target_room_in_bounds { target_room ≤ length buf.old }
 {
-    let answer = job.answer;
-    match answer {
-        Answer::Set => {
-            let places = job.places;
-            let written = sheet_write_inner::print_targets(job.sheet, &places, job.count, buf);
-            written.wrote
+    match job.rings {
+        Rings::Set(places, count) => {
+            sheet_write_inner::print_targets(job.sheet, &places, count, buf).is_ok()
         }
-        Answer::Own => {
-            let from = job.from;
-            let written = sheet_write_inner::print_lines(job.sheet, &input[from..], job.count, buf);
-            written.wrote
+        Rings::Own(from, count) => {
+            sheet_write_inner::print_lines(job.sheet, &input[from..], count, buf).is_ok()
         }
-        Answer::Refused(r) => print_refusal(r, buf),
-        Answer::Wrong(r, j) => print_wrong(r, j, buf),
+    }
+}
+
+// Writes what was made ready of an input: the sheet, or a refusal's line.
+fn print_job(job: Result<Job, Stop>, input: &[u8], buf: &mut [u8]) -> bool
+    requires answer_ready { AnswerReady input.now job }
+    requires target_room_in_bounds { target_room ≤ length buf.old }
+{
+    match job {
+        Ok(job) => print_rings(job, input, buf),
+        Err(Stop::Refused(r)) => print_refusal(r, buf),
+        Err(Stop::Wrong(wrong)) => print_wrong(wrong, buf),
     }
 }
 
@@ -73,9 +79,8 @@ fn print_input(most: Most, input: &[u8], buf: &mut [u8]) -> bool
     requires target_room_in_bounds { target_room ≤ length buf.old }
 {
     match most {
-        Most::Full => true,
         Most::Ended(got) => print_sheet(&input[..got], buf),
-        Most::Failed => true,
+        Most::Full | Most::Failed => true,
     }
 }
 

@@ -13,11 +13,7 @@ use sheet_spec::Source;
 pub fn is_own(s: Source) -> bool
     ensures { result ≡ is_own s }
 {
-    match s {
-        Source::Guarded => false,
-        Source::Plain => false,
-        Source::Own => true,
-    }
+    matches!(s, Source::Own)
 }
 
 // The rule of a set.
@@ -26,8 +22,7 @@ pub fn rule_of(s: Source) -> Rule
 {
     match s {
         Source::Guarded => Rule::Guarded,
-        Source::Plain => Rule::Plain,
-        Source::Own => Rule::Plain,
+        Source::Plain | Source::Own => Rule::Plain,
     }
 }
 
@@ -36,8 +31,5 @@ pub fn behind(s: &[u8], e: usize) -> usize
     requires { e ≤ length s.now }
     ensures { BehindLine s.now e result }
 {
-    if e < s.len() {
-        return e + 1;
-    }
-    e
+    s.len().min(e + 1)
 }

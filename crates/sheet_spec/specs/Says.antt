@@ -3,15 +3,14 @@
 --     target_room                     no text of a target is longer
 --     most_targets                    a sheet has no more
 --     sheet_order o w i m             the order, for target i of the sheet o, a reading w and a buffer of m bytes; `sheet-numbers`: by its numbers
---     TargetSays o w i last b r b'   the answer r, where the buffer held b before and holds b' after
+--     TargetSays o w i last b r b'   the answer r, how long the text is or a refusal, where the buffer held b before and holds b' after
 -- That no two answers satisfy it, the buffer included: proofs/Unique.
-use Rattle.std.specs.Prelude.{ℕ, ◌<◌, ◌≤◌, ◌≡◌, refl, Bool, List, [], ◌∷◌, length}
+use Rattle.std.specs.Prelude.{ℕ, ◌<◌, ◌≤◌, ◌≡◌, refl, Bool, List, [], ◌∷◌, length, Result, Ok, Err}
+use Rattle.refusal.specs.declared.Refusal.{Refusal}
 use Rattle.refusal.specs.declared.Refusal.TheVariants as F
 use Rattle.refusal.specs.Order.{Checks, fact, ◌▸◌, Passed, Given, numbered}
 use Rattle.refusal.specs.Calls.{one_reading}
 use Rattle.text_spec.specs.Put.{Placed}
-use Rattle.picture_spec.specs.declared.Drawn.{Drawn}
-use Rattle.picture_spec.specs.declared.Drawn.TheVariants.{Whole, Refused}
 use Rattle.sheet_spec.specs.declared.Sheet.{Sheet}
 use Rattle.sheet_spec.specs.Layout.{FitsPage}
 use Rattle.sheet_spec.specs.Text.{target_text}
@@ -29,6 +28,6 @@ sheet_order o w i m =
 pub sheet-numbers : (o : Sheet) (w : List ℕ) (i m : ℕ) → numbered (sheet_order o w i m) ≡ (1 ∷ 10 ∷ 2 ∷ 3 ∷ 4 ∷ 6 ∷ 5 ∷ 10 ∷ 12 ∷ 4 ∷ 4 ∷ [])
 sheet-numbers o w i m = refl
 
-abbrev pub TargetSays : Sheet → List ℕ → ℕ → Bool → List ℕ → Drawn → List ℕ → Type 0
-TargetSays o w i last b (Whole m) b' = Passed (sheet_order o w i (length b)) × Placed b 0 (target_text o i last w) m b' × (m ≤ target_room)
-TargetSays o w i last b (Refused r) b' = Given (sheet_order o w i (length b)) r × (b' ≡ b)
+abbrev pub TargetSays : Sheet → List ℕ → ℕ → Bool → List ℕ → Result ℕ Refusal → List ℕ → Type 0
+TargetSays o w i last b (Ok m) b' = Passed (sheet_order o w i (length b)) × Placed b 0 (target_text o i last w) m b' × (m ≤ target_room)
+TargetSays o w i last b (Err r) b' = Given (sheet_order o w i (length b)) r × (b' ≡ b)

@@ -1,27 +1,26 @@
 -- The words of a line one after another.
 --     number_is, no_number_lem               what a word is that is no name
+--     told                                   whether a text is a name
 --     word-1, word-2, word-3, word-4, word_none    what a word is, by the names that it is not
---     word_at                            where a word ends
---     words-all                          all words of a line
---     asked-on                           one word more
---     columns-said, columns-none, columns-fit    the columns of a sheet
---     reads_as                           what the line asks for
+--     split-pieces, asked-fold           all words of a line, one after another
 use Rattle.words.proofs.Plain.{ℕ, zero, suc, ◌+◌, ◌-◌, ◌/◌, ◌<◌, ◌≤◌, arith, dec_lt, ◌≡◌, refl, sym, ap, ◌∙◌, Bool, true, false, List, [], ◌∷◌, ltb, length}
-use Rattle.words.proofs.Plain.{take, drop, length-drop, take_all, drop-drop, lt-ltb, le-ltb}
+use Rattle.words.proofs.Plain.{eqb, lt-ltb, le-ltb}
+use mathlib.Core.Bool.{◌&&◌}
+use lib.Pointwise.{pointwise}
 use native.Mathlib.Nat.{div-eq_of_lt}
 use Rattle.words.specs.{Order.same, Search.least}
 use Rattle.words.proofs.Lex.{same_true, true_same, same_false}
-use Rattle.words.proofs.Split.{lt, eq, gt, tri}
+use Rattle.words.proofs.Split.{passes, fails, test}
 use Rattle.words.proofs.Search.{least-le, least_at, least-is}
 use Rattle.text_spec.specs.{Ascii.ascii, Decimal.decimal}
 use Rattle.text_spec.proofs.Digits.{decimal-one}
-use Rattle.text_words_spec.specs.Words.{pieces, PieceAt}
-use Rattle.text_words_spec.proofs.Pieces.{pieces-one, pieces_more}
+use Rattle.std.specs.List.{slice_split, onto_first, fold}
+use Rattle.text_words_spec.specs.Words.{pieces, onto}
 use Rattle.sheet_spec.specs.declared.Sheet.{Sheet}
 use Rattle.sheet_words_spec.specs.{declared.Word.Word, declared.Asked.Asked, declared.Awaits.Awaits}
 use Rattle.sheet_words_spec.specs.declared.Word.TheVariants as W
-use Rattle.sheet_words_spec.specs.Words.{number_in, called_by, number_or_other, word_of, nothing_asked, meant, asked, columns_for, with_columns, fitted, EndsWith}
-use Rattle.sheet_words_inner.specs.Says.{words_from, WordAt, EndsAs, ReadsAs}
+use Rattle.sheet_words_spec.specs.declared.Awaits.TheVariants as A
+use Rattle.sheet_words_spec.specs.Words.{number_in, called_by, number_or_other, word_of, nothing_asked, meant, asked, meant_name, awaiting, columns_for, with_columns, fitted, EndsWith}
 
 -- ---- a word
 
@@ -48,6 +47,17 @@ unfolding number_or_other
 no_number_lem t h = rw (le-ltb (number_in t) 1000 (number-none t h), number_or_other) refl
 
 -- ---- the names
+
+same-pointwise : (v w : List ℕ) → same v w ≡ pointwise eqb v w
+unfolding same
+same-pointwise [] [] = refl
+same-pointwise [] (b ∷ w) = refl
+same-pointwise (a ∷ v) [] = refl
+same-pointwise (a ∷ v) (b ∷ w) = ap (λ (x : Bool). eqb a b && x) (same-pointwise v w)
+
+-- whether a text is a name
+pub told : (t u name : List ℕ) (b : Bool) → u ≡ name → b ≡ pointwise eqb t u → same t name ≡ b
+told t u name b e f = same-pointwise t name ∙ sym (f ∙ ap (pointwise eqb t) e)
 
 called-yes : (t name : List ℕ) (v next : Word) → same t name ≡ true → v ≡ called_by t name v next
 called-yes t name v next e = sym (ap (λ (b : Bool). elim b [ true ↦ v | false ↦ next ]) e)
@@ -98,76 +108,23 @@ module _ (t : List ℕ) where
         pub word_none : same t (ascii "columns") ≡ false → (v : Word) → v ≡ number_or_other (number_in t) → v ≡ word_of t
         word_none e v f = f ∙ called-no t (ascii "columns") W.Columns (behind_columns t) e ∙ no_size
 
--- ---- where a word ends
+-- ---- the words
 
-inside : (t : List ℕ) (at : ℕ) → at ≤ length t → words_from t at ≡ pieces 32 (drop at t)
-unfolding words_from
-inside t at h = rw (le-ltb (length t) at h, words_from) refl
+onto-is : (a : ℕ) (us : List (List ℕ)) → onto_first a us ≡ onto a us
+unfolding onto
+onto-is a [] = refl
+onto-is a (u ∷ us) = refl
 
-behind : (t : List ℕ) (at : ℕ) → length t < at → words_from t at ≡ []
-unfolding words_from
-behind t at h = rw (lt-ltb (length t) at h, words_from) refl
+pub split-pieces : (sep : ℕ) (t : List ℕ) → slice_split (λ x. eqb x sep) t ≡ pieces sep t
+unfolding pieces onto
+split-pieces sep [] = refl
+split-pieces sep (a ∷ t) =
+    elim (test (eqb a sep)) [
+      | passes e ↦ rw (e, pieces) (ap (λ (us : List (List ℕ)). [] ∷ us) (split-pieces sep t))
+      | fails e ↦ rw (e, pieces) (rw (split-pieces sep t) (onto-is a (pieces sep t)))
+    ]
 
-pub word_at : (t : List ℕ) (at e : ℕ) → at ≤ length t → PieceAt 32 (take (length t - at) (drop at t)) e → WordAt t at (at + e)
-word_at t at e h q =
-    let l = length-drop at t in
-    let p : PieceAt 32 (drop at t) e = rw (take_all (length t - at) (drop at t) (omega (arith, l))) at q in
-    let d : at + e - at ≡ e = omega arith in
-    record {
-      from = omega arith;
-      within = omega (arith, p.within, l);
-      first =
-          rw d (inside t at h
-          ∙ elim (dec_lt e (length (drop at t))) [
-            | yes z ↦
-                let w : words_from t (at + e + 1) ≡ pieces 32 (drop (at + e + 1) t) = inside t (at + e + 1) (omega (arith, l, z)) in
-                let g : at + (e + 1) ≡ at + e + 1 = omega arith in
-                let f : drop (e + 1) (drop at t) ≡ drop (at + e + 1) t = drop-drop (e + 1) at t ∙ ap (λ (x : ℕ). drop x t) g in
-                pieces_more 32 (drop at t) e p z ∙ ap (λ (x : List (List ℕ)). take e (drop at t) ∷ x) (ap (pieces 32) f ∙ sym w)
-            | no z ↦
-                let w : words_from t (at + e + 1) ≡ [] = behind t (at + e + 1) (omega (arith, l, z)) in
-                pieces-one 32 (drop at t) e p (omega arith) ∙ ap (λ (x : List ℕ). x ∷ []) (sym (take_all e (drop at t) (omega arith)))
-                ∙ ap (λ (x : List (List ℕ)). take e (drop at t) ∷ x) (sym w)
-          ]);
-    }
-
--- how long the rest of a line is
-pub length_rest : (t : List ℕ) (at : ℕ) → length (take (length t - at) (drop at t)) ≡ length t - at
-length_rest t at = let l = length-drop at t in rw (take_all (length t - at) (drop at t) (omega (arith, l))) l
-
--- all words of a line
-pub words-all : (t : List ℕ) → words_from t 0 ≡ pieces 32 t
-words-all t = inside t 0 (omega arith)
-
--- one word more
-pub asked-on : (t : List ℕ) (at e : ℕ) → WordAt t at e → (a b : Asked) (v : Word) → v ≡ word_of (take (e - at) (drop at t)) → b ≡ meant v a → asked (words_from t (e + 1)) b ≡ asked (words_from t at) a
+pub asked-fold : (us : List (List ℕ)) (a : Asked) → fold (λ b w. meant (word_of w) b) a us ≡ asked us a
 unfolding asked
-asked-on t at e w a b v p q = ap (asked (words_from t (e + 1))) (q ∙ ap (λ (x : Word). meant x a) p) ∙ sym (ap (λ (us : List (List ℕ)). asked us a) w.first)
-
-pub asked-end : (t : List ℕ) (at : ℕ) (a : Asked) → length t < at → asked (words_from t at) a ≡ a
-unfolding asked
-asked-end t at a h = rw (behind t at h) refl
-
--- ---- the columns
-
-columns-some : (s c : ℕ) → (c ≡ 0 → ⊥) → columns_for s c ≡ c
-columns-some s zero n = absurd (n refl)
-columns-some s (suc c) n = refl
-
-pub columns-said : (o : Sheet) → (o.columns ≡ 0 → ⊥) → o ≡ fitted o
-columns-said o n = ap (λ (x : ℕ). with_columns x o) (sym (columns-some o.size o.columns n))
-
-pub columns-fit : (o r : Sheet) → o.columns ≡ 0 → r ≡ with_columns (210 / (o.size + 14)) o → r ≡ fitted o
-columns-fit o r e q = q ∙ ap (λ (x : ℕ). with_columns x o) (rw e refl)
-
-pub columns-none : (o r : Sheet) → o.columns ≡ 0 → 196 < o.size → r ≡ with_columns 0 o → r ≡ fitted o
-columns-none o r e h q = columns-fit o r e (q ∙ ap (λ (x : ℕ). with_columns x o) (sym (div-eq_of_lt {n = 210} {m = o.size + 14} (omega arith))))
-
--- ---- a line
-
-pub reads_as : (t : List ℕ) (first a : Asked) (q : Sheet) (good : Bool) → first ≡ nothing_asked → a ≡ asked (words_from t 0) first → EndsAs a.awaits a.sheet q good → ReadsAs t q good
-reads_as t first a q good e f x = go good (rw (f ∙ ap (λ (us : List (List ℕ)). asked us first) (words-all t) ∙ ap (asked (pieces 32 t)) e) at x)
-  where
-    go : (g : Bool) → EndsAs (asked (pieces 32 t) nothing_asked).awaits (asked (pieces 32 t) nothing_asked).sheet q g → ReadsAs t q g
-    go true y = y
-    go false y = y
+asked-fold [] a = refl
+asked-fold (w ∷ us) a = asked-fold us (meant (word_of w) a)

@@ -13,41 +13,34 @@ use sheet_spec::Sheet;
 // The number of standard output.
 const STDOUT_FILENO: i32 = 1;
 
-// How far a sheet was written: whether the last text could be, and how many targets before that.
-#[derive(Clone, Copy)]
-pub struct Written {
-    pub wrote: bool,
-    pub targets: usize,
-}
-
-// Writes each target of a sheet that is ready, in order. Where a write fails, nothing more is written.
-pub fn print_targets(sheet: Sheet, places: &[u8], count: usize, buf: &mut [u8]) -> Written
+// Writes each target of a sheet that is ready, in order, and answers how many. Where a write fails, nothing more is written: then it answers how many were before.
+// by hand: the place goes with the count that is told, by which the contract refuses a target that is left out.
+pub fn print_targets(
+    sheet: Sheet,
+    places: &[u8],
+    count: usize,
+    buf: &mut [u8],
+) -> Result<usize, usize>
     requires ready_set { ReadySet sheet places.now count }
     requires target_room_in_bounds { target_room ≤ length buf.old }
-    ensures { AllWritten result.wrote result.targets count }
+    ensures { AllWritten result count }
 {
     let mut i = 0;
     while i < count {
         let m = sheet_places_inner::place_step(sheet, places, count, i, buf);
         if !io::write_all(STDOUT_FILENO, &buf[..m]) {
-            return Written {
-                wrote: false,
-                targets: i,
-            };
+            return Err(i);
         }
         i += 1;
     }
-    Written {
-        wrote: true,
-        targets: i,
-    }
+    Ok(i)
 }
 
 // The same of rings of one's own, which are the lines of a text.
-pub fn print_lines(sheet: Sheet, text: &[u8], count: usize, buf: &mut [u8]) -> Written
+pub fn print_lines(sheet: Sheet, text: &[u8], count: usize, buf: &mut [u8]) -> Result<usize, usize>
     requires ready_own { ReadyOwn sheet (lines text.now) count }
     requires target_room_in_bounds { target_room ≤ length buf.old }
-    ensures { AllWritten result.wrote result.targets count }
+    ensures { AllWritten result count }
 {
     let mut at = 0;
     let mut j = 0;
@@ -55,16 +48,10 @@ pub fn print_lines(sheet: Sheet, text: &[u8], count: usize, buf: &mut [u8]) -> W
         let step = sheet_own_target_inner::place_next(sheet, text, at, j, count, buf);
         let m = step.length;
         if !io::write_all(STDOUT_FILENO, &buf[..m]) {
-            return Written {
-                wrote: false,
-                targets: j,
-            };
+            return Err(j);
         }
         at = step.next;
         j += 1;
     }
-    Written {
-        wrote: true,
-        targets: j,
-    }
+    Ok(j)
 }

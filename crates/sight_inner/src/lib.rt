@@ -25,7 +25,7 @@ fn decide(rings: &[u8], reading: &[u8], back: &[u8], most: usize) -> Sighting
                 Sighting::Front {
                     target: j,
                     shift: t.shift,
-                    misread: t.misread,
+                    misread: t.distance,
                 }
             }
         },
@@ -36,7 +36,7 @@ fn decide(rings: &[u8], reading: &[u8], back: &[u8], most: usize) -> Sighting
                 Sighting::Back {
                     target: j,
                     shift: t.shift,
-                    misread: t.misread,
+                    misread: t.distance,
                 }
             }
             Near::Nobody => Sighting::Unknown,

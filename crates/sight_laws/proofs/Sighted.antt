@@ -5,10 +5,11 @@
 --     sighted-once     never several, where 2 e is below d
 --     front-missed     with x misread, where x and e together are below d, that ring, from the front, turned by i, or Unknown: never another and never the wrong side
 --     back-missed      the same from behind
+use Rattle.std.specs.Prelude.{Ok}
 use Rattle.words.proofs.Plain.{ℕ, ◌+◌, ◌*◌, ◌<◌, ◌≤◌, arith, ◌≡◌, refl, sym, ap, subst, ◌∙◌, Bool, List, [], reverse, length, get_or, length-reverse}
 use Rattle.words.specs.{Turn.turn, Readings.Reading}
 use Rattle.rings.specs.Alike.{differing, apart, mirrored}
-use Rattle.refusal.specs.{Order.Passed, declared.Checked.TheVariants.Good}
+use Rattle.refusal.specs.Order.{Passed}
 use Rattle.home_spec.specs.Turns.{nearest_turn, Steady}
 use Rattle.home_turns_laws.proofs.Nearest.{nearest-at, nearest-is}
 use Rattle.set_spec.specs.{Worth.Spread, Places.place_at, Places.set_in}
@@ -26,8 +27,8 @@ use Rattle.sight_laws.proofs.Tells.{OrUnknown, told, missed, never-several, fron
 
 -- the answer p, t, f of `pick_guarded`, what `lay_out` left in the output, and the answer a of `sight` for a reading r
 module _
-    (n k d want : ℕ) (p : List ℕ) (t : ℕ) (f : Bool) (c : GuardChosen n k d want p t f) (b rs : List ℕ) (o : LayoutSays n p t b Good rs) (e : ℕ) (r : List ℕ)
-    (read : Reading n k r) (a : Sighting) (s : SightSays rs r k e a) where
+    (n k d want : ℕ) (p : List ℕ) (t : ℕ) (f : Bool) (c : GuardChosen n k d want p t f) (b rs : List ℕ) (o : LayoutSays n p t b (Ok tt) rs) (e : ℕ) (r : List ℕ)
+    (read : Reading n k r) (a : Sighting) (s : SightSays rs r k e (Ok a)) where
   abbrev ts : List (List ℕ)
   ts = set_in n p t
 
@@ -85,7 +86,7 @@ module _
       go : OrUnknown a (Front j (nearest_turn r (ring_at (length r) rs j)) (apart r (ring_at (length r) rs j))) → OrUnknown a (Front j i (differing (turn i r) (place_at n p j)))
       go (missed q) = missed q
       go (told q) =
-          let m = (front-means rs r k e j _ _ (subst (SightSays rs r k e) q s)).1 in
+          let m = (front-means rs r k e j _ _ (subst (λ y. SightSays rs r k e (Ok y)) q s)).1 in
           let w = turned_right x small r read.long j i h l near (rw (ring j h) at m) in
           told (q ∙ rw (ring j h, w.0, w.1) refl)
 
@@ -105,7 +106,7 @@ module _
           (Back j i (differing (turn i (reverse r)) (place_at n p j)))
       go (missed q) = missed q
       go (told q) =
-          let m = (back-means rs r k e j _ _ (subst (SightSays rs r k e) q s)).1 in
+          let m = (back-means rs r k e j _ _ (subst (λ y. SightSays rs r k e (Ok y)) q s)).1 in
           let w = turned_right x small (reverse r) back_long j i h l near (omega (arith, other, rw (ring j h) at m)) in
           told (q ∙ rw (ring j h, other, w.0, w.1) refl)
 
@@ -119,9 +120,9 @@ module _
   module _ (small : 2 * e < d) where
     pub sighted-back : (j i : ℕ) → j < t → i < n → differing (turn i (reverse r)) (place_at n p j) ≤ e → a ≡ Back j i (differing (turn i (reverse r)) (place_at n p j))
     sighted-back j i h l near =
-        seen (Back j i (differing (turn i (reverse r)) (place_at n p j))) (λ q. not-unknown (subst (SightSays rs r k e) q s)) (back-missed e (omega arith) j i h l near)
+        seen (Back j i (differing (turn i (reverse r)) (place_at n p j))) (λ q. not-unknown (subst (λ y. SightSays rs r k e (Ok y)) q s)) (back-missed e (omega arith) j i h l near)
       where
-        not-unknown : SightSays rs r k e Unknown → ⊥
+        not-unknown : SightSays rs r k e (Ok Unknown) → ⊥
         not-unknown u =
             let z = other-side r (place_at n p j) (omega (arith, read.long)) (read.long ∙ sym (size j h)) in
             back-seen-not rs r k e j u (within j h) (rw (ring j h) (omega (arith, z, close e (omega arith) (reverse r) (length-reverse r ∙ read.long) j i h l near)))

@@ -3,6 +3,7 @@
 --     front-or-none, back-or-none    where the sectors misread and those looked for are together below the distance, it is that ring or Unknown: never another, nor from the wrong side
 --     front-seen-not, back-seen-not  it is not Unknown where no more are misread than are looked for, guarded or not
 --     front-means, back-means    turned as the answer says, the reading, or its reversal, differs from the ring at as many places as it says, and these are no more than may be misread
+use Rattle.std.specs.Prelude.{Ok}
 use Rattle.words.proofs.Plain.{ℕ, ◌+◌, ◌*◌, ◌/◌, ◌<◌, ◌≤◌, arith, ◌≡◌, refl, sym, List, [], reverse, length, get_or, length-reverse}
 use Rattle.words.specs.Turn.{turn}
 use Rattle.words.proofs.Split.{lt, eq, gt, tri}
@@ -19,9 +20,9 @@ use Rattle.sight_spec.specs.declared.Sighting.TheVariants.{Front, Back, Several,
 use Rattle.sight_spec.specs.Rings.{ring_at, rings_in, sight_order}
 use Rattle.sight_spec.specs.Says.{Alone, None, SightSays}
 use Rattle.sight_spec.proofs.Rings.{length-first, first-at, ring-length, rings-long}
-use Rattle.sight_spec.proofs.Unique.{alone-two, one-sight}
+use Rattle.sight_spec.proofs.Unique.{alone-two, one-seen}
 
-module _ (rs r : List ℕ) (k e d : ℕ) (p : Passed (sight_order r rs k)) (g : Spread d (sides (rings_in (length r) rs))) (small : 2 * e < d) (a : Sighting) (s : SightSays rs r k e a) where
+module _ (rs r : List ℕ) (k e d : ℕ) (p : Passed (sight_order r rs k)) (g : Spread d (sides (rings_in (length r) rs))) (small : 2 * e < d) (a : Sighting) (s : SightSays rs r k e (Ok a)) where
   abbrev ts : List (List ℕ)
   ts = rings_in (length r) rs
 
@@ -47,7 +48,7 @@ module _ (rs r : List ℕ) (k e d : ℕ) (p : Passed (sight_order r rs k)) (g : 
   pub never-several : a ≡ Several → ⊥
   never-several q = two-seen (rw q at s)
     where
-      two-seen : SightSays rs r k e Several → ⊥
+      two-seen : SightSays rs r k e (Ok Several) → ⊥
       two-seen t = alone-two e (sides ts) r t.1.one (only t.1.one (omega (arith, t.1.order, t.1.inside)) t.1.near) t.1
 
 -- ---- more misread than is looked for
@@ -58,7 +59,7 @@ pub data OrUnknown (a b : Sighting) : Type 0 where
   missed : a ≡ Unknown → OrUnknown a b
 
 -- x sectors are misread, and rings are looked for with up to e: where both together are below d, no other ring and no other side is ever told
-module _ (rs r : List ℕ) (k e d x : ℕ) (p : Passed (sight_order r rs k)) (g : Spread d (sides (rings_in (length r) rs))) (small : x + e < d) (a : Sighting) (s : SightSays rs r k e a) where
+module _ (rs r : List ℕ) (k e d x : ℕ) (p : Passed (sight_order r rs k)) (g : Spread d (sides (rings_in (length r) rs))) (small : x + e < d) (a : Sighting) (s : SightSays rs r k e (Ok a)) where
   abbrev rings : List (List ℕ)
   rings = rings_in (length r) rs
 
@@ -84,27 +85,27 @@ module _ (rs r : List ℕ) (k e d x : ℕ) (p : Passed (sight_order r rs k)) (g 
   pub front-or-none : (t : ℕ) → t < length rings → apart r (ring_at (length r) rs t) ≤ x → OrUnknown a (Front t (nearest_turn r (ring_at (length r) rs t)) (apart r (ring_at (length r) rs t)))
   front-or-none t h near =
       settled t (omega (arith, length-sides rings)) (rw (front_at rings t h, placed t h) near)
-      (λ o. told (one-sight rs r k e a (Front t (nearest_turn r (ring_at (length r) rs t)) (apart r (ring_at (length r) rs t))) s (p, record { target = h; alone = o; turned = refl; misread = refl })))
-      (λ o. missed (one-sight rs r k e a Unknown s (p, o)))
+      (λ o. told (one-seen rs r k e a (Front t (nearest_turn r (ring_at (length r) rs t)) (apart r (ring_at (length r) rs t))) s.1 (record { target = h; alone = o; turned = refl; misread = refl })))
+      (λ o. missed (one-seen rs r k e a Unknown s.1 o))
 
   -- a ring seen from behind: that ring, from behind, or none
   pub back-or-none : (t : ℕ) → t < length rings → apart r (mirrored (ring_at (length r) rs t)) ≤ x → OrUnknown a
       (Back t (nearest_turn (reverse r) (ring_at (length r) rs t)) (apart r (mirrored (ring_at (length r) rs t))))
   back-or-none t h near =
       settled (length rings + t) (omega (arith, length-sides rings)) (rw (back_at rings t h, placed t h) near)
-      (λ o. told (one-sight rs r k e a (Back t (nearest_turn (reverse r) (ring_at (length r) rs t)) (apart r (mirrored (ring_at (length r) rs t)))) s
-      (p, record { target = h; alone = o; turned = refl; misread = refl }))) (λ o. missed (one-sight rs r k e a Unknown s (p, o)))
+      (λ o. told (one-seen rs r k e a (Back t (nearest_turn (reverse r) (ring_at (length r) rs t)) (apart r (mirrored (ring_at (length r) rs t)))) s.1
+      (record { target = h; alone = o; turned = refl; misread = refl }))) (λ o. missed (one-seen rs r k e a Unknown s.1 o))
 
 -- what an answer means, guarded or not
 module _ (rs r : List ℕ) (k e t i x : ℕ) where
-  pub front-means : SightSays rs r k e (Front t i x) → (differing (turn i r) (ring_at (length r) rs t) ≡ x) × (x ≤ e)
+  pub front-means : SightSays rs r k e (Ok (Front t i x)) → (differing (turn i r) (ring_at (length r) rs t) ≡ x) × (x ≤ e)
   front-means s =
       let m = length-first (length r) rs (length rs / length r) in
       let f : t < length rs / length r = omega (arith, s.1.target) in
       let near = rw (front_at (rings_in (length r) rs) t s.1.target, first-at (length r) rs (length rs / length r) t f) at s.1.alone.near in
       (rw (s.1.turned, s.1.misread) (nearest-at r (ring_at (length r) rs t) s.0.0.0.0.0), omega (arith, s.1.misread))
 
-  pub back-means : SightSays rs r k e (Back t i x) → (differing (turn i (reverse r)) (ring_at (length r) rs t) ≡ x) × (x ≤ e)
+  pub back-means : SightSays rs r k e (Ok (Back t i x)) → (differing (turn i (reverse r)) (ring_at (length r) rs t) ≡ x) × (x ≤ e)
   back-means s =
       let some : 0 < length r = s.0.0.0.0.0 in
       let m = length-first (length r) rs (length rs / length r) in
@@ -114,7 +115,7 @@ module _ (rs r : List ℕ) (k e t i x : ℕ) where
       (rw (s.1.turned, s.1.misread, o) (nearest-at (reverse r) (ring_at (length r) rs t) (rw (length-reverse r) some)), omega (arith, s.1.misread))
 
 -- a side that is near is not Unknown
-module _ (rs r : List ℕ) (k e t : ℕ) (s : SightSays rs r k e Unknown) (h : t < length (rings_in (length r) rs)) where
+module _ (rs r : List ℕ) (k e t : ℕ) (s : SightSays rs r k e (Ok Unknown)) (h : t < length (rings_in (length r) rs)) where
   abbrev us : List (List ℕ)
   us = rings_in (length r) rs
 

@@ -1,10 +1,10 @@
 -- Looking for the rings that are near a reading r, among rings rs that lie end to end.
 --     FarTo e rs r from j                           the rings from `from` up to j are further than e from r
---     far-start, far-on, far-found, far-end         the search for the first ring that is near
---     part-near, part-far                           what is told of the part of the rings that the code lends
+--     far-on                                        one ring more
+--     part-far                                      what is told of the part of the rings that the code lends
 --     near_none, near-one, near-two                 which are near, by two searches
-use Rattle.words.proofs.Plain.{ℕ, suc, ◌+◌, ◌-◌, ◌*◌, ◌/◌, ◌<◌, ◌≤◌, min, arith, ◌≡◌, refl, sym, ap, ◌∙◌, Bool, true, false, List, [], ltb, length, get_or, take}
-use Rattle.words.proofs.Plain.{drop, ltb-true, ltb-false}
+use Rattle.words.proofs.Plain.{ℕ, suc, ◌+◌, ◌-◌, ◌*◌, ◌/◌, ◌<◌, ◌≤◌, min, arith, ◌≡◌, refl, sym, ap, ◌∙◌, Bool, false, List, [], ltb, length, get_or, take}
+use Rattle.words.proofs.Plain.{drop, ltb-false}
 use Rattle.words.proofs.Split.{lt, eq, gt, tri}
 use Rattle.rings.specs.Alike.{apart}
 use Rattle.ring_home_laws.proofs.Alike.{apart-le}
@@ -20,27 +20,15 @@ use Rattle.sight_near_inner.specs.Says.{FirstNear}
 abbrev pub FarTo : ℕ → List ℕ → List ℕ → ℕ → ℕ → Type 0
 FarTo e rs r from j = (i : ℕ) → from ≤ i → i < j → e < apart r (ring_at (length r) rs i)
 
-pub far-start : (e : ℕ) (rs r : List ℕ) (from : ℕ) → FarTo e rs r from from
-far-start e rs r from i h l = absurd (omega arith)
-
 pub far-on : (e : ℕ) (rs r : List ℕ) (from j : ℕ) → FarTo e rs r from j → e < apart r (ring_at (length r) rs j) → FarTo e rs r from (j + 1)
 far-on e rs r from j f h i l m =
     elim (tri i j) [ lt o ↦ f i l o | eq o ↦ omega (arith, ap (λ (y : ℕ). apart r (ring_at (length r) rs y)) o) | gt o ↦ absurd (omega arith) ]
-
-pub far-found : (e : ℕ) (rs r : List ℕ) (from j : ℕ) → FarTo e rs r from j → from ≤ j → j < length rs / length r → apart r (ring_at (length r) rs j) ≤ e → FirstNear e rs r from j
-far-found e rs r from j f o h l = record { on = o; within = omega arith; passed = f; here = λ m. l }
-
-pub far-end : (e : ℕ) (rs r : List ℕ) (from j : ℕ) → FarTo e rs r from j → from ≤ j → j ≤ length rs / length r → length rs / length r ≤ j → FirstNear e rs r from j
-far-end e rs r from j f o h l = record { on = o; within = h; passed = f; here = λ m. absurd (omega arith) }
 
 -- what is told of the part that the code lends, where a turn is given up at one more sector than may be misread, or than there are
 module _ (e : ℕ) (rs r : List ℕ) (j limit : ℕ) (b : Bool) (q : limit ≡ suc (min (length r) e))
     (s : b ≡ ltb (apart r (take (length r * j + length r - length r * j) (drop (length r * j) rs))) limit) where
   told : b ≡ ltb (apart r (ring_at (length r) rs j)) limit
   told = s ∙ ap (λ (w : List ℕ). ltb (apart r w) limit) (part-ring rs (length r) j (length r * j) (length r * j + length r) refl refl)
-
-  pub part-near : b ≡ true → apart r (ring_at (length r) rs j) ≤ e
-  part-near h = omega (arith, q, ltb-true (apart r (ring_at (length r) rs j)) limit (sym told ∙ h))
 
   pub part-far : b ≡ false → e < apart r (ring_at (length r) rs j)
   part-far h = omega (arith, q, ltb-false (apart r (ring_at (length r) rs j)) limit (sym told ∙ h), apart-le r (ring_at (length r) rs j))

@@ -19,10 +19,7 @@ fn limit_of(n: usize, most: usize) -> usize
     requires { n ≤ 64 }
     ensures { result ≡ suc (min n most) }
 {
-    if n <= most {
-        return n + 1;
-    }
-    most + 1
+    n.min(most) + 1
 }
 
 // The first ring from the number `from` on that is at most `most` apart from the reading, or how many rings there are. A turn is given up once it differs at too many sectors.
@@ -33,16 +30,13 @@ fn first_near(rings: &[u8], reading: &[u8], from: usize, most: usize) -> usize
     let n = reading.len();
     let m = rings.len() / n;
     let limit = limit_of(n, most);
-    let mut j = from;
-    while j < m {
+    for j in from..m {
         let at = n * j;
-        let end = at + n;
-        if home_nearest_inner::is_nearer(reading, &rings[at..end], limit) {
+        if home_nearest_inner::is_nearer(reading, &rings[at..at + n], limit) {
             return j;
         }
-        j += 1;
     }
-    j
+    m
 }
 
 // Which of the rings are near.

@@ -1,14 +1,15 @@
 -- No two different answers satisfy the contract of a sighting.
 --     one-alone, alone-two    one that is alone is the only one, and there are not two
---     one-sight               the call has one answer
+--     one-seen, one-sight     one thing is seen, and the call has one answer
+use Rattle.std.specs.Prelude.{Result, Ok, Err}
 use Rattle.words.proofs.Plain.{ℕ, ◌+◌, arith, ◌≡◌, refl, ap, List, length}
 use Rattle.words.proofs.Split.{lt, eq, gt, tri}
-use Rattle.refusal.specs.{declared.Refusal.Refusal, Order.Given, Order.Passed}
+use Rattle.refusal.specs.declared.Refusal.{Refusal}
 use Rattle.refusal.proofs.Unique.{one-refusal, never_both}
 use Rattle.guard_spec.specs.Sides.{sides}
 use Rattle.sight_spec.specs.{declared.Sighting.Sighting, Rings.rings_in, Rings.sight_order}
-use Rattle.sight_spec.specs.declared.Sighting.TheVariants.{Front, Back, Several, Unknown, Refused}
-use Rattle.sight_spec.specs.Says.{Alone, Two, None, SeenFront, SeenBack, SightSays}
+use Rattle.sight_spec.specs.declared.Sighting.TheVariants.{Front, Back, Several, Unknown}
+use Rattle.sight_spec.specs.Says.{Alone, Two, None, SeenFront, SeenBack, Seen, SightSays}
 
 -- ---- among any readings
 
@@ -56,33 +57,28 @@ module _ (rs r : List ℕ) (k e : ℕ) where
   not-both : (t s i j x y : ℕ) → SeenFront rs r e t i x → SeenBack rs r e s j y → ⊥
   not-both t s i j x y p q = omega (arith, p.target, one-alone e (sides ts) r t (length ts + s) p.alone q.alone)
 
-  refused-not : (q : Refusal) → Given (sight_order r rs k) q → Passed (sight_order r rs k) → ⊥
-  refused-not q = never_both (sight_order r rs k) q
+  -- one thing is seen
+  pub one-seen : (a b : Sighting) → Seen rs r e a → Seen rs r e b → a ≡ b
+  one-seen (Front t i x) (Front s j y) p q = same-front t s i j x y p q
+  one-seen (Front t i x) (Back s j y) p q = absurd (not-both t s i j x y p q)
+  one-seen (Front t i x) Several p q = absurd (alone-two e (sides ts) r t p.alone q)
+  one-seen (Front t i x) Unknown p q = absurd (alone-none e (sides ts) r t p.alone q)
+  one-seen (Back t i x) (Front s j y) p q = absurd (not-both s t j i y x q p)
+  one-seen (Back t i x) (Back s j y) p q = same_back t s i j x y p q
+  one-seen (Back t i x) Several p q = absurd (alone-two e (sides ts) r (length ts + t) p.alone q)
+  one-seen (Back t i x) Unknown p q = absurd (alone-none e (sides ts) r (length ts + t) p.alone q)
+  one-seen Several (Front s j y) p q = absurd (alone-two e (sides ts) r s q.alone p)
+  one-seen Several (Back s j y) p q = absurd (alone-two e (sides ts) r (length ts + s) q.alone p)
+  one-seen Several Several p q = refl
+  one-seen Several Unknown p q = absurd (two_none e (sides ts) r p q)
+  one-seen Unknown (Front s j y) p q = absurd (alone-none e (sides ts) r s q.alone p)
+  one-seen Unknown (Back s j y) p q = absurd (alone-none e (sides ts) r (length ts + s) q.alone p)
+  one-seen Unknown Several p q = absurd (two_none e (sides ts) r q p)
+  one-seen Unknown Unknown p q = refl
 
   -- the call has one answer
-  pub one-sight : (a b : Sighting) → SightSays rs r k e a → SightSays rs r k e b → a ≡ b
-  one-sight (Front t i x) (Front s j y) p q = same-front t s i j x y p.1 q.1
-  one-sight (Front t i x) (Back s j y) p q = absurd (not-both t s i j x y p.1 q.1)
-  one-sight (Front t i x) Several p q = absurd (alone-two e (sides ts) r t p.1.alone q.1)
-  one-sight (Front t i x) Unknown p q = absurd (alone-none e (sides ts) r t p.1.alone q.1)
-  one-sight (Front t i x) (Refused c) p q = absurd (refused-not c q p.0)
-  one-sight (Back t i x) (Front s j y) p q = absurd (not-both s t j i y x q.1 p.1)
-  one-sight (Back t i x) (Back s j y) p q = same_back t s i j x y p.1 q.1
-  one-sight (Back t i x) Several p q = absurd (alone-two e (sides ts) r (length ts + t) p.1.alone q.1)
-  one-sight (Back t i x) Unknown p q = absurd (alone-none e (sides ts) r (length ts + t) p.1.alone q.1)
-  one-sight (Back t i x) (Refused c) p q = absurd (refused-not c q p.0)
-  one-sight Several (Front s j y) p q = absurd (alone-two e (sides ts) r s q.1.alone p.1)
-  one-sight Several (Back s j y) p q = absurd (alone-two e (sides ts) r (length ts + s) q.1.alone p.1)
-  one-sight Several Several p q = refl
-  one-sight Several Unknown p q = absurd (two_none e (sides ts) r p.1 q.1)
-  one-sight Several (Refused c) p q = absurd (refused-not c q p.0)
-  one-sight Unknown (Front s j y) p q = absurd (alone-none e (sides ts) r s q.1.alone p.1)
-  one-sight Unknown (Back s j y) p q = absurd (alone-none e (sides ts) r (length ts + s) q.1.alone p.1)
-  one-sight Unknown Several p q = absurd (two_none e (sides ts) r q.1 p.1)
-  one-sight Unknown Unknown p q = refl
-  one-sight Unknown (Refused c) p q = absurd (refused-not c q p.0)
-  one-sight (Refused b) (Front s j y) p q = absurd (refused-not b p q.0)
-  one-sight (Refused b) (Back s j y) p q = absurd (refused-not b p q.0)
-  one-sight (Refused b) Several p q = absurd (refused-not b p q.0)
-  one-sight (Refused b) Unknown p q = absurd (refused-not b p q.0)
-  one-sight (Refused b) (Refused c) p q = ap Refused (one-refusal (sight_order r rs k) b c p q)
+  pub one-sight : (a b : Result Sighting Refusal) → SightSays rs r k e a → SightSays rs r k e b → a ≡ b
+  one-sight (Ok a) (Ok b) p q = ap Ok (one-seen a b p.1 q.1)
+  one-sight (Ok a) (Err c) p q = absurd (never_both (sight_order r rs k) c q p.0)
+  one-sight (Err c) (Ok a) p q = absurd (never_both (sight_order r rs k) c p q.0)
+  one-sight (Err b) (Err c) p q = ap Err (one-refusal (sight_order r rs k) b c p q)

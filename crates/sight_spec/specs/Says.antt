@@ -5,13 +5,14 @@
 --     Seen rs r e a                    what is seen, where e sectors may be misread
 --     SightSays rs r k e a             what the answer a promises
 -- That no two answers fit: proofs/Unique. What is answered where the rings are guarded: `sight_laws`.
-use Rattle.std.specs.Prelude.{ℕ, ◌+◌, ◌<◌, ◌≤◌, ◌≡◌, List, [], reverse, length, get_or}
+use Rattle.std.specs.Prelude.{ℕ, ◌+◌, ◌<◌, ◌≤◌, ◌≡◌, List, [], reverse, length, get_or, Result, Ok, Err}
 use Rattle.rings.specs.Alike.{apart, mirrored}
+use Rattle.refusal.specs.declared.Refusal.{Refusal}
 use Rattle.refusal.specs.Order.{Given, Passed}
 use Rattle.home_spec.specs.Turns.{nearest_turn}
 use Rattle.guard_spec.specs.Sides.{sides}
 use Rattle.sight_spec.specs.declared.Sighting.{Sighting}
-use Rattle.sight_spec.specs.declared.Sighting.TheVariants.{Front, Back, Several, Unknown, Refused}
+use Rattle.sight_spec.specs.declared.Sighting.TheVariants.{Front, Back, Several, Unknown}
 use Rattle.sight_spec.specs.Rings.{ring_at, rings_in, sight_order}
 
 -- of us the one number j, and no other, is at most e apart from r
@@ -53,12 +54,8 @@ Seen rs r e (Front t i x) = SeenFront rs r e t i x
 Seen rs r e (Back t i x) = SeenBack rs r e t i x
 Seen rs r e Several = Two e (sides (rings_in (length r) rs)) r
 Seen rs r e Unknown = None e (sides (rings_in (length r) rs)) r
-Seen rs r e (Refused q) = ⊥
 
 -- where no check fails, what is seen
-abbrev pub SightSays : List ℕ → List ℕ → ℕ → ℕ → Sighting → Type 0
-SightSays rs r k e (Front t i x) = Passed (sight_order r rs k) × Seen rs r e (Front t i x)
-SightSays rs r k e (Back t i x) = Passed (sight_order r rs k) × Seen rs r e (Back t i x)
-SightSays rs r k e Several = Passed (sight_order r rs k) × Seen rs r e Several
-SightSays rs r k e Unknown = Passed (sight_order r rs k) × Seen rs r e Unknown
-SightSays rs r k e (Refused q) = Given (sight_order r rs k) q
+abbrev pub SightSays : List ℕ → List ℕ → ℕ → ℕ → Result Sighting Refusal → Type 0
+SightSays rs r k e (Ok a) = Passed (sight_order r rs k) × Seen rs r e a
+SightSays rs r k e (Err q) = Given (sight_order r rs k) q

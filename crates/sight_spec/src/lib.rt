@@ -2,8 +2,6 @@
 
 #![tactic(auto)]
 
-use refusal::Refusal;
-
 // The one ring that is seen, from the front or from behind: its number in the set, how many turns bring the reading, or the reading reversed where it is seen from behind, to it,
 // and how many sectors then differ. Or several rings, or sides of rings, are seen, or none is.
 #[derive(Clone, Copy)]
@@ -20,5 +18,4 @@ pub enum Sighting {
     },
     Several,
     Unknown,
-    Refused(Refusal),
 }

@@ -24,5 +24,5 @@ const HOMES: [u8; 256] = [
 pub fn stock_home(b: u8) -> u8
     ensures { result ≡ home_byte b }
 {
-    HOMES[b as usize]
+    HOMES[usize::from(b)]
 }

@@ -5,16 +5,16 @@ use Rattle.words.proofs.Plain.{ℕ, ◌≤◌, arith, ◌≡◌, List, length, t
 use Rattle.text_spec.specs.Ascii.{newline}
 use Rattle.stream_spec.specs.{Texts.Relation, Blocks.ByteSays}
 use Rattle.stream_spec.proofs.Taking.{byte-kept, byte-passed}
-use Rattle.stream_steps_inner.specs.{declared.Held.Held, declared.Held.TheVariants.Ended, declared.Held.TheVariants.Bytes}
+use Rattle.std.specs.Prelude.{Option, Some, None}
 use Rattle.stream_steps_inner.specs.Says.{ByteHeld, put, passed, HeldSays}
 
-module _ (c m : ℕ) (w : List ℕ) (r : Held) (w' : List ℕ) where
-  pub held-ends : r ≡ Ended → HeldSays c m w r w' → (c ≡ newline) × (w' ≡ w)
+module _ (c m : ℕ) (w : List ℕ) (r : Option ℕ) (w' : List ℕ) where
+  pub held-ends : r ≡ None → HeldSays c m w r w' → (c ≡ newline) × (w' ≡ w)
   held-ends e h = rw e at h
 
-  pub held_kept : (Answers : Relation) (room at : ℕ) (b : List ℕ) (n : ℕ) → r ≡ Bytes n → m ≤ length w → HeldSays c m w r w' → (n ≤ length w')
+  pub held_kept : (Answers : Relation) (room at : ℕ) (b : List ℕ) (n : ℕ) → r ≡ Some n → m ≤ length w → HeldSays c m w r w' → (n ≤ length w')
       × ByteSays Answers (length w) room (take m w) at c b (take n w') at b
-  held_kept Answers room at b n e l h = let k : HeldSays c m w (Bytes n) w' = rw e at h in go k.0 k.1
+  held_kept Answers room at b n e l h = let k : HeldSays c m w (Some n) w' = rw e at h in go k.0 k.1
     where
       go : (c ≡ newline → ⊥) → ByteHeld c m w n w' → (n ≤ length w') × ByteSays Answers (length w) room (take m w) at c b (take n w') at b
       go x (put i f g) = rw (f, g) (simp length-set (omega (arith, i)), byte-kept Answers room w m at c b x i)

@@ -1,3 +1,2 @@
--- The smaller of two numbers (Smaller), and one byte more of a line (Holding).
-pub mod Smaller
+-- One byte more of a line (Holding).
 pub mod Holding

@@ -5,20 +5,9 @@
 ghost use Rattle.std.specs.Prelude.{◌+◌, ◌*◌, ◌≤◌, ◌≡◌, length, take};
 ghost use Rattle.stream_spec.specs.Blocks.{ByteSays, BlockSays, EndSays};
 ghost use Rattle.stream_kind_inner.specs.Says.{Said, most_of, room_of};
-ghost use Rattle.stream_blocks_inner.specs.Says.{smaller};
 
 use stream_kind_inner::Kind;
-use stream_steps_inner::{Behind, Held};
-
-// The smaller of two numbers.
-pub fn smaller_of(a: usize, b: usize) -> usize
-    ensures { result ≡ smaller a b }
-{
-    if a < b {
-        return a;
-    }
-    b
-}
+use stream_steps_inner::Behind;
 
 // One byte more of a line whose first `len` bytes are held. Where it ends the line, the line's text is placed.
 fn take_byte(kind: Kind, line: &mut [u8], len: usize, b: u8, buf: &mut [u8], at: usize) -> Behind
@@ -29,11 +18,11 @@ fn take_byte(kind: Kind, line: &mut [u8], len: usize, b: u8, buf: &mut [u8], at:
     ensures byte_says { ByteSays (Said kind) (length line.old) (room_of kind) (take len line.old) at b buf.old (take result.len line.new) result.at buf.new }
 {
     match stream_steps_inner::hold_byte(line, len, b) {
-        Held::Ended => {
+        None => {
             let next = stream_asking_inner::place_text(kind, &line[..len], buf, at);
             Behind { len: 0, at: next }
         }
-        Held::Bytes(m) => Behind { len: m, at },
+        Some(m) => Behind { len: m, at },
     }
 }
 
@@ -47,12 +36,10 @@ pub fn take_bytes(kind: Kind, line: &mut [u8], len: usize, block: &[u8], buf: &m
 {
     let mut m = len;
     let mut at = 0;
-    let mut i = 0;
-    while i < block.len() {
-        let q = take_byte(kind, line, m, block[i], buf, at);
+    for &b in block {
+        let q = take_byte(kind, line, m, b, buf, at);
         m = q.len;
         at = q.at;
-        i += 1;
     }
     Behind { len: m, at }
 }

@@ -14,26 +14,20 @@ pub struct Behind {
     pub at: usize,
 }
 
-// Behind one byte: the line ends with it, or so many bytes of the line are held.
-#[derive(Clone, Copy)]
-pub enum Held {
-    Ended,
-    Bytes(usize),
-}
-
-// One byte more of a line whose first `len` bytes are held. A newline ends it; of a line that is too long the rest is passed over.
-pub fn hold_byte(line: &mut [u8], len: usize, b: u8) -> Held
+// One byte more of a line whose first `len` bytes are held, and how many are held then: None where it ends the line, as a newline does. Of a line that is too long
+// the rest is passed over.
+pub fn hold_byte(line: &mut [u8], len: usize, b: u8) -> Option<usize>
     requires { len ≤ length line.old }
     ensures { HeldSays b len line.old result line.new }
 {
     if b == b'\n' {
-        return Held::Ended;
+        return None;
     }
     if len < line.len() {
         line[len] = b;
-        return Held::Bytes(len + 1);
+        return Some(len + 1);
     }
-    Held::Bytes(len)
+    Some(len)
 }
 
 // Behind a read that failed: no text, and as much of the line under way as before it.
@@ -48,12 +42,5 @@ pub fn behind_failure(len: usize) -> Behind
 pub fn goes_on(got: Got, wrote: bool, reads: u64) -> bool
     ensures { GoesOn wrote got reads result }
 {
-    if !wrote {
-        return false;
-    }
-    match got {
-        Got::Bytes(_) => reads < u64::MAX,
-        Got::Over => false,
-        Got::Failed => false,
-    }
+    wrote && matches!(got, Got::Bytes(_)) && reads < u64::MAX
 }

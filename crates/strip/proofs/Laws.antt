@@ -6,21 +6,21 @@
 use Rattle.words.proofs.Plain.{ℕ, ◌^◌, ◌<◌, ◌≤◌, arith, ◌≡◌, refl, sym, subst, List, length}
 use Rattle.words.specs.Readings.{Reading}
 use Rattle.limits_spec.specs.Limits.{Listable}
-use Rattle.strip_spec.specs.{Strip.strip, declared.Written.Written, declared.Position.Position, Says.StripSays, Says.PlaceSays}
+use Rattle.std.specs.Prelude.{Result, Ok, Err}
+use Rattle.refusal.specs.declared.Refusal.{Refusal}
+use Rattle.strip_spec.specs.{Strip.strip, Says.StripSays, Says.PlaceSays}
 use Rattle.strip_spec.specs.Places.{window, OnceEach, OnePlace}
 use Rattle.strip_laws.proofs.Pieces.{length-strip, strip-shades}
 use Rattle.strip_laws.proofs.Once.{window-reading, once, window-place}
-use Rattle.strip_spec.specs.declared.Written.TheVariants as W
-use Rattle.strip_spec.specs.declared.Position.TheVariants as P
 use Rattle.strip_spec.proofs.Unique.{never-refused, one-telling}
 use Rattle.strip.proofs.Telling.{reading-passed}
 
 -- where n, k and the output's length pass the checks the strip is written
-pub written-strip : (n k : ℕ) (o : List ℕ) (a : Written) (u : List ℕ) → Listable 4096 k n → length o ≡ k ^ n → StripSays n k o a u → a ≡ W.Strip
-written-strip n k o W.Strip u l e s = refl
-written-strip n k o (W.Refused r) u l e s = absurd (never-refused n k (length o) r l e s.0)
+pub written-strip : (n k : ℕ) (o : List ℕ) (a : Result Unit Refusal) (u : List ℕ) → Listable 4096 k n → length o ≡ k ^ n → StripSays n k o a u → a ≡ Ok tt
+written-strip n k o (Ok _) u l e s = refl
+written-strip n k o (Err r) u l e s = absurd (never-refused n k (length o) r l e s.0)
 
-module _ (n k : ℕ) (o u : List ℕ) (s : StripSays n k o W.Strip u) where
+module _ (n k : ℕ) (o u : List ℕ) (s : StripSays n k o (Ok tt) u) where
   pos : 0 < n
   pos = omega (arith, s.0.sized.0)
 
@@ -39,7 +39,7 @@ module _ (n k : ℕ) (o u : List ℕ) (s : StripSays n k o W.Strip u) where
     reads : Reading n k (window n (strip n k) p)
     reads = window-reading n k (strip n k) (omega (arith, length-strip n k pos (omega (arith, two)))) (strip-shades n k pos (omega (arith, two))) p
 
-    place : PlaceSays (window n (strip n k) p) k (P.Place p)
+    place : PlaceSays (window n (strip n k) p) k (Ok p)
     place =
         let e = reads.long in (
           reading-passed n k (window n (strip n k) p) s.0.sized s.0.shaded reads,
@@ -48,5 +48,5 @@ module _ (n k : ℕ) (o u : List ℕ) (s : StripSays n k o W.Strip u) where
         )
 
     -- the n neighbouring sectors at p tell p
-    pub written-told : (a : Position) → PlaceSays (window n u p) k a → a ≡ P.Place p
-    written-told a t = one-telling (window n (strip n k) p) k a (P.Place p) (rw s.2 at t) place
+    pub written-told : (a : Result ℕ Refusal) → PlaceSays (window n u p) k a → a ≡ Ok p
+    written-told a t = one-telling (window n (strip n k) p) k a (Ok p) (rw s.2 at t) place

@@ -2,7 +2,7 @@
 --     passed-reading, reading-passed    a reading that passed 1, 2, 3 is one of n and k, and the other way
 --     passed-listable                   and where k ^ n is not above 4096 its strip can be written
 --     place-asked                       so that what `place_in` asks of the strip and the reading holds
-use Rattle.words.proofs.Plain.{ℕ, ◌^◌, ◌<◌, ◌≤◌, arith, ◌≡◌, refl, sym, subst, ◌∙◌, false, List, ◌++◌, ltb, length, get_or, take, ltb-false}
+use Rattle.words.proofs.Plain.{ℕ, ◌^◌, ◌≤◌, arith, ◌≡◌, refl, sym, subst, false, List, ltb, length, ltb-false}
 use Rattle.words.specs.Readings.{Sized, Shaded, Reading}
 use Rattle.refusal.specs.{Order.Passed, Calls.one_reading}
 use Rattle.limits_spec.specs.Limits.{Listable}

@@ -10,33 +10,29 @@ ghost use Rattle.strip_spec.specs.Strip.{strip};
 ghost use Rattle.strip_spec.specs.Places.{OnePlace};
 ghost use Rattle.strip_spec.specs.Says.{StripSays, PlaceSays};
 
-use limits::Planned;
-use refusal::{Checked, Refusal};
-pub use strip_spec::{Position, Written};
+use refusal::Refusal;
 
 // No strip has more sectors.
 const MOST: usize = 4096;
 
 // The numbers passed 1, 2, 12: 4, and then the strip.
-fn write_listable(n: usize, k: usize, out: &mut [u8]) -> Written
+fn write_listable(n: usize, k: usize, out: &mut [u8]) -> Result<(), Refusal>
     requires { Listable 4096 k n }
     ensures { StripSays n k out.old result out.new }
 {
     if out.len() != how_many_power_inner::power(k, n) {
-        return Written::Refused(Refusal::Room);
+        return Err(Refusal::Room);
     }
     strip_write_inner::write_whole(n, k, out);
-    Written::Strip
+    Ok(())
 }
 
 // The strip of n and k in the output, which has k to the power n bytes; or refusal 1, 2, 12 or 4.
-pub fn write_strip(n: usize, k: usize, out: &mut [u8]) -> Written
+pub fn write_strip(n: usize, k: usize, out: &mut [u8]) -> Result<(), Refusal>
     ensures { StripSays n k out.old result out.new }
 {
-    match limits::plan_numbers(k, n, MOST) {
-        Planned::Refused(r) => Written::Refused(r),
-        Planned::Accepted(_, _) => write_listable(n, k, out),
-    }
+    limits::plan_numbers(k, n, MOST)?;
+    write_listable(n, k, out)
 }
 
 // The place of the reading on its strip, which is written into the lent bytes first.
@@ -51,25 +47,23 @@ fn place_on(reading: &[u8], k: usize, sectors: &mut [u8]) -> usize
 }
 
 // The reading passed 1, 2, 3: 12, and then the place.
-fn place_good(reading: &[u8], k: usize) -> Position
+fn place_good(reading: &[u8], k: usize) -> Result<usize, Refusal>
     requires { Passed (one_reading reading.now k) }
     ensures { PlaceSays reading.now k result }
 {
     let n = reading.len();
     if limits::power_above(k, n, MOST) {
-        return Position::Refused(Refusal::TooMany);
+        return Err(Refusal::TooMany);
     }
     let m = how_many_power_inner::power(k, n);
     let mut sectors = [0u8; 4096];
-    Position::Place(place_on(reading, k, &mut sectors[..m]))
+    Ok(place_on(reading, k, &mut sectors[..m]))
 }
 
 // The one place of the strip of n and k at which the reading stands; or refusal 1, 2, 3 or 12.
-pub fn place_of(reading: &[u8], k: usize) -> Position
+pub fn place_of(reading: &[u8], k: usize) -> Result<usize, Refusal>
     ensures { PlaceSays reading.now k result }
 {
-    match check_readings_inner::check_reading(reading, k) {
-        Checked::Refused(r) => Position::Refused(r),
-        Checked::Good => place_good(reading, k),
-    }
+    check_readings_inner::check_reading(reading, k)?;
+    place_good(reading, k)
 }

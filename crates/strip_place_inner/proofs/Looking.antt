@@ -4,7 +4,7 @@
 --     agrees-all, agrees-not                 all of them, so that w stands there; one that does not
 --     Passed s w p                           w stands at no place before p
 --     passed-more, passed-hit, passed-all    one place more; w stands there; there is no place left
-use Rattle.words.proofs.Plain.{ℕ, ◌+◌, ◌%◌, ◌≤◌, ◌<◌, arith, ◌≡◌, refl, sym, ap, ◌∙◌, true, false, List, length, get_or, ext_get_or}
+use Rattle.words.proofs.Plain.{ℕ, ◌+◌, ◌%◌, ◌≤◌, ◌<◌, arith, ◌≡◌, sym, ap, ◌∙◌, true, false, List, length, get_or, ext_get_or}
 use Rattle.words.specs.{Search.tab, Order.same}
 use Rattle.words.proofs.Split.{lt, eq, gt, tri, clash}
 use Rattle.words.proofs.Search.{length-tab, get_d-tab}

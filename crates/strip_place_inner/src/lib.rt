@@ -13,14 +13,10 @@ fn stands(s: &[u8], p: usize, reading: &[u8]) -> bool
     requires reading_len_bound { length reading.now ≤ 64 }
     ensures { result ≡ same (window (length reading.now) s.now p) reading.now }
 {
-    let m = s.len();
-    let n = reading.len();
-    let mut i = 0;
-    while i < n {
-        if s[(p + i) % m] != reading[i] {
+    for (i, &sector) in reading.iter().enumerate() {
+        if s[(p + i) % s.len()] != sector {
             return false;
         }
-        i += 1;
     }
     true
 }
@@ -32,13 +28,10 @@ pub fn place_in(s: &[u8], reading: &[u8]) -> usize
     requires by_index { (p : ℕ) × OnePlace s.now reading.now p }
     ensures { OnePlace s.now reading.now result }
 {
-    let m = s.len();
-    let mut p = 0;
-    while p < m {
+    for p in 0..s.len() {
         if stands(s, p, reading) {
             return p;
         }
-        p += 1;
     }
     0
 }

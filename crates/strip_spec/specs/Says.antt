@@ -5,17 +5,14 @@
 --     strip-numbers, place-numbers    both orders by their numbers, as the client says them
 --     PlaceSays w k a          telling it is answered with a: the one place of the strip at which w stands
 -- That no two answers satisfy them, and the output too: proofs/Unique. What follows of the code: proofs/Laws.
-use Rattle.std.specs.Prelude.{ℕ, ◌^◌, ◌≤◌, ◌≡◌, refl, List, [], ◌∷◌, length}
+use Rattle.std.specs.Prelude.{ℕ, ◌^◌, ◌≤◌, ◌≡◌, refl, List, [], ◌∷◌, length, Result, Ok, Err}
+use Rattle.refusal.specs.declared.Refusal.{Refusal}
 use Rattle.refusal.specs.declared.Refusal.TheVariants.{Room, TooMany}
 use Rattle.refusal.specs.Order.{Checks, fact, ◌▸◌, Passed, Given, numbered}
 use Rattle.refusal.specs.Calls.{one_reading}
 use Rattle.limits_spec.specs.Limits.{Listable, numbers_order}
 use Rattle.strip_spec.specs.Strip.{strip}
 use Rattle.strip_spec.specs.Places.{OnePlace}
-use Rattle.strip_spec.specs.declared.Written.{Written}
-use Rattle.strip_spec.specs.declared.Written.TheVariants as W
-use Rattle.strip_spec.specs.declared.Position.{Position}
-use Rattle.strip_spec.specs.declared.Position.TheVariants as P
 
 -- the order 1, 2, 12, 4
 abbrev pub strip_order : ℕ → ℕ → ℕ → Checks
@@ -25,9 +22,9 @@ pub strip-numbers : (n k m : ℕ) → numbered (strip_order n k m) ≡ (1 ∷ 2 
 strip-numbers n k m = refl
 
 -- the output is the strip, or as it was
-abbrev pub StripSays : ℕ → ℕ → List ℕ → Written → List ℕ → Type 0
-StripSays n k o W.Strip u = Listable 4096 k n × (length o ≡ k ^ n) × (u ≡ strip n k)
-StripSays n k o (W.Refused r) u = Given (strip_order n k (length o)) r × (u ≡ o)
+abbrev pub StripSays : ℕ → ℕ → List ℕ → Result Unit Refusal → List ℕ → Type 0
+StripSays n k o (Ok _) u = Listable 4096 k n × (length o ≡ k ^ n) × (u ≡ strip n k)
+StripSays n k o (Err r) u = Given (strip_order n k (length o)) r × (u ≡ o)
 
 -- the order 1, 2, 3, 12
 abbrev pub place_order : List ℕ → ℕ → Checks
@@ -37,6 +34,6 @@ place_order w k = one_reading w k ▸ fact (k ^ length w ≤ 4096) TooMany
 pub place-numbers : (w : List ℕ) (k : ℕ) → numbered (place_order w k) ≡ (1 ∷ 10 ∷ 2 ∷ 3 ∷ 4 ∷ 6 ∷ 5 ∷ 12 ∷ [])
 place-numbers w k = refl
 
-abbrev pub PlaceSays : List ℕ → ℕ → Position → Type 0
-PlaceSays w k (P.Place p) = Passed (one_reading w k) × (k ^ length w ≤ 4096) × OnePlace (strip (length w) k) w p
-PlaceSays w k (P.Refused r) = Given (place_order w k) r
+abbrev pub PlaceSays : List ℕ → ℕ → Result ℕ Refusal → Type 0
+PlaceSays w k (Ok p) = Passed (one_reading w k) × (k ^ length w ≤ 4096) × OnePlace (strip (length w) k) w p
+PlaceSays w k (Err r) = Given (place_order w k) r

@@ -1,3 +1,2 @@
--- Laws of writing the strip: one word laid down (Piece), and the loop from necklace to necklace (Writing).
-pub mod Piece
+-- Laws of writing the strip: the loop from necklace to necklace (Writing).
 pub mod Writing

@@ -4,10 +4,9 @@
 --     writing_start, writing-width, writing-room        at the all-zero ring; the ring's length; the room that is left
 --     writing-on, writing-end                           one necklace further; behind the last
 --     zeros-asked, zeros-long                           the first n of 64 zeros are the all-zero ring
-use Rattle.words.proofs.Plain.{ℕ, zero, suc, ◌+◌, ◌-◌, ◌^◌, ◌≤◌, ◌<◌, arith, dec_lt, ◌≡◌, refl, sym, ap, subst, ◌∙◌, true, none, some, List, ◌∷◌, length, get_or}
+use Rattle.words.proofs.Plain.{ℕ, zero, suc, ◌+◌, ◌-◌, ◌^◌, ◌≤◌, ◌<◌, arith, dec_lt, ◌≡◌, refl, sym, ap, subst, ◌∙◌, none, some, List, ◌∷◌, length, get_or}
 use Rattle.words.proofs.Plain.{take, replicate, ext_get_or}
 use native.Mathlib.Nat.{mod-one}
-use Rattle.words.specs.Readings.{Reading}
 use Rattle.words.proofs.Sequence.{sec}
 use Rattle.rings.specs.{Necklace.necklace, Necklace.period, Prenecklace.lyn, Steps.next_of}
 use Rattle.ring_laws.proofs.{Run.Run, Words.necklace-prenecklace, Lyndon.period-run, Classes.period-lyn}

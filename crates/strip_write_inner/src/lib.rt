@@ -16,12 +16,7 @@ fn lay(ring: &[u8], p: usize, out: &mut [u8], at: usize)
     requires p_in_bounds_2 { at + p ≤ length out.old }
     ensures { LaidDown ring.now p out.old at out.new }
 {
-    let mut i = 0;
-    while i < p {
-        let sector = ring[i];
-        out[at + i] = sector;
-        i += 1;
-    }
+    out[at..at + p].copy_from_slice(&ring[..p]);
 }
 
 // From the all-zero ring on: of each necklace its first `period` sectors, which are a Lyndon word whose length divides n.
@@ -31,16 +26,16 @@ fn write_from(ring: &mut [u8], k: usize, out: &mut [u8])
     requires out_len { length out.old ≡ k ^ length ring.old }
     ensures { out.new ≡ strip (length ring.old) k }
 {
-    let mut at: usize = 0;
-    let mut period: usize = 1;
+    let mut at = 0;
+    let mut period = 1;
     loop {
         lay(ring, period, out, at);
         at += period;
         let reached = walk_moves_inner::advance(ring, k, Kind::Necklace);
-        if reached.lyn == 0 {
+        let Some(lyn) = reached.lyn else {
             return;
-        }
-        period = reached.lyn;
+        };
+        period = lyn;
     }
 }
 

@@ -19,48 +19,25 @@ fn byte() -> u8 {
 pub fn next(line: &mut [u8]) -> usize
     ensures { IsPrefixLen result line.new }
 {
-    let mut i = 0;
-    while i < line.len() {
+    let n = line.len();
+    for i in 0..n {
         let b = byte();
         if b == b'\n' {
             return i;
         }
         line[i] = b;
-        i += 1;
     }
-    i
+    n
 }
 
 // The word of a line that has `before` words before it; an empty one where there is none.
 pub fn word(line: &[u8], before: usize) -> &[u8] {
-    let mut left = before;
-    let mut from = 0;
-    let mut i = 0;
-    while i < line.len() {
-        if line[i] != b' ' {
-            i += 1;
-            continue;
-        }
-        if left == 0 {
-            return &line[from..i];
-        }
-        left -= 1;
-        i += 1;
-        from = i;
-    }
-    if left == 0 {
-        return &line[from..];
-    }
-    &line[i..]
+    line.split(|&b| b == b' ').nth(before).unwrap_or(&[])
 }
 
 // That word's first letter; 0 of an empty one.
 pub fn letter(line: &[u8], before: usize) -> u8 {
-    let w = word(line, before);
-    if w.len() < 1 {
-        return 0;
-    }
-    w[0]
+    word(line, before).first().copied().unwrap_or(0)
 }
 
 // The digit's value; one from b'a' on is 10 and more.
@@ -74,10 +51,8 @@ fn digit(x: u8) -> u8 {
 // The decimal number of these digits, modulo 2 to the power 64.
 fn decimal(digits: &[u8]) -> usize {
     let mut x: usize = 0;
-    let mut i = 0;
-    while i < digits.len() {
-        x = std::num::wrapping_add_usize(x % 1844674407370955162 * 10, digit(digits[i]) as usize);
-        i += 1;
+    for &d in digits {
+        x = std::num::wrapping_add_usize(x % 1844674407370955162 * 10, usize::from(digit(d)));
     }
     x
 }
@@ -91,15 +66,11 @@ pub fn number(line: &[u8], before: usize) -> usize {
 fn spell(digits: &[u8], out: &mut [u8]) -> usize
     ensures { IsPrefixLen result out.new }
 {
-    let mut i = 0;
-    while i < out.len() {
-        if digits.len() <= i {
-            return i;
-        }
+    let n = digits.len().min(out.len());
+    for i in 0..n {
         out[i] = digit(digits[i]);
-        i += 1;
     }
-    i
+    n
 }
 
 // That word as a reading, a digit for each sector; `g` is 16.
@@ -118,17 +89,11 @@ fn paired(high: u8, low: u8) -> u8 {
 fn spell_bytes(digits: &[u8], out: &mut [u8]) -> usize
     ensures { IsPrefixLen result out.new }
 {
-    let mut i = 0;
-    let mut j = 0;
-    while i < out.len() {
-        if digits.len() - j < 2 {
-            return i;
-        }
-        out[i] = paired(digits[j], digits[j + 1]);
-        i += 1;
-        j += 2;
+    let n = (digits.len() / 2).min(out.len());
+    for i in 0..n {
+        out[i] = paired(digits[2 * i], digits[2 * i + 1]);
     }
-    i
+    n
 }
 
 // That word as bytes, two hexadecimal digits for each.
@@ -142,15 +107,10 @@ pub fn bytes(line: &[u8], before: usize, out: &mut [u8]) -> usize
 pub fn numbers(line: &[u8], before: usize, out: &mut [usize]) -> usize
     ensures { IsPrefixLen result out.new }
 {
-    let many = number(line, before);
     let first = std::num::wrapping_add_usize(before, 1);
-    let mut i = 0;
-    while i < out.len() {
-        if many <= i {
-            return i;
-        }
+    let n = number(line, before).min(out.len());
+    for i in 0..n {
         out[i] = number(line, std::num::wrapping_add_usize(first, i));
-        i += 1;
     }
-    i
+    n
 }

@@ -6,21 +6,20 @@
 
 #![tactic(auto)]
 
-use converter::Conversion;
-use converter_blocks::Stretch;
+use refusal::Refusal;
 
 // What is answered of a catalogue, and of a block.
-fn conversion(v: Conversion) {
+fn conversion(v: Result<(), Refusal>) {
     match v {
-        Conversion::Converted => test_show::text(b"converted"),
-        Conversion::Refused(r) => test_show::refused(r),
+        Ok(()) => test_show::text(b"converted"),
+        Err(r) => test_show::refused(r),
     }
 }
 
-fn stretch(v: Stretch) {
+fn stretch(v: Result<usize, Refusal>) {
     match v {
-        Stretch::Records(m) => test_show::named(b"records ", m),
-        Stretch::Refused(r) => test_show::refused(r),
+        Ok(m) => test_show::named(b"records ", m),
+        Err(r) => test_show::refused(r),
     }
 }
 

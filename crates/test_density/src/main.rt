@@ -10,7 +10,8 @@
 
 pub mod floats;
 
-use density_spec::{Card, RingRead, Sector, SectorRead};
+use density_spec::{Card, Sector};
+use refusal::Refusal;
 
 fn print_sector(s: Sector) {
     match s {
@@ -20,17 +21,17 @@ fn print_sector(s: Sector) {
     }
 }
 
-fn print_read(r: SectorRead) {
+fn print_read(r: Result<Sector, Refusal>) {
     match r {
-        SectorRead::Is(s) => print_sector(s),
-        SectorRead::Refused(r) => test_show::refused(r),
+        Ok(s) => print_sector(s),
+        Err(r) => test_show::refused(r),
     }
 }
 
-fn print_ring(r: RingRead, out: &[u8]) {
+fn print_ring(r: Result<(), Refusal>, out: &[u8]) {
     match r {
-        RingRead::Written => test_show::text(b"written"),
-        RingRead::Refused(r) => test_show::refused(r),
+        Ok(()) => test_show::text(b"written"),
+        Err(r) => test_show::refused(r),
     }
     test_show::output(out);
 }

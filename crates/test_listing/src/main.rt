@@ -8,7 +8,6 @@
 ghost use Rattle.std.specs.Prelude.{◌≤◌, length};
 ghost use Rattle.listing_spec.specs.Paging.{row_room};
 
-use limits::Planned;
 use listing_spec::{Page, State};
 use refusal::Refusal;
 
@@ -22,14 +21,7 @@ const STDOUT_FILENO: i32 = 1;
 fn find(s: &[u8], character: u8) -> usize
     ensures { result ≤ length s.now }
 {
-    let mut i = 0;
-    while i < s.len() {
-        if s[i] == character {
-            return i;
-        }
-        i += 1;
-    }
-    i
+    s.iter().position(|&c| c == character).unwrap_or(s.len())
 }
 
 // A name, and what the program writes for the line behind the mark.
@@ -81,10 +73,10 @@ fn refused(r: Refusal) {
     test_show::refused(r);
 }
 
-fn planned(p: Planned) {
+fn planned(p: Result<(usize, usize), Refusal>) {
     match p {
-        Planned::Accepted(k, n) => accepted(k, n),
-        Planned::Refused(r) => refused(r),
+        Ok((k, n)) => accepted(k, n),
+        Err(r) => refused(r),
     }
 }
 
@@ -117,11 +109,11 @@ fn next(k: usize, d: u8, rings: usize, moves: usize) {
     ring[2] = 1;
     ring[3] = 1;
     let s = State {
-        k: k,
+        k,
         n: 4,
-        ring: ring,
-        rings: rings,
-        moves: moves,
+        ring,
+        rings,
+        moves,
     };
     let mut buf = [0u8; 115];
     let page = listing::next_page(s, &mut buf);

@@ -4,24 +4,22 @@
 
 #![tactic(auto)]
 
-use pictures::{Drawn, Tone};
+use pictures::Tone;
 use sheets::{Sheet, Source};
 
 fn tone_of(x: usize) -> Tone {
-    if x == 1 {
-        return Tone::Levels;
+    match x {
+        1 => Tone::Levels,
+        _ => Tone::Managed,
     }
-    Tone::Managed
 }
 
 fn source_of(x: usize) -> Source {
-    if x == 0 {
-        return Source::Guarded;
+    match x {
+        0 => Source::Guarded,
+        1 => Source::Plain,
+        _ => Source::Own,
     }
-    if x == 1 {
-        return Source::Plain;
-    }
-    Source::Own
 }
 
 fn refuse(r: refusal::Refusal) {
@@ -36,8 +34,8 @@ fn picture(line: &[u8]) {
     let tone = tone_of(test_cases::number(line, 3));
     let mut buf = io::large_buffer();
     match pictures::draw(&reading[..n], k, tone, &mut buf) {
-        Drawn::Whole(m) => test_show::text(&buf[..m]),
-        Drawn::Refused(r) => refuse(r),
+        Ok(m) => test_show::text(&buf[..m]),
+        Err(r) => refuse(r),
     }
 }
 
@@ -47,8 +45,8 @@ fn short_room(line: &[u8]) {
     let k = test_cases::number(line, 1);
     let mut buf = [0u8; 16767];
     match pictures::draw(&reading[..n], k, Tone::Managed, &mut buf) {
-        Drawn::Whole(m) => test_show::named(b"whole ", m),
-        Drawn::Refused(r) => refuse(r),
+        Ok(m) => test_show::named(b"whole ", m),
+        Err(r) => refuse(r),
     }
 }
 
@@ -69,21 +67,17 @@ fn sheet(line: &[u8]) {
     let last = test_cases::number(line, 10) == 1;
     let mut buf = io::large_buffer();
     match sheets::target(asked, &reading[..n], i, last, &mut buf) {
-        Drawn::Whole(m) => test_show::text(&buf[..m]),
-        Drawn::Refused(r) => refuse(r),
+        Ok(m) => test_show::text(&buf[..m]),
+        Err(r) => refuse(r),
     }
 }
 
 fn run(line: &[u8]) {
-    let l = test_cases::letter(line, 0);
-    if l == b'p' {
-        picture(line);
-    }
-    if l == b'r' {
-        short_room(line);
-    }
-    if l == b's' {
-        sheet(line);
+    match test_cases::letter(line, 0) {
+        b'p' => picture(line),
+        b'r' => short_room(line),
+        b's' => sheet(line),
+        _ => {}
     }
 }
 

@@ -5,31 +5,32 @@
 
 #![tactic(auto)]
 
-use classify::Classified;
-use home::{Homed, Told};
+use home::Home;
+use refusal::Refusal;
+use rings::Class;
 
-fn print_class(r: Classified) {
+fn print_class(r: Result<Class, Refusal>) {
     match r {
-        Classified::Is(c) => test_show::class(c),
-        Classified::Refused(r) => test_show::refused(r),
+        Ok(c) => test_show::class(c),
+        Err(r) => test_show::refused(r),
     }
 }
 
-fn print_told(r: Told) {
+fn print_told(r: Result<bool, Refusal>) {
     match r {
-        Told::Yes => test_show::text(b"yes"),
-        Told::No => test_show::text(b"no"),
-        Told::Refused(r) => test_show::refused(r),
+        Ok(true) => test_show::text(b"yes"),
+        Ok(false) => test_show::text(b"no"),
+        Err(r) => test_show::refused(r),
     }
 }
 
-fn print_home(r: Homed) {
+fn print_home(r: Result<Home, Refusal>) {
     match r {
-        Homed::Home { shift, period } => {
+        Ok(Home { shift, period }) => {
             test_show::named(b"shift ", shift);
             test_show::named(b" period ", period);
         }
-        Homed::Refused(r) => test_show::refused(r),
+        Err(r) => test_show::refused(r),
     }
 }
 

@@ -12,8 +12,9 @@
 
 #![tactic(auto)]
 
-use catalogue::Entry;
-use writer::{Kind, Written};
+use catalogue::Record;
+use refusal::Refusal;
+use writer::Kind;
 
 // ---- reading
 
@@ -24,22 +25,22 @@ fn print_kind(x: Kind) {
     }
 }
 
-fn print_record(n: usize, k: usize, kind: Kind, next: usize) {
-    print_kind(kind);
-    test_show::named(b" n ", n);
-    test_show::named(b" k ", k);
-    test_show::named(b" next ", next);
+fn print_record(record: Record) {
+    print_kind(record.kind);
+    test_show::named(b" n ", record.n);
+    test_show::named(b" k ", record.k);
+    test_show::named(b" next ", record.next);
 }
 
 // Prints the answer at a start; where the next record starts, or the same start.
-fn answer(r: Entry, start: usize) -> usize {
+fn answer(r: Result<Option<Record>, Refusal>, start: usize) -> usize {
     match r {
-        Entry::Record { n, k, kind, next } => {
-            print_record(n, k, kind, next);
-            return next;
+        Ok(Some(record)) => {
+            print_record(record);
+            return record.next;
         }
-        Entry::End => test_show::text(b"end"),
-        Entry::Refused(r) => test_show::refused(r),
+        Ok(None) => test_show::text(b"end"),
+        Err(r) => test_show::refused(r),
     }
     start
 }
@@ -92,15 +93,15 @@ fn read_back(buffer: &[u8], at: usize) {
 }
 
 // What was answered, the buffer after it, and what the reader makes of it.
-fn print_written(r: Written, buffer: &[u8], at: usize) {
+fn print_written(r: Result<usize, Refusal>, buffer: &[u8], at: usize) {
     match r {
-        Written::After(e) => {
+        Ok(e) => {
             test_show::named(b"after ", e);
             test_show::text(b": ");
             test_show::bytes(buffer);
             read_back(buffer, at);
         }
-        Written::Refused(r) => {
+        Err(r) => {
             test_show::refused(r);
             test_show::text(b": ");
             test_show::bytes(buffer);
@@ -146,10 +147,10 @@ struct Places {
 }
 
 // The place after a record that was written, or the same place.
-fn after(r: Written, at: usize) -> usize {
+fn after(r: Result<usize, Refusal>, at: usize) -> usize {
     match r {
-        Written::After(e) => e,
-        Written::Refused(_) => at,
+        Ok(e) => e,
+        Err(_) => at,
     }
 }
 
@@ -165,15 +166,15 @@ fn write_first(ring: &[u8], n: usize, k: usize, kind: Kind, out: &mut [u8], at: 
 fn step(c: &[u8], p: Places, kind: Kind, out: &mut [u8]) -> Places {
     let mut ring = [0u8; 64];
     match catalogue::read_record(c, p.from, &mut ring) {
-        Entry::Record { n, k, next, .. } => Places {
-            from: next,
-            to: write_first(&ring, n, k, kind, out, p.to),
+        Ok(Some(record)) => Places {
+            from: record.next,
+            to: write_first(&ring, record.n, record.k, kind, out, p.to),
         },
-        Entry::End => {
+        Ok(None) => {
             test_show::text(b"end");
             p
         }
-        Entry::Refused(r) => {
+        Err(r) => {
             test_show::refused(r);
             p
         }

@@ -46,24 +46,18 @@ fn spell(word: &[u8], out: &mut [u8]) -> usize
 }
 
 fn shown(b: u8) -> u8 {
-    if b == b' ' {
-        return b'_';
+    match b {
+        b' ' => b'_',
+        b'\n' => b';',
+        0 => b'.',
+        _ => b,
     }
-    if b == b'\n' {
-        return b';';
-    }
-    if b == 0 {
-        return b'.';
-    }
-    b
 }
 
 // Bytes on one line, spelt as in the cases.
 fn print_bytes(s: &[u8]) {
-    let mut i = 0;
-    while i < s.len() {
-        test_show::text(&[shown(s[i])]);
-        i += 1;
+    for &b in s {
+        test_show::text(&[shown(b)]);
     }
 }
 
@@ -105,21 +99,17 @@ fn print_cut(cut: usize) {
 
 // Cut at every byte.
 fn every_cut(stream: &[u8], buf: &mut [u8]) {
-    let mut cut = 0;
-    while cut <= stream.len() {
+    for cut in 0..=stream.len() {
         print_cut(cut);
         run_cut(stream, cut, buf);
-        cut += 1;
     }
 }
 
 // Each byte a block of its own.
 fn byte_by_byte(stream: &[u8], buf: &mut [u8]) {
     let mut p = report::start();
-    let mut i = 0;
-    while i < stream.len() {
-        p = print_fed(p, &stream[i..i + 1], buf);
-        i += 1;
+    for &b in stream {
+        p = print_fed(p, &[b], buf);
     }
     print_end(p, buf);
 }

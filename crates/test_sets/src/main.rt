@@ -5,7 +5,6 @@
 
 #![tactic(auto)]
 
-use refusal::Checked;
 use sets::Picked;
 
 // The ring in place j.
@@ -26,26 +25,17 @@ fn ring(places: &[u8], n: usize, j: usize) {
 }
 
 fn rings(places: &[u8], n: usize, taken: usize) {
-    let mut j = 0;
-    while j < taken {
+    for j in 0..taken {
         ring(places, n, j);
-        j += 1;
     }
 }
 
 // How many sectors are not 0 that belong to no ring taken.
 fn others(places: &[u8], n: usize, taken: usize) -> usize {
-    let mut i = 0;
     let mut m: usize = 0;
-    while i < places.len() {
-        let x = i;
-        i += 1;
-        if x % 24 < n {
-            if x / 24 < taken {
-                continue;
-            }
-        }
-        if places[x] != 0 {
+    for (x, &sector) in places.iter().enumerate() {
+        let belongs = x % 24 < n && x / 24 < taken;
+        if !belongs && sector != 0 {
             m = std::num::wrapping_add_usize(m, 1);
         }
     }
@@ -64,8 +54,7 @@ fn full(f: bool) {
 fn end(p: Picked, n: usize) {
     test_show::named(b"taken ", p.taken);
     full(p.full);
-    let places = p.places;
-    test_show::named(b", others ", others(&places, n, p.taken));
+    test_show::named(b", others ", others(&p.places, n, p.taken));
     test_show::newline();
 }
 
@@ -91,8 +80,8 @@ fn size(n: usize, taken: usize) -> usize {
 fn lay(p: Picked, n: usize, out: &mut [u8]) {
     test_show::text(b"laid ");
     match sets::lay_out(p, n, out) {
-        Checked::Good => test_show::sectors(out),
-        Checked::Refused(r) => test_show::refused(r),
+        Ok(()) => test_show::sectors(out),
+        Err(r) => test_show::refused(r),
     }
     test_show::newline();
 }
@@ -116,16 +105,12 @@ fn run(line: &[u8]) {
         test_cases::number(line, 3),
         test_cases::number(line, 4),
     );
-    let answer = p.answer;
-    match answer {
-        Checked::Refused(r) => {
+    match p.answer {
+        Err(r) => {
             test_show::refused(r);
             test_show::text(b", ");
         }
-        Checked::Good => {
-            let places = p.places;
-            rings(&places, n, p.taken);
-        }
+        Ok(()) => rings(&p.places, n, p.taken),
     }
     end(p, n);
     let mut buf = [0u8; 768];

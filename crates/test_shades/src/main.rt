@@ -8,22 +8,23 @@
 
 #![tactic(auto)]
 
-use shades::{FirstAnswer, NextAnswer};
+use refusal::Refusal;
+use shades::Next;
 
 // ---- one call, and what it leaves
 
-fn print_first(r: FirstAnswer) {
+fn print_first(r: Result<(), Refusal>) {
     match r {
-        FirstAnswer::Ring => test_show::text(b"ring"),
-        FirstAnswer::Refused(r) => test_show::refused(r),
+        Ok(()) => test_show::text(b"ring"),
+        Err(r) => test_show::refused(r),
     }
 }
 
-fn print_next(r: NextAnswer) {
+fn print_next(r: Result<Next, Refusal>) {
     match r {
-        NextAnswer::Ring => test_show::text(b"ring"),
-        NextAnswer::Done => test_show::text(b"done"),
-        NextAnswer::Refused(r) => test_show::refused(r),
+        Ok(Next::Ring) => test_show::text(b"ring"),
+        Ok(Next::Done) => test_show::text(b"done"),
+        Err(r) => test_show::refused(r),
     }
 }
 
@@ -47,7 +48,7 @@ fn print_ring(ring: &[u8]) {
 
 // Whether `first_ring` gives a ring; a refusal is printed.
 fn begins(k: usize, counts: &[usize], ring: &mut [u8]) -> bool {
-    let FirstAnswer::Refused(r) = shades::first_ring(k, counts, ring) else {
+    let Err(r) = shades::first_ring(k, counts, ring) else {
         return true;
     };
     test_show::refused(r);
@@ -58,7 +59,7 @@ fn begins(k: usize, counts: &[usize], ring: &mut [u8]) -> bool {
 // Whether there is a next ring, which is then in `ring`; what else is answered is printed.
 fn goes_on(k: usize, counts: &[usize], ring: &mut [u8], next: &mut [u8]) -> bool {
     let answer = shades::next_ring(ring, k, counts, next);
-    let NextAnswer::Ring = answer else {
+    let Ok(Next::Ring) = answer else {
         print_next(answer);
         test_show::newline();
         return false;
@@ -71,19 +72,18 @@ fn goes_on(k: usize, counts: &[usize], ring: &mut [u8], next: &mut [u8]) -> bool
 
 // How many rings there are with these counts, from the first on until there is no other; each one's line is printed where they are listed.
 fn walk(k: usize, counts: &[usize], ring: &mut [u8], next: &mut [u8], listed: bool) -> usize {
-    let mut rings: usize = 0;
-    let mut more = begins(k, counts, ring);
-    while more {
-        if 20000 <= rings {
-            return rings;
-        }
-        rings += 1;
+    if !begins(k, counts, ring) {
+        return 0;
+    }
+    for passed in 0..20000 {
         if listed {
             print_ring(ring);
         }
-        more = goes_on(k, counts, ring, next);
+        if !goes_on(k, counts, ring, next) {
+            return passed + 1;
+        }
     }
-    rings
+    20000
 }
 
 // ---- the lines
@@ -126,10 +126,7 @@ fn answer(line: &[u8], counts: &[usize]) {
 
 // How many words stand before the counts.
 fn before(what: u8) -> usize {
-    if what == b'n' {
-        return 4;
-    }
-    3
+    if what == b'n' { 4 } else { 3 }
 }
 
 fn run(line: &[u8]) {

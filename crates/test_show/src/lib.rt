@@ -23,10 +23,7 @@ pub fn newline() {
 
 // Whether a line of cases is a heading, `say` and what it says; that is printed then.
 pub fn said(line: &[u8]) -> bool {
-    if line.len() < 4 {
-        return false;
-    }
-    if line[0] != b's' {
+    if line.len() < 4 || line[0] != b's' {
         return false;
     }
     text(&line[4..]);
@@ -46,21 +43,17 @@ pub fn named(name: &[u8], x: usize) {
 }
 
 fn digit(x: u8) -> u8 {
-    if x < 10 {
-        return b'0' + x;
+    match x {
+        0..=9 => b'0' + x,
+        10..=15 => b'a' - 10 + x,
+        _ => b'?',
     }
-    if x < 16 {
-        return b'a' - 10 + x;
-    }
-    b'?'
 }
 
 // Bytes as a reading, one lower-case hexadecimal digit for each sector; '?' for a byte that is no shade.
 pub fn sectors(s: &[u8]) {
-    let mut i = 0;
-    while i < s.len() {
-        text(&[digit(s[i])]);
-        i += 1;
+    for &x in s {
+        text(&[digit(x)]);
     }
 }
 
@@ -72,11 +65,8 @@ pub fn output(out: &[u8]) {
 
 // Bytes, two lower-case hexadecimal digits each.
 pub fn bytes(s: &[u8]) {
-    let mut i = 0;
-    while i < s.len() {
-        let x = s[i];
+    for &x in s {
         text(&[digit(x / 16), digit(x % 16)]);
-        i += 1;
     }
 }
 

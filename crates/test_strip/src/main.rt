@@ -4,22 +4,17 @@
 
 #![tactic(auto)]
 
-use strip::{Position, Written};
-
 // An output of any length, 64 bytes at a time.
 fn print_out(out: &[u8]) {
-    let mut at = 0;
-    while 64 < out.len() - at {
-        test_show::sectors(&out[at..at + 64]);
-        at += 64;
+    for piece in out.chunks(64) {
+        test_show::sectors(piece);
     }
-    test_show::sectors(&out[at..]);
 }
 
 fn write(n: usize, k: usize, out: &mut [u8]) {
     match strip::write_strip(n, k, out) {
-        Written::Strip => test_show::text(b"strip "),
-        Written::Refused(r) => {
+        Ok(()) => test_show::text(b"strip "),
+        Err(r) => {
             test_show::refused(r);
             test_show::space();
         }
@@ -30,10 +25,8 @@ fn write(n: usize, k: usize, out: &mut [u8]) {
 
 fn place(reading: &[u8], k: usize) {
     match strip::place_of(reading, k) {
-        Position::Place(p) => {
-            test_show::named(b"place ", p);
-        }
-        Position::Refused(r) => test_show::refused(r),
+        Ok(p) => test_show::named(b"place ", p),
+        Err(r) => test_show::refused(r),
     }
     test_show::newline();
 }
@@ -61,14 +54,12 @@ fn line_of_place(line: &[u8]) {
 
 // One line; the first letter tells what to do.
 fn run(line: &[u8]) {
-    if line.len() < 1 {
-        return;
+    if let Some(&letter) = line.first() {
+        match letter {
+            b'w' => line_of_write(line),
+            _ => line_of_place(line),
+        }
     }
-    if line[0] == b'w' {
-        line_of_write(line);
-        return;
-    }
-    line_of_place(line);
 }
 
 fn main() {

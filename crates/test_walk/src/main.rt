@@ -10,7 +10,7 @@
 
 #![tactic(auto)]
 
-use refusal::Checked;
+use refusal::Refusal;
 use rings::Class;
 use walk::{Arrival, Arrived, Outcome, Stepped, Walk};
 
@@ -25,9 +25,9 @@ fn print_ring(w: Walk) {
 }
 
 fn print_counts(counts: [u8; 16]) {
-    for b in 0..16 {
+    for count in counts {
         test_show::space();
-        test_show::number(counts[b] as usize);
+        test_show::number(usize::from(count));
     }
 }
 
@@ -39,10 +39,8 @@ fn print_record(w: Walk) {
     test_show::space();
     print_ring(w);
     test_show::space();
-    let c = w.class;
-    test_show::class(c);
-    let counts = w.counts;
-    print_counts(counts);
+    test_show::class(w.class);
+    print_counts(w.counts);
     test_show::newline();
 }
 
@@ -52,56 +50,46 @@ fn arrived(a: Arrival) -> Outcome {
     match a {
         Arrival::Moved => Outcome::Moved(0),
         Arrival::Done => Outcome::Done(0),
-        Arrival::Refused(r) => Outcome::Refused(r),
     }
 }
 
 // The step to the next bracelet, as one that tells 0 moves.
 fn over(s: Arrived) -> Stepped {
-    let a = s.arrival;
-    let w = s.walk;
     Stepped {
-        outcome: arrived(a),
-        walk: w,
+        outcome: s.arrival.map(arrived),
+        walk: s.walk,
     }
 }
 
 // One of the four steps, by the first letter of its kind.
 fn step(w: Walk, kind: u8) -> Stepped {
-    if kind == b'p' {
-        return walk::next_prenecklace(w);
+    match kind {
+        b'p' => walk::next_prenecklace(w),
+        b'n' => walk::next_necklace(w),
+        b'l' => walk::next_lyndon(w),
+        _ => over(walk::next_bracelet(w)),
     }
-    if kind == b'n' {
-        return walk::next_necklace(w);
-    }
-    if kind == b'l' {
-        return walk::next_lyndon(w);
-    }
-    over(walk::next_bracelet(w))
 }
 
-fn print_outcome(o: Outcome) {
+fn print_outcome(o: Result<Outcome, Refusal>) {
     match o {
-        Outcome::Moved(m) => test_show::named(b"moved ", m),
-        Outcome::Done(m) => test_show::named(b"done ", m),
-        Outcome::Refused(r) => test_show::refused(r),
+        Ok(Outcome::Moved(m)) => test_show::named(b"moved ", m),
+        Ok(Outcome::Done(m)) => test_show::named(b"done ", m),
+        Err(r) => test_show::refused(r),
     }
 }
 
 // The records that follow, at most so many, up to the first that does not move.
 fn follow(start: Walk, kind: u8, times: usize) {
     let mut w = start;
-    let mut count: usize = 0;
-    while count < times {
+    for _ in 0..times {
         let s = step(w, kind);
-        let o = s.outcome;
         w = s.walk;
-        print_outcome(o);
+        print_outcome(s.outcome);
         print_record(w);
-        let Outcome::Moved(_) = o else {
+        let Ok(Outcome::Moved(_)) = s.outcome else {
             break;
         };
-        count += 1;
     }
 }
 
@@ -116,20 +104,17 @@ struct Sums {
 }
 
 // The moves of a step, Done's included.
-fn moves_of(o: Outcome) -> usize {
+fn moves_of(o: Result<Outcome, Refusal>) -> usize {
     match o {
-        Outcome::Moved(m) => m,
-        Outcome::Done(m) => m,
-        Outcome::Refused(_) => 0,
+        Ok(Outcome::Moved(m) | Outcome::Done(m)) => m,
+        Err(_) => 0,
     }
 }
 
 // The period that a record's class tells; 0 where its ring is no necklace.
 fn period_of(w: Walk) -> usize {
-    let c = w.class;
-    match c {
-        Class::Loose(_) => 0,
-        Class::Opening(_) => 0,
+    match w.class {
+        Class::Loose(_) | Class::Opening(_) => 0,
         Class::Repeating(p) => p,
         Class::Single => w.n,
     }
@@ -137,28 +122,23 @@ fn period_of(w: Walk) -> usize {
 
 // 1 where the record's ring is classed Single.
 fn single_of(w: Walk) -> usize {
-    let c = w.class;
-    let Class::Single = c else {
-        return 0;
-    };
-    1
+    usize::from(w.class == Class::Single)
 }
 
 // What was met before, with a step's moves.
-fn moved(m: Sums, o: Outcome) -> Sums {
+fn moved(m: Sums, o: Result<Outcome, Refusal>) -> Sums {
     Sums {
-        moves: std::num::wrapping_add_usize(m.moves, moves_of(o)),
-        periods: m.periods,
-        single: m.single,
+        moves: m.moves.wrapping_add(moves_of(o)),
+        ..m
     }
 }
 
 // What was met before, with a record.
 fn met(m: Sums, w: Walk) -> Sums {
     Sums {
-        moves: m.moves,
-        periods: std::num::wrapping_add_usize(m.periods, period_of(w)),
-        single: std::num::wrapping_add_usize(m.single, single_of(w)),
+        periods: m.periods.wrapping_add(period_of(w)),
+        single: m.single.wrapping_add(single_of(w)),
+        ..m
     }
 }
 
@@ -173,7 +153,6 @@ fn print_met(rings: usize, m: Sums) {
 // One full walk. It is given up after 100,000 rings, which none of these has.
 fn count_rings(start: Walk, kind: u8) {
     let mut w = start;
-    let mut rings: usize = 0;
     let mut m = met(
         Sums {
             moves: 0,
@@ -182,33 +161,28 @@ fn count_rings(start: Walk, kind: u8) {
         },
         start,
     );
-    while rings < 100000 {
+    for rings in 0..100000 {
         let s = step(w, kind);
-        let o = s.outcome;
-        m = moved(m, o);
-        let Outcome::Moved(_) = o else {
-            break;
+        m = moved(m, s.outcome);
+        let Ok(Outcome::Moved(_)) = s.outcome else {
+            print_met(rings, m);
+            return;
         };
         w = s.walk;
         m = met(m, w);
-        rings += 1;
     }
-    print_met(rings, m);
+    print_met(100000, m);
 }
 
 // ---- a record that no walk has made
 
 fn class_of(case: usize, p: usize) -> Class {
-    if case == 0 {
-        return Class::Loose(p);
+    match case {
+        0 => Class::Loose(p),
+        1 => Class::Opening(p),
+        2 => Class::Repeating(p),
+        _ => Class::Single,
     }
-    if case == 1 {
-        return Class::Opening(p);
-    }
-    if case == 2 {
-        return Class::Repeating(p);
-    }
-    Class::Single
 }
 
 // The ring that a line gives, with another sector.
@@ -240,10 +214,10 @@ fn made(line: &[u8]) -> Walk {
 
 // ---- the lines
 
-fn print_start(a: Checked) {
+fn print_start(a: Result<(), Refusal>) {
     match a {
-        Checked::Good => test_show::text(b"start"),
-        Checked::Refused(r) => test_show::refused(r),
+        Ok(()) => test_show::text(b"start"),
+        Err(r) => test_show::refused(r),
     }
 }
 
@@ -258,8 +232,7 @@ fn started(line: &[u8], what: u8) {
         count_rings(r.walk, kind);
         return;
     }
-    let a = r.answer;
-    print_start(a);
+    print_start(r.answer);
     print_record(r.walk);
     follow(r.walk, kind, test_cases::number(line, 4));
 }

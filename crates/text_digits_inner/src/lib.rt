@@ -13,12 +13,9 @@ pub fn place_text(buf: &mut [u8], at: usize, text: &[u8]) -> usize
     requires { at + length text.now ≤ length buf.old }
     ensures { Placed buf.old at text.now result buf.new }
 {
-    let mut i = 0;
-    while i < text.len() {
-        buf[at + i] = text[i];
-        i += 1;
-    }
-    at + i
+    let end = at + text.len();
+    buf[at..end].copy_from_slice(text);
+    end
 }
 
 // The decimal text of x. Most numbers of a listing are short, and are written straight.
@@ -44,10 +41,7 @@ pub fn place_decimal(buf: &mut [u8], at: usize, x: usize) -> usize
 fn digit_base(d: u8) -> u8
     ensures { (result + d ≡ hex_digit_ascii d) × (result ≤ 87) }
 {
-    if d < 10 {
-        return b'0';
-    }
-    b'a' - 10
+    if d < 10 { b'0' } else { b'a' - 10 }
 }
 
 // A lower-case hexadecimal digit.
@@ -63,10 +57,8 @@ pub fn place_sectors(buf: &mut [u8], at: usize, ring: &[u8]) -> usize
     requires { at + length ring.now ≤ length buf.old }
     ensures { Placed buf.old at (map hex_of ring.now) result buf.new }
 {
-    let mut i = 0;
-    while i < ring.len() {
-        buf[at + i] = hex(ring[i]);
-        i += 1;
+    for (i, &a) in ring.iter().enumerate() {
+        buf[at + i] = hex(a);
     }
-    at + i
+    at + ring.len()
 }

@@ -1,13 +1,16 @@
 -- Texts put into a buffer piece after piece.
 --     placed-append, placed-length           two pieces after each other are one; the buffer keeps its length
+--     placed_part                            a text copied at once
 --     placed-none, placed-copy, placed-whole    a text copied character by character
 --     placed-sector, placed-sectors          sectors written as digits one by one
 --     placed-short, placed-two, room-short, room-two    a number of one or two digits
 --     length_two, length-first, length_last, length-refused, length-ring, ring-two     how long the lines are, and of which pieces
 --     zero-line, zero_room, placed-zero      the line of a ring that comes with 0 moves and has period 1
 --     room-first, room-moves, room-second, room-period, room-end, placed-ring        a ring's line piece after piece
-use Rattle.words.proofs.Plain.{ℕ, zero, suc, ◌+◌, ◌/◌, ◌%◌, ◌<◌, ◌≤◌, add-one, arith, ◌≡◌, refl, sym, ap, ◌∙◌, List, [], ◌∷◌, ◌++◌, map, append_assoc, length}
-use Rattle.words.proofs.Plain.{get_or, take, set, length-append, length-map, length-set, sets, length-sets, take-suc, take_all}
+use Rattle.words.proofs.Plain.{ℕ, zero, suc, ◌+◌, ◌-◌, ◌/◌, ◌%◌, ◌<◌, ◌≤◌, add-one, arith, ◌≡◌, refl, sym, ap, ◌∙◌, List, [], ◌∷◌, ◌++◌, map, append_assoc, length}
+use Rattle.words.proofs.Plain.{get_or, take, drop, set, length-append, length-map, length-set, sets, length-sets, take-suc, take_all, drop-drop}
+use Rattle.std.proofs.lemmas.List.Edits.{sets-eq}
+use borrow.Rule.Slice.PartMut.{put_mid}
 use Rattle.text_spec.specs.{Ascii.ascii, Decimal.decimal, Put.Placed}
 use Rattle.text_spec.specs.Text.{two_numbers, hex_of, first_line, ring_line, last_line, refused_line}
 use Rattle.text_spec.proofs.Digits.{decimal-short, decimal-two, decimal-some}
@@ -39,6 +42,15 @@ module _ (b : List ℕ) (at : ℕ) where
 -- one character more of a text that is placed from `at` on
 pub placed_on : (b : List ℕ) (at : ℕ) (t : List ℕ) (r : ℕ) (b' : List ℕ) (a : ℕ) → Placed b at t r b' → Placed b at (t ++ (a ∷ [])) (r + 1) (set b' r a)
 placed_on b at t r b' a p = placed-append b at t r b' (a ∷ []) (r + 1) (set b' r a) p (record { next = refl; bytes = refl })
+
+-- a text copied at once: after a write to the part of the buffer that it fits
+pub placed_part : (b : List ℕ) (at : ℕ) (t u : List ℕ) → at + length t ≤ length b → u ≡ t → Placed b at t (at + length t) (put_mid at (at + length t - at) b u)
+placed_part b at t u h e =
+    let k : at + length t - at ≡ length t = omega arith in
+    record {
+      next = refl;
+      bytes = rw (k, e, drop-drop (length t) at b) (sym (sets-eq t b at h ∙ append_assoc (take at b) t (drop (at + length t) b)));
+    }
 
 -- a text copied up to place i, and one character more
 pub placed-copy : (b : List ℕ) (at i : ℕ) (t b' : List ℕ) → i < length t → Placed b at (take i t) (at + i) b' → Placed b at (take (i + 1) t) (at + (i + 1)) (set b' (at + i) (get_or t i 0))

@@ -1,6 +1,6 @@
 -- Characters by name, and quoted text as the list of its characters' codes, so that specs/Text says what is printed as it is printed.
 use Rattle.std.specs.Prelude.{ℕ, List, [], ◌∷◌}
-use Prim.Native.Char.{Char, code}
+use Prim.Native.Char.{code}
 use Prim.Native.String.{String, [] as none, ◌∷◌ as ◌then◌}
 
 abbrev pub ascii : String → List ℕ

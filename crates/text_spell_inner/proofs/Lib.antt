@@ -1,2 +1,2 @@
--- Texts, digits and readings place by place (Spelling).
+-- Texts compared, and readings place by place (Spelling).
 pub mod Spelling

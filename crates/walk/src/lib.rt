@@ -9,7 +9,6 @@ ghost use Rattle.walk_kind_laws.specs.Kinds.{kind_of};
 ghost use Rattle.walk_spec.specs.Says.{StartSays, StepSays};
 ghost use Rattle.walk_bracelet_spec.specs.Says.{ArrivalSays};
 
-use refusal::Checked;
 pub use walk_bracelet_spec::{Arrival, Arrived};
 use walk_kind_laws::Kind;
 pub use walk_spec::{Outcome, Started, Stepped, Walk};
@@ -18,13 +17,12 @@ pub use walk_spec::{Outcome, Started, Stepped, Walk};
 pub fn start(s: &[u8], k: usize) -> Started
     ensures { StartSays s.now k result.walk result.answer }
 {
-    let v = check_readings_inner::check_reading(s, k);
-    match v {
-        Checked::Refused(r) => Started {
+    match check_readings_inner::check_reading(s, k) {
+        Err(r) => Started {
             walk: walk_record_inner::empty(),
-            answer: Checked::Refused(r),
+            answer: Err(r),
         },
-        Checked::Good => walk_start_inner::start_good(s, k),
+        Ok(()) => walk_start_inner::start_good(s, k),
     }
 }
 
@@ -33,13 +31,12 @@ pub fn start(s: &[u8], k: usize) -> Started
 fn step(w: Walk, kind: Kind) -> Stepped
     ensures { StepSays (kind_of kind) w result.walk result.outcome }
 {
-    let v = walk_checks_inner::check_walk(w);
-    match v {
-        Checked::Refused(r) => Stepped {
+    match walk_checks_inner::check_walk(w) {
+        Err(r) => Stepped {
             walk: w,
-            outcome: Outcome::Refused(r),
+            outcome: Err(r),
         },
-        Checked::Good => walk_step_inner::step_good(w, kind),
+        Ok(()) => walk_step_inner::step_good(w, kind),
     }
 }
 
@@ -70,12 +67,11 @@ pub fn next_lyndon(w: Walk) -> Stepped
 pub fn next_bracelet(w: Walk) -> Arrived
     ensures { ArrivalSays w result.walk result.arrival }
 {
-    let v = walk_checks_inner::check_walk(w);
-    match v {
-        Checked::Refused(r) => Arrived {
+    match walk_checks_inner::check_walk(w) {
+        Err(r) => Arrived {
             walk: w,
-            arrival: Arrival::Refused(r),
+            arrival: Err(r),
         },
-        Checked::Good => walk_bracelet_inner::step_good(w),
+        Ok(()) => walk_bracelet_inner::step_good(w),
     }
 }

@@ -3,13 +3,13 @@
 --     arrived-long, arrived-ring    the ring that it comes to, laid over the first n sectors of the given one
 --     arrived-passed, arrived       a start from it is not refused, and hands out its record, as a step that moved promises
 --     ended                         where there is no next bracelet the record is handed back
+use Rattle.std.specs.Prelude.{Result, Ok, Err}
 use Rattle.words.proofs.Plain.{ℕ, arith, ◌≡◌, refl, sym, ap, ◌∙◌, true, none, some, List, ◌++◌, length, take, drop, take-append_seam}
 use Rattle.words.specs.Readings.{Reading}
 use Rattle.rings.specs.{Prenecklace.prenecklace, Alike.bracelet, Steps.next_of}
 use Rattle.ring_laws.proofs.{Words.necklace-prenecklace, FullWalk.next-facts}
 use Rattle.bracelet_laws.proofs.Words.{bracelet-necklace}
-use Rattle.refusal.specs.{declared.Checked.Checked, Order.Passed, Calls.one_reading, Calls.walk_start}
-use Rattle.refusal.specs.declared.Checked.TheVariants as C
+use Rattle.refusal.specs.{declared.Refusal.Refusal, Order.Passed, Calls.one_reading, Calls.walk_start}
 use Rattle.refusal.proofs.Unique.{never_both}
 use Rattle.walk_spec.specs.{declared.Walk.Walk, Says.StartSays}
 use Rattle.walk_spec.specs.Record.{ring_of, walk_of, walk_asked}
@@ -42,15 +42,15 @@ module _ (w : Walk) (good : Passed (walk_asked w)) (size : length w.ring ≡ 64)
         (((((((omega (arith, r.pos), omega (arith, r.fits)), tt), (r.shades, r.few)), λ i b. reading.shades i (omega arith)), tt), tt), refl)
 
     -- and is a prenecklace, so that a start from it hands out its record
-    arrived-is : (to : Walk) (answer : Checked) → StartSays v w.k to answer → to ≡ walk_of w.k v
-    arrived-is to C.Good says = says.1
-    arrived-is to (C.Refused r) says = absurd (never_both (walk_start v w.k (prenecklace v)) r says.0 (arrived-passed.0, on))
+    arrived-is : (to : Walk) (answer : Result Unit Refusal) → StartSays v w.k to answer → to ≡ walk_of w.k v
+    arrived-is to (Ok _) says = says.1
+    arrived-is to (Err r) says = absurd (never_both (walk_start v w.k (prenecklace v)) r says.0 (arrived-passed.0, on))
       where
         on : prenecklace v ≡ true
         on = necklace-prenecklace v (bracelet-necklace v (next-facts bracelet w.k (ring_of w) v next).2)
 
     -- what is promised of a step that moved
-    pub arrived : (to : Walk) (answer : Checked) → StartSays v w.k to answer → Onward w to
+    pub arrived : (to : Walk) (answer : Result Unit Refusal) → StartSays v w.k to answer → Onward w to
     arrived to answer says = record { good = good; to = v; next = next; handed = arrived-is to answer says }
 
 -- what is promised of a step that is Done

@@ -19,14 +19,13 @@ pub fn step_good(w: Walk) -> Arrived
     let mut ahead = w.ring;
     if bracelet_next_inner::next(&mut ahead[..n], k) {
         let started = walk_start_inner::start_good(&ahead[..n], k);
-        let to = started.walk;
         return Arrived {
-            walk: to,
-            arrival: Arrival::Moved,
+            walk: started.walk,
+            arrival: Ok(Arrival::Moved),
         };
     }
     Arrived {
         walk: w,
-        arrival: Arrival::Done,
+        arrival: Ok(Arrival::Done),
     }
 }

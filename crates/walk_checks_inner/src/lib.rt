@@ -7,54 +7,39 @@ ghost use Rattle.refusal.specs.Order.{CheckSays};
 ghost use Rattle.refusal.specs.Calls.{walk_record};
 ghost use Rattle.walk_spec.specs.Record.{walk_asked};
 
-use refusal::{Checked, Refusal};
+use refusal::Refusal;
 use rings::MOST_SECTORS;
 use walk_spec::Walk;
 
 // ---- its sectors
 
 // A walk's record: 1, 2, 3, where the sectors past n are 0.
-pub fn check_ring(n: usize, k: usize, ring: [u8; 64]) -> Checked
+pub fn check_ring(n: usize, k: usize, ring: [u8; 64]) -> Result<(), Refusal>
     ensures { CheckSays (walk_record n k ring true) result }
 {
-    match check_numbers_inner::check_numbers(n, n, k) {
-        Checked::Refused(r) => Checked::Refused(r),
-        Checked::Good => {
-            let at = check_numbers_inner::first_bad(&ring[..n], k);
-            if at < n {
-                return Checked::Refused(Refusal::Sector(at));
-            }
-            let past = check_numbers_inner::first_bad(&ring[n..], 1);
-            if past < MOST_SECTORS - n {
-                return Checked::Refused(Refusal::Sector(n + past));
-            }
-            Checked::Good
-        }
+    check_numbers_inner::check_numbers(n, n, k)?;
+    let at = check_numbers_inner::first_bad(&ring[..n], k);
+    if at < n {
+        return Err(Refusal::Sector(at));
     }
+    let past = check_numbers_inner::first_bad(&ring[n..], 1);
+    if past < MOST_SECTORS - n {
+        return Err(Refusal::Sector(n + past));
+    }
+    Ok(())
 }
 
 // ---- all of it
 
-pub fn check_walk(w: Walk) -> Checked
+pub fn check_walk(w: Walk) -> Result<(), Refusal>
     ensures { CheckSays (walk_asked w) result }
 {
-    let n = w.n;
-    let ring = w.ring;
-    let class = w.class;
-    let counts = w.counts;
-    let v = check_ring(n, w.k, ring);
-    match v {
-        Checked::Refused(r) => Checked::Refused(r),
-        Checked::Good => {
-            let looked = walk_class_inner::on_walk(ring, n, class);
-            if !looked.on {
-                return Checked::Refused(Refusal::OffWalk(looked.at));
-            }
-            let own = walk_counts_inner::counts_of(ring, n);
-            if walk_counts_inner::same_counts(counts, own) {
-                return Checked::Good;
-            }
-            Checked::Refused(Refusal::OffWalk(0))
-        }
+    check_ring(w.n, w.k, w.ring)?;
+    walk_class_inner::on_walk(w.ring, w.n, w.class)?;
+    let own = walk_counts_inner::counts_of(w.ring, w.n);
+    if walk_counts_inner::same_counts(w.counts, own) {
+        Ok(())
+    } else {
+        Err(Refusal::OffWalk(0))
     }
 }

@@ -2,34 +2,23 @@
 
 #![tactic(auto)]
 
-ghost use Rattle.std.specs.Prelude.{◌≡◌, ◌≤◌, take};
-ghost use Rattle.rings.specs.Class.{look_at};
-ghost use Rattle.walk_spec.specs.Record.{on_walk};
+ghost use Rattle.std.specs.Prelude.{◌≤◌, take};
+ghost use Rattle.walk_class_inner.specs.Looked.{LookedAt};
 
+use refusal::Refusal;
 use rings::Class;
 
-// Whether a ring is on the walk, and the sector to look at where it is not.
-#[derive(Clone, Copy)]
-pub struct Looked {
-    pub on: bool,
-    pub at: usize,
-}
-
 // Whether the first n sectors are a prenecklace of this class. The sector to look at is theirs, whatever class is claimed for them.
-pub fn on_walk(ring: [u8; 64], n: usize, class: Class) -> Looked
+pub fn on_walk(ring: [u8; 64], n: usize, class: Class) -> Result<(), Refusal>
     requires { n ≤ 64 }
-    ensures { (result.on ≡ on_walk (take n ring) class) × (result.at ≡ look_at (take n ring)) }
+    ensures { LookedAt (take n ring) class result }
 {
     let found = classify_inner::class_of(&ring[..n]);
-    let at = classify_inner::loose_place(found);
-    if classify_inner::is_loose(found) {
-        return Looked { on: false, at: at };
+    if let Class::Loose(at) = found {
+        return Err(Refusal::OffWalk(at));
     }
-    if classify_inner::tag(class) != classify_inner::tag(found) {
-        return Looked { on: false, at: at };
+    if class != found {
+        return Err(Refusal::OffWalk(0));
     }
-    if classify_inner::value(class) != classify_inner::value(found) {
-        return Looked { on: false, at: at };
-    }
-    Looked { on: true, at: at }
+    Ok(())
 }

@@ -2,16 +2,9 @@
 
 #![tactic(auto)]
 
-ghost use Rattle.std.specs.Prelude.{◌≡◌, ◌&&◌, ◌<◌, ◌≤◌, take, eqb};
+ghost use Rattle.std.specs.Prelude.{◌≡◌, ◌≤◌, take};
 ghost use Rattle.words.specs.Order.{same};
 ghost use Rattle.rings.specs.Counts.{counts_of};
-
-// A byte as an index: it is below 256.
-fn index(x: u8) -> usize
-    ensures { (result ≡ x) × (result < 256) }
-{
-    x as usize
-}
 
 // How often each byte stands in the first n sectors. There is a count for each of the 256, so that no sector need be asked whether it is a shade.
 fn byte_counts(ring: [u8; 64], n: usize) -> [u8; 256]
@@ -19,11 +12,8 @@ fn byte_counts(ring: [u8; 64], n: usize) -> [u8; 256]
     ensures { result ≡ counts_of 256 (take n ring) }
 {
     let mut counts = [0u8; 256];
-    let mut at = 0;
-    while at < n {
-        let b = index(ring[at]);
-        counts[b] += 1;
-        at += 1;
+    for &sector in &ring[..n] {
+        counts[usize::from(sector)] += 1;
     }
     counts
 }
@@ -35,33 +25,13 @@ pub fn counts_of(ring: [u8; 64], n: usize) -> [u8; 16]
 {
     let all = byte_counts(ring, n);
     let mut counts = [0u8; 16];
-    let mut b = 0;
-    while b < 16 {
-        counts[b] = all[b];
-        b += 1;
-    }
+    counts.copy_from_slice(&all[..16]);
     counts
 }
 
-// Whether all before are the same, and x and y too.
-fn still(so: bool, x: u8, y: u8) -> bool
-    ensures { result ≡ (so && eqb x y) }
-{
-    if x != y {
-        return false;
-    }
-    so
-}
-
-// Whether the counts are the same, all 16 of them. There is no early way out, so that many are looked at at once.
+// Whether the counts are the same, all 16 of them.
 pub fn same_counts(a: [u8; 16], b: [u8; 16]) -> bool
     ensures { result ≡ same a b }
 {
-    let mut alike = true;
-    let mut i = 0;
-    while i < 16 {
-        alike = still(alike, a[i], b[i]);
-        i += 1;
-    }
-    alike
+    a == b
 }

@@ -3,6 +3,7 @@
 --     start-carries       of the record that a start hands out
 --     step-carries        of the record that a step hands on, of whatever kind
 --     arrival-carries     and of the one that a step to the next bracelet does
+use Rattle.std.specs.Prelude.{Ok}
 use Rattle.words.proofs.Plain.{ℕ, ◌<◌, ◌≤◌, arith, ◌≡◌, sym, ap, ◌∙◌, Bool, List, length, get_or, List·get_d-eq-default}
 use Rattle.words.specs.Order.{same}
 use Rattle.words.proofs.Split.{lt, eq, gt, tri, both_right}
@@ -10,7 +11,6 @@ use Rattle.words.proofs.{Search.length-tab, Search.get_d-tab, Lex.same_true}
 use Rattle.rings.specs.{Alike.bracelet, Counts.occurs, Counts.counts_of}
 use Rattle.ring_laws.proofs.FullWalk.{next-facts}
 use Rattle.shades_laws.proofs.Occurs.{occurs-past}
-use Rattle.refusal.specs.declared.Checked.TheVariants as C
 use Rattle.refusal.specs.Order.{Passed}
 use Rattle.walk_spec.specs.{declared.Walk.Walk, declared.Outcome.TheVariants.Moved, Says.StartSays, Says.StepSays}
 use Rattle.walk_spec.specs.Record.{ring_of, shade_counts, walk_of, on_walk, walk_asked}
@@ -52,17 +52,17 @@ ring-carries : (k : ℕ) (v : List ℕ) → k ≤ 16 → ((i : ℕ) → i < leng
 ring-carries k v few low = counts-carry (walk_of k v) few (ap shade_counts (sym (ring_of_lem k v))) (rw (ring_of_lem k v) low)
 
 -- the record that a start hands out
-pub start-carries : (s : List ℕ) (k : ℕ) (v : Walk) → StartSays s k v C.Good → Carries v
+pub start-carries : (s : List ℕ) (k : ℕ) (v : Walk) → StartSays s k v (Ok tt) → Carries v
 start-carries s k v says = rw says.1 (ring-carries k s says.0.0.0.0.0.1.1 says.0.0.0.0.1)
 
 -- the record that a step hands on
-pub step-carries : (kind : List ℕ → Bool) (w v : Walk) (m : ℕ) → StepSays kind w v (Moved m) → Carries v
+pub step-carries : (kind : List ℕ → Bool) (w v : Walk) (m : ℕ) → StepSays kind w v (Ok (Moved m)) → Carries v
 step-carries kind w v m says =
     let f = next-facts kind w.k (ring_of w) says.to says.next in
     rw says.handed (ring-carries w.k says.to says.good.0.0.0.0.1.1 (λ i h. f.0.shades i (omega (arith, f.0.long))))
 
 -- and the one that a step to the next bracelet does
-pub arrival-carries : (w v : Walk) → ArrivalSays w v A.Moved → Carries v
+pub arrival-carries : (w v : Walk) → ArrivalSays w v (Ok A.Moved) → Carries v
 arrival-carries w v says =
     let f = next-facts bracelet w.k (ring_of w) says.to says.next in
     rw says.handed (ring-carries w.k says.to says.good.0.0.0.0.1.1 (λ i h. f.0.shades i (omega (arith, f.0.long))))

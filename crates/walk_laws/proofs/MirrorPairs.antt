@@ -7,6 +7,7 @@
 --     pairs-handed-out         for every n and k of the page there is what the sentences speak of
 -- The calls are spoken of by their contracts, which no two answers satisfy (`walk_spec` and `walk_bracelet_spec`, proofs/Unique): so the answers here are the
 -- code's.
+use Rattle.std.specs.Prelude.{Ok}
 use Rattle.words.proofs.Plain.{ℕ, ◌≡◌, refl, sym, subst, true, List, ◌∷◌}
 use Rattle.words.specs.Readings.{Sized, Shaded, Reading}
 use Rattle.words.proofs.Readings.{All, Increasing}
@@ -15,7 +16,6 @@ use Rattle.ring_laws.proofs.{Words.necklace-prenecklace, FullWalk.zeros}
 use Rattle.bracelet_laws.specs.Pairs.{OneOfEachPair, EvenForItself}
 use Rattle.bracelet_laws.proofs.Words.{bracelet-necklace}
 use Rattle.bracelet_laws.proofs.Pairs.{walk-bracelets, walk-order, walk-pairs, walk-even}
-use Rattle.refusal.specs.declared.Checked.TheVariants as C
 use Rattle.walk_spec.specs.{declared.Walk.Walk, Record.ring_of, Says.StartSays, Says.Steps}
 use Rattle.walk_spec.specs.Says as says
 use Rattle.walk_laws.specs.Arrivals.{Arrivals, PairsHandedOut, ends, goes}
@@ -63,7 +63,7 @@ module _ (n k : ℕ) (out : PairsHandedOut n k) where
 -- ---- steps come to Done
 
 -- from every record that a start hands out, steps to the next bracelet come to Done
-pub arrivals-end : (s : List ℕ) (k : ℕ) (v : Walk) → StartSays s k v C.Good → (rings : List (List ℕ)) × Arrivals v rings
+pub arrivals-end : (s : List ℕ) (k : ℕ) (v : Walk) → StartSays s k v (Ok tt) → (rings : List (List ℕ)) × Arrivals v rings
 arrivals-end s k v p = let e = steps-end bracelet (λ u h. necklace-prenecklace u (bracelet-necklace u h)) s k v p in (e.0, steps-arrivals e.2)
 
 -- for every n and k of the page a start from the all-zero ring is not refused, and the steps from it come to Done

@@ -5,6 +5,7 @@
 --     handed-out-sum         the moves that the steps report add up to one less than the prenecklaces of n and k
 --     handed-out-bound       and to at most one less than the necklaces of lengths 1 to n together
 --     handed_out             for every n and k of the page there is what these sentences speak of
+use Rattle.std.specs.Prelude.{Ok}
 use Rattle.words.proofs.Plain.{ℕ, arith, refl, sym, subst, List}
 use Rattle.words.specs.Readings.{Sized, Shaded}
 use Rattle.rings.specs.{Necklace.necklace, Steps.FullWalk}
@@ -12,7 +13,6 @@ use Rattle.ring_laws.proofs.Words.{necklace-prenecklace}
 use Rattle.ring_laws.proofs.FullWalk.{zeros, length-zeros, zeros-reading, zeros-prenecklace, walk-sum, walk-sum-bound}
 use Rattle.ring_total_laws.specs.OneRing.{OneRingEach, PeriodsAddUp}
 use Rattle.ring_total_laws.proofs.OneRing.{one-ring, period-sum}
-use Rattle.refusal.specs.declared.Checked.TheVariants as C
 use Rattle.walk_spec.specs.{Record.walk_of, Says.StartSays}
 use Rattle.walk_laws.proofs.Started.{start-zeros, long, many, start-walk, steps-end}
 use Rattle.walk_laws.specs.HandedOut.{HandedOut, OneRingHandedOut, PeriodsHandedOut, MovesHandedOut, MovesWithin}
@@ -50,7 +50,7 @@ handed_out n k sized shaded =
     let s = steps-end necklace necklace-prenecklace (zeros n) k (walk_of k (zeros n)) started in
     record { first = walk_of k (zeros n); started = started; rings = s.0; sum = s.1; steps = s.2 }
   where
-    started : StartSays (zeros n) k (walk_of k (zeros n)) C.Good
+    started : StartSays (zeros n) k (walk_of k (zeros n)) (Ok tt)
     started =
         let r = zeros-reading n k (omega arith) in
         let l = length-zeros n in

@@ -3,19 +3,19 @@
 --     start-walk                 the steps from it are the full walk from the all-zero ring
 --     walk_steps                 steps from a record do what the full walk from its ring does
 --     steps-end                  so from every record that a start hands out they come to Done
+use Rattle.std.specs.Prelude.{Ok}
 use Rattle.words.proofs.Plain.{ℕ, ◌+◌, ◌<◌, arith, ◌≡◌, refl, sym, subst, ap, ◌∙◌, Bool, true, none, some, List, ◌∷◌, length}
 use Rattle.words.specs.Readings.{Sized, Shaded, Reading}
 use Rattle.rings.specs.Prenecklace.{prenecklace}
 use Rattle.rings.specs.Steps.{moves, FullWalk, done, step}
 use Rattle.ring_laws.proofs.FullWalk.{next-facts, walk-exists, zeros, length-zeros}
-use Rattle.refusal.specs.declared.Checked.TheVariants as C
 use Rattle.walk_spec.specs.{declared.Walk.Walk, Record.ring_of, Record.walk_of}
 use Rattle.walk_spec.specs.Says.{StartSays, Steps, ends, goes}
 use Rattle.walk_record_laws.proofs.{Good.ring_of_lem, Good.walk-good, Sums.steps-walk}
 
 -- ---- the steps are a full walk
 
-module _ (n k : ℕ) (first : Walk) (started : StartSays (zeros n) k first C.Good) where
+module _ (n k : ℕ) (first : Walk) (started : StartSays (zeros n) k first (Ok tt)) where
   -- the ring that the start hands out is the all-zero ring
   pub start-zeros : ring_of first ≡ zeros n
   start-zeros = ap ring_of started.1 ∙ ring_of_lem k (zeros n)
@@ -46,7 +46,7 @@ module _ (kind : List ℕ → Bool) (only : (u : List ℕ) → kind u ≡ true �
       (walk_steps (subst (λ (x : ℕ). Reading x k v) r.long g.0) (only v g.2) f))
 
 -- so from every record that a start hands out they come to Done
-pub steps-end : (kind : List ℕ → Bool) → ((u : List ℕ) → kind u ≡ true → prenecklace u ≡ true) → (s : List ℕ) (k : ℕ) (v : Walk) → StartSays s k v C.Good →
+pub steps-end : (kind : List ℕ → Bool) → ((u : List ℕ) → kind u ≡ true → prenecklace u ≡ true) → (s : List ℕ) (k : ℕ) (v : Walk) → StartSays s k v (Ok tt) →
     (rings : List (List ℕ)) × (m : ℕ) × Steps kind v rings m
 steps-end kind only s k v (checks, is) =
     let f = walk-exists kind k s in

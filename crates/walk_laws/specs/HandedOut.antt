@@ -6,12 +6,11 @@
 --                                    than the necklaces of lengths 1 to n together
 -- The calls are spoken of by their contracts, which no two answers satisfy (`walk_spec`, proofs/Unique): so the answers here are the code's. That they hold, and that there
 -- is such a start and such steps for every n and k of the page: proofs/OneRing.
-use Rattle.std.specs.Prelude.{ℕ, suc, ◌≤◌, ◌≡◌, List}
+use Rattle.std.specs.Prelude.{ℕ, suc, ◌≤◌, ◌≡◌, List, Ok}
 use Rattle.rings.specs.Necklace.{necklace}
 use Rattle.rings.specs.Prenecklace.{prenecklace}
 use Rattle.rings.specs.Steps.{how_many, how_many_to, zeros}
 use Rattle.ring_total_laws.specs.OneRing.{OneRingEach, PeriodsAddUp}
-use Rattle.refusal.specs.declared.Checked.TheVariants as C
 use Rattle.walk_spec.specs.declared.Walk.{Walk}
 use Rattle.walk_spec.specs.Record.{ring_of}
 use Rattle.walk_spec.specs.Says.{StartSays, Steps}
@@ -20,7 +19,7 @@ use Rattle.walk_spec.specs.Says.{StartSays, Steps}
 pub record HandedOut (n k : ℕ) : Type 0 where
   -- the record that the start hands out
   pub first : Walk
-  pub started : StartSays (zeros n) k first C.Good
+  pub started : StartSays (zeros n) k first (Ok tt)
   -- the rings of the records that the steps hand out, and the sum of their moves
   pub rings : List (List ℕ)
   pub sum : ℕ

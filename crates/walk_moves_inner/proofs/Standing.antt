@@ -7,26 +7,22 @@
 --     stands-found          the next prenecklace is of the kind
 --     stands_on             it is not
 --     Risen, risen          so what is known behind a place that was raised
-use Rattle.words.proofs.Plain.{ℕ, ◌+◌, ◌-◌, ◌%◌, ◌<◌, ◌≤◌, add-one, arith, ◌≡◌, refl, sym, ap, ◌∙◌, ⊎_elim, ◌⊎◌, inl, inr, true, false, List, eqb, length, get_or}
-use Rattle.words.proofs.Plain.{eq-eqb, ne_eqb, eqb-true, eqb-false}
-use native.Mathlib.Nat.{mod_self, mod-eq_of_lt, add-mod_left}
+use Rattle.std.specs.Prelude.{Some, None}
+use Rattle.words.proofs.Plain.{ℕ, ◌+◌, ◌-◌, ◌<◌, ◌≤◌, add-one, arith, ◌≡◌, refl, sym, ap, ◌∙◌, ⊎_elim, ◌⊎◌, inl, inr, true, false, List, length, get_or}
 use Rattle.words.specs.{Order.before, Order.up_to, Readings.Reading}
-use Rattle.words.proofs.Split.{Test, passes, fails, test, agree, clash, lt, eq, gt, tri}
+use Rattle.words.proofs.Split.{clash, lt, eq, gt, tri}
 use Rattle.words.proofs.Lex.{ahead, equal, behind, lex, before-irrefl, before-not-up_to}
 use Rattle.words.proofs.Sequence.{sec}
-use Rattle.rings.specs.declared.Class.TheVariants.{Single, Repeating, Opening}
-use Rattle.rings.specs.{Necklace.necklace, Necklace.lyndon, Prenecklace.prenecklace, Prenecklace.lyn, Class.class_of}
+use Rattle.rings.specs.{Necklace.necklace, Prenecklace.lyn}
 use Rattle.rings.specs.Next.{last_low, raised, repeated, next_prenecklace}
-use Rattle.ring_laws.proofs.{Run.Run, Words.necklace-prenecklace, Bound.lyn-rises}
-use Rattle.ring_laws.proofs.Lyndon.{run-necklace, necklace-run, run-prenecklace}
-use Rattle.ring_laws.proofs.Classes.{run-lyndon, lyndon-run, lyndon-necklace, class-single, class-repeating, class-opening}
+use Rattle.ring_laws.proofs.{Run.Run, Bound.lyn-rises}
+use Rattle.ring_laws.proofs.Lyndon.{run-necklace}
 use Rattle.ring_laws.proofs.Next.{low-le, low-at, low-none, length-next, next-is-run, next-lyn-low}
-use Rattle.ring_laws.proofs.Walk.{Kind, Walked, walk_start_lem, walk-found, walk-on, walk-done}
+use Rattle.ring_laws.proofs.Walk.{Walked, walk_start_lem, walk-found, walk-on, walk-done}
 use Rattle.walk_kind_laws.specs.declared.Kind as K
-use Rattle.walk_kind_laws.specs.declared.Kind.TheVariants.{Prenecklace, Necklace, Lyndon}
 use Rattle.walk_kind_laws.specs.Kinds.{kind_of, kind_at, ReadyToStep}
 use Rattle.walk_kind_laws.proofs.ByLyn.{kind-only, kind-at, kind-full}
-use Rattle.walk_moves_inner.specs.Going.{Found}
+use Rattle.walk_moves_inner.specs.Going.{FoundAt}
 
 -- where every sector is k - 1 the ring is a necklace
 full-necklace : (k : ℕ) (v : List ℕ) → Reading (length v) k v → 0 < length v → last_low k v ≡ 0 → necklace v ≡ true
@@ -49,7 +45,7 @@ pub record Risen (kind : K.Kind) (k : ℕ) (start : List ℕ) (p m i : ℕ) (nex
   pub long : length next ≡ length start
   pub short : p < length start
   pub rises : p < i
-  pub found : kind_at kind (length next) i ≡ true → Found kind k start next (record { lyn = i; moves = m + 1 })
+  pub found : kind_at kind (length next) i ≡ true → FoundAt kind k start next (Some i) (m + 1)
   pub on : kind_at kind (length next) i ≡ false → Stands kind k start next i (m + 1)
 
 module _ {kind : K.Kind} {k : ℕ} {start : List ℕ} (ready : ReadyToStep k start) where
@@ -62,20 +58,17 @@ module _ {kind : K.Kind} {k : ℕ} {start : List ℕ} (ready : ReadyToStep k sta
     own = rw at.walked.long at.walked.reading
 
     -- the place to raise is in the ring, and the sector there is no byte's greatest
-    pub stands-low : 0 < i → (i ≤ length ring) × (get_or ring (i - 1) 0 < 255)
-    stands-low z = rw low (low-le k ring, omega (arith, low-at k ring (rw (← low) z), ready.few))
+    pub stands-low : (a : ℕ) → i ≡ a + 1 → (a < length ring) × (get_or ring a 0 < 255)
+    stands-low a e =
+        let q : last_low k ring - 1 ≡ a = omega (arith, low) in
+        (omega (arith, low, low-le k ring), omega (arith, rw q at (low-at k ring (rw (← low) (let z : 0 < i = omega arith in z))), ready.few))
 
     -- no place can be raised: there is none of the kind, and a step by necklaces has not moved, since the last ring is a necklace
-    pub stands-none : i ≡ 0 → Found kind k start ring (record { lyn = 0; moves = m })
+    pub stands-none : i ≡ 0 → FoundAt kind k start ring None m
     unfolding kind_of
     stands-none e =
-        record {
-          done = λ q. walk-done (kind_of kind) k start ring m at.walked (sym low ∙ e);
-          kept = λ q n. still (ap (λ (x : K.Kind). kind_of x ring) n ∙ full-necklace k ring own (omega (arith, at.walked.long, ready.pos)) (sym low ∙ e));
-          next = λ q. absurd (omega arith);
-          moved = λ q. absurd (omega arith);
-          lyn-of = λ q. absurd (omega arith);
-        }
+        let d = walk-done (kind_of kind) k start ring m at.walked (sym low ∙ e) in
+        (d.0, d.1, λ n. still (ap (λ (x : K.Kind). kind_of x ring) n ∙ full-necklace k ring own (omega (arith, at.walked.long, ready.pos)) (sym low ∙ e)))
       where
         still : kind_of kind ring ≡ true → ring ≡ start
         still q =
@@ -111,16 +104,10 @@ module _ {kind : K.Kind} {k : ℕ} {start : List ℕ} (ready : ReadyToStep k sta
       next-kind = rw moved-next (kind-at kind (next_prenecklace k ring) i next-run)
 
       -- it is of the kind
-      stands-found : kind_at kind (length next) i ≡ true → Found kind k start next (record { lyn = i; moves = m + 1 })
+      stands-found : kind_at kind (length next) i ≡ true → FoundAt kind k start next (Some i) (m + 1)
       stands-found q =
           let f = walk-found (kind_of kind) k start ring m at.walked (kind-only kind) lifted (next-kind ∙ q) in
-          record {
-            done = λ e. absurd (omega arith);
-            kept = λ e. absurd (omega arith);
-            next = λ e. rw moved-next f.0;
-            moved = λ e. rw (moved-next, add-one m) f.1;
-            lyn-of = λ e. rw moved-next (next-lyn-low k ring lifted at.walked.pre ∙ sym low);
-          }
+          (rw moved-next f.0, rw (moved-next, add-one m) f.1, rw moved-next (next-lyn-low k ring lifted at.walked.pre ∙ sym low), z)
 
       -- it is not
       stands_on : kind_at kind (length next) i ≡ false → Stands kind k start next i (m + 1)
@@ -140,7 +127,7 @@ module _ {kind : K.Kind} {k : ℕ} {start : List ℕ} (ready : ReadyToStep k sta
       pub risen : Risen kind k start p m i next
       risen =
           record {
-            fits = omega (arith, (stands-low z).0, moved-long);
+            fits = omega (arith, low, low-le k ring, moved-long);
             long = moved-long ∙ at.walked.long;
             short = at.short;
             rises = stands-rises z;

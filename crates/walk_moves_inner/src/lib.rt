@@ -15,10 +15,7 @@ fn divides(p: usize, n: usize) -> bool
     requires { (0 < p) × (p < n) }
     ensures { result ≡ eqb (n % p) 0 }
 {
-    if n - p < p {
-        return false;
-    }
-    n % p == 0
+    p <= n - p && n % p == 0
 }
 
 // Whether a prenecklace of n sectors whose lyn is p is of the kind. Most have p = n: those are Lyndon words, which are of each kind, and nothing is divided.
@@ -26,14 +23,12 @@ pub fn of_kind(kind: Kind, n: usize, p: usize) -> bool
     requires { (0 < p) × (p ≤ n) }
     ensures { result ≡ kind_at kind n p }
 {
-    if p == n {
-        return true;
-    }
-    match kind {
-        Kind::Prenecklace => true,
-        Kind::Necklace => divides(p, n),
-        Kind::Lyndon => false,
-    }
+    p == n
+        || match kind {
+            Kind::Prenecklace => true,
+            Kind::Necklace => divides(p, n),
+            Kind::Lyndon => false,
+        }
 }
 
 // The class of a prenecklace of n sectors whose lyn is p.
@@ -42,18 +37,18 @@ pub fn class_at(n: usize, p: usize) -> Class
     ensures { result ≡ class_at n p }
 {
     if p == n {
-        return Class::Single;
+        Class::Single
+    } else if n % p == 0 {
+        Class::Repeating(p)
+    } else {
+        Class::Opening(p)
     }
-    if n % p == 0 {
-        return Class::Repeating(p);
-    }
-    Class::Opening(p)
 }
 
-// What a step came to: the lyn of its ring, or 0 where there is none of the kind, and the moves.
+// What a step came to: the lyn of its ring, if there is one of the kind, and the moves.
 #[derive(Clone, Copy)]
 pub struct Reached {
-    pub lyn: usize,
+    pub lyn: Option<usize>,
     pub moves: usize,
 }
 
@@ -62,25 +57,19 @@ pub fn advance(ring: &mut [u8], k: usize, kind: Kind) -> Reached
     requires { ReadyToStep k ring.old }
     ensures { Found kind k ring.old ring.new result }
 {
-    // `lyn` is that of the prenecklace under way, 0 before the first move. The code never reads it: the proof that the loop ends speaks of it, since it grows.
-    let mut lyn: usize = 0;
-    let mut moves: usize = 0;
-    loop {
-        let i = walk_raise_inner::last_low(ring, k);
-        if i == 0 {
-            return Reached {
-                lyn: 0,
-                moves: moves,
-            };
-        }
-        walk_raise_inner::raise(ring, i);
+    // `lyn` is that of the prenecklace under way, 0 before the first move. It grows with each move, so the loop ends.
+    let mut lyn = 0;
+    let mut moves = 0;
+    while let Some(at) = walk_raise_inner::last_low(ring, k) {
+        walk_raise_inner::raise(ring, at);
+        lyn = at + 1;
         moves += 1;
-        if of_kind(kind, ring.len(), i) {
+        if of_kind(kind, ring.len(), lyn) {
             return Reached {
-                lyn: i,
-                moves: moves,
+                lyn: Some(lyn),
+                moves,
             };
         }
-        lyn = i;
     }
+    Reached { lyn: None, moves }
 }

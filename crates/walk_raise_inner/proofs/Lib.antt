@@ -1,2 +1,2 @@
--- What the two loops of a move rest on, over plain lists (Raising).
+-- What the search and the loop of a move rest on, over plain lists (Raising).
 pub mod Raising

@@ -3,10 +3,10 @@
 --     step-moved-as, step-done-as         to the next of a kind, or that there is none
 --     bracelet-moved-as, bracelet-done-as    the same for bracelets
 --     step-refused-as                     what is refused, the start refuses the same
+use Rattle.std.specs.Prelude.{Ok, Err}
 use Rattle.words.proofs.Plain.{ℕ, ◌≡◌, refl, inl, inr, Bool, List, length}
 use Rattle.rings.specs.Prenecklace.{prenecklace}
 use Rattle.refusal.specs.{declared.Refusal.Refusal, Order.Passed, Order.Given, Calls.walk_start}
-use Rattle.refusal.specs.declared.Checked.TheVariants as C
 use Rattle.walk_spec.specs.declared.Outcome.TheVariants as O
 use Rattle.walk_spec.specs.Record.{walk_of, empty_walk, walk_asked}
 use Rattle.walk_spec.specs.Says.{StartSays, StepSays}
@@ -17,22 +17,22 @@ use Rattle.walk_reading_spec.specs.Says.{reading_order, StepFromSays, BraceletFr
 
 module _ (w : List ℕ) (k : ℕ) (b : List ℕ) where
   -- 4 is not asked of a start
-  pub start-passed : Passed (reading_order w k (length b)) → StartSays w k (walk_of k w) C.Good
+  pub start-passed : Passed (reading_order w k (length b)) → StartSays w k (walk_of k w) (Ok tt)
   start-passed p = ((((p.0.0.0, tt), tt), p.1), refl)
 
   good : Passed (reading_order w k (length b)) → Passed (walk_asked (walk_of k w))
   good p = walk-good (length w) k w p.0.0.0.0.0.0 p.0.0.0.0.1 (record { long = refl; shades = p.0.0.0.1 }) p.1
 
-  pub step-moved-as : (kind : List ℕ → Bool) (m : ℕ) (c : List ℕ) → StepFromSays kind w k b (O.Moved m) c → StepSays kind (walk_of k w) (walk_of k c) (O.Moved m)
+  pub step-moved-as : (kind : List ℕ → Bool) (m : ℕ) (c : List ℕ) → StepFromSays kind w k b (Ok (O.Moved m)) c → StepSays kind (walk_of k w) (walk_of k c) (Ok (O.Moved m))
   step-moved-as kind m c s = record { good = good s.0; to = c; next = rw (ring_of_lem k w) s.1; handed = refl; counted = rw (ring_of_lem k w) s.2 }
 
-  pub step-done-as : (kind : List ℕ → Bool) (m : ℕ) (c : List ℕ) → StepFromSays kind w k b (O.Done m) c → StepSays kind (walk_of k w) (walk_of k w) (O.Done m)
+  pub step-done-as : (kind : List ℕ → Bool) (m : ℕ) (c : List ℕ) → StepFromSays kind w k b (Ok (O.Done m)) c → StepSays kind (walk_of k w) (walk_of k w) (Ok (O.Done m))
   step-done-as kind m c s = record { good = good s.0; next = rw (ring_of_lem k w) s.1; handed = refl; counted = rw (ring_of_lem k w) s.2 }
 
-  pub bracelet-moved-as : (c : List ℕ) → BraceletFromSays w k b A.Moved c → ArrivalSays (walk_of k w) (walk_of k c) A.Moved
+  pub bracelet-moved-as : (c : List ℕ) → BraceletFromSays w k b (Ok A.Moved) c → ArrivalSays (walk_of k w) (walk_of k c) (Ok A.Moved)
   bracelet-moved-as c s = record { good = good s.0; to = c; next = rw (ring_of_lem k w) s.1; handed = refl }
 
-  pub bracelet-done-as : (c : List ℕ) → BraceletFromSays w k b A.Done c → ArrivalSays (walk_of k w) (walk_of k w) A.Done
+  pub bracelet-done-as : (c : List ℕ) → BraceletFromSays w k b (Ok A.Done) c → ArrivalSays (walk_of k w) (walk_of k w) (Ok A.Done)
   bracelet-done-as c s = record { good = good s.0; next = rw (ring_of_lem k w) s.1; kept = refl }
 
   -- neither 4 nor 6 fails, and before and behind them the checks are those of a start
@@ -42,5 +42,5 @@ module _ (w : List ℕ) (k : ℕ) (b : List ℕ) where
   refused_as room r (inl (inr (l, (e, g)))) = absurd (g tt)
   refused_as room r (inr (l, g)) = inr (((l.0.0, tt), tt), g)
 
-  pub step-refused-as : length b ≡ length w → (r : Refusal) → Given (reading_order w k (length b)) r → StartSays w k empty_walk (C.Refused r)
+  pub step-refused-as : length b ≡ length w → (r : Refusal) → Given (reading_order w k (length b)) r → StartSays w k empty_walk (Err r)
   step-refused-as room r g = (refused_as room r g, refl)

@@ -8,42 +8,38 @@ ghost use Rattle.rings.specs.Prenecklace.{prenecklace};
 ghost use Rattle.walk_kind_laws.specs.Kinds.{kind_of};
 ghost use Rattle.walk_reading_spec.specs.Says.{StepFromSays, BraceletFromSays};
 
-use refusal::Checked;
+use refusal::Refusal;
 use walk_bracelet_spec::Arrival;
 use walk_kind_laws::Kind;
 use walk_spec::Outcome;
 
 // ---- by prenecklaces
 
-fn step(reading: &[u8], k: usize, kind: Kind, out: &mut [u8]) -> Outcome
+fn step(reading: &[u8], k: usize, kind: Kind, out: &mut [u8]) -> Result<Outcome, Refusal>
     ensures { StepFromSays (kind_of kind) reading.now k out.old result out.new }
 {
-    match walk_reading_checks_inner::check_step(reading, k, out.len()) {
-        Checked::Refused(r) => Outcome::Refused(r),
-        Checked::Good => {
-            let n = reading.len();
-            let mut ring = [0u8; 64];
-            walk_reading_inner::step_in(reading, k, kind, &mut ring[..n], out)
-        }
-    }
+    walk_reading_checks_inner::check_step(reading, k, out.len())?;
+    let n = reading.len();
+    let mut ring = [0u8; 64];
+    Ok(walk_reading_inner::step_in(reading, k, kind, &mut ring[..n], out))
 }
 
 // To the least prenecklace above the reading, in the output; or that there is none; or refusal 1, 2, 3, 4 or 5.
-pub fn next_prenecklace(reading: &[u8], k: usize, out: &mut [u8]) -> Outcome
+pub fn next_prenecklace(reading: &[u8], k: usize, out: &mut [u8]) -> Result<Outcome, Refusal>
     ensures { StepFromSays prenecklace reading.now k out.old result out.new }
 {
     step(reading, k, Kind::Prenecklace, out)
 }
 
 // To the least necklace above it.
-pub fn next_necklace(reading: &[u8], k: usize, out: &mut [u8]) -> Outcome
+pub fn next_necklace(reading: &[u8], k: usize, out: &mut [u8]) -> Result<Outcome, Refusal>
     ensures { StepFromSays necklace reading.now k out.old result out.new }
 {
     step(reading, k, Kind::Necklace, out)
 }
 
 // To the least Lyndon word above it.
-pub fn next_lyndon(reading: &[u8], k: usize, out: &mut [u8]) -> Outcome
+pub fn next_lyndon(reading: &[u8], k: usize, out: &mut [u8]) -> Result<Outcome, Refusal>
     ensures { StepFromSays lyndon reading.now k out.old result out.new }
 {
     step(reading, k, Kind::Lyndon, out)
@@ -52,15 +48,11 @@ pub fn next_lyndon(reading: &[u8], k: usize, out: &mut [u8]) -> Outcome
 // ---- one ring from each mirror pair
 
 // To the least bracelet above the reading, in the output. It tells no moves.
-pub fn next_bracelet(reading: &[u8], k: usize, out: &mut [u8]) -> Arrival
+pub fn next_bracelet(reading: &[u8], k: usize, out: &mut [u8]) -> Result<Arrival, Refusal>
     ensures { BraceletFromSays reading.now k out.old result out.new }
 {
-    match walk_reading_checks_inner::check_step(reading, k, out.len()) {
-        Checked::Refused(r) => Arrival::Refused(r),
-        Checked::Good => {
-            let n = reading.len();
-            let mut ring = [0u8; 64];
-            walk_reading_inner::bracelet_in(reading, k, &mut ring[..n], out)
-        }
-    }
+    walk_reading_checks_inner::check_step(reading, k, out.len())?;
+    let n = reading.len();
+    let mut ring = [0u8; 64];
+    Ok(walk_reading_inner::bracelet_in(reading, k, &mut ring[..n], out))
 }

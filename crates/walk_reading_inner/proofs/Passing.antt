@@ -3,6 +3,7 @@
 --     passed-bytes           and for one to the next bracelet
 --     next-long              the next of a kind is as long as the reading
 --     step-moved, step-done, bracelet-moved, bracelet-done    how a step from a copy of the reading ends, and its ring copied to the output
+use Rattle.std.specs.Prelude.{Ok}
 use Rattle.words.proofs.Plain.{ℕ, arith, ◌≡◌, refl, sym, ap, ◌∙◌, Bool, none, some, List, ◌++◌, length, take, drop}
 use Rattle.rings.specs.{Alike.bracelet, Steps.next_of, Steps.moves}
 use Rattle.ring_laws.proofs.FullWalk.{next-facts}
@@ -48,16 +49,16 @@ module _ (w : List ℕ) (k : ℕ) (o u : List ℕ) (passed : Passed (reading_ord
       (rw q n, sym q)
 
   pub step-moved : (kind : List ℕ → Bool) (v c : List ℕ) (m : ℕ) → next_of kind k u ≡ some v → m ≡ moves k u (some v) →
-      c ≡ take (length v) v ++ drop (length v) o → StepFromSays kind w k o (O.Moved m) c
+      c ≡ take (length v) v ++ drop (length v) o → StepFromSays kind w k o (Ok (O.Moved m)) c
   step-moved kind v c m next counted e =
       let q = next-copied kind v c next e in
       (passed, q.0, counted ∙ ap (λ (x : List ℕ). moves k x (some v)) is ∙ ap (λ (x : List ℕ). moves k w (some x)) q.1)
 
-  pub step-done : (kind : List ℕ → Bool) (m : ℕ) → (next_of kind k u ≡ none) × (m ≡ moves k u none) → StepFromSays kind w k o (O.Done m) o
+  pub step-done : (kind : List ℕ → Bool) (m : ℕ) → (next_of kind k u ≡ none) × (m ≡ moves k u none) → StepFromSays kind w k o (Ok (O.Done m)) o
   step-done kind m h = (passed, rw is at h.0, h.1 ∙ ap (λ (x : List ℕ). moves k x none) is, refl)
 
-  pub bracelet-moved : (v c : List ℕ) → next_of bracelet k u ≡ some v → c ≡ take (length v) v ++ drop (length v) o → BraceletFromSays w k o A.Moved c
+  pub bracelet-moved : (v c : List ℕ) → next_of bracelet k u ≡ some v → c ≡ take (length v) v ++ drop (length v) o → BraceletFromSays w k o (Ok A.Moved) c
   bracelet-moved v c next e = (passed, (next-copied bracelet v c next e).0)
 
-  pub bracelet-done : next_of bracelet k u ≡ none → BraceletFromSays w k o A.Done o
+  pub bracelet-done : next_of bracelet k u ≡ none → BraceletFromSays w k o (Ok A.Done) o
   bracelet-done h = (passed, rw is at h, refl)

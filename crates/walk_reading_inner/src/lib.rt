@@ -2,7 +2,7 @@
 
 #![tactic(auto)]
 
-ghost use Rattle.std.specs.Prelude.{◌≡◌, length};
+ghost use Rattle.std.specs.Prelude.{◌≡◌, length, Ok};
 ghost use Rattle.refusal.specs.Order.{Passed};
 ghost use Rattle.walk_kind_laws.specs.Kinds.{kind_of};
 ghost use Rattle.walk_reading_spec.specs.Says.{reading_order, StepFromSays, BraceletFromSays};
@@ -15,13 +15,13 @@ use walk_spec::Outcome;
 pub fn step_in(reading: &[u8], k: usize, kind: Kind, ring: &mut [u8], out: &mut [u8]) -> Outcome
     requires passed { Passed (reading_order reading.now k (length out.old)) }
     requires ring_len { length ring.old ≡ length reading.now }
-    ensures { StepFromSays (kind_of kind) reading.now k out.old result out.new }
+    ensures { StepFromSays (kind_of kind) reading.now k out.old (Ok result) out.new }
 {
     byte_moves_inner::copy(reading, ring);
     let reached = walk_moves_inner::advance(ring, k, kind);
-    if reached.lyn == 0 {
+    let Some(_) = reached.lyn else {
         return Outcome::Done(reached.moves);
-    }
+    };
     byte_moves_inner::copy(ring, out);
     Outcome::Moved(reached.moves)
 }
@@ -30,7 +30,7 @@ pub fn step_in(reading: &[u8], k: usize, kind: Kind, ring: &mut [u8], out: &mut 
 pub fn bracelet_in(reading: &[u8], k: usize, ring: &mut [u8], out: &mut [u8]) -> Arrival
     requires passed { Passed (reading_order reading.now k (length out.old)) }
     requires ring_len { length ring.old ≡ length reading.now }
-    ensures { BraceletFromSays reading.now k out.old result out.new }
+    ensures { BraceletFromSays reading.now k out.old (Ok result) out.new }
 {
     byte_moves_inner::copy(reading, ring);
     if bracelet_next_inner::next(ring, k) {

@@ -5,11 +5,12 @@
 --     BraceletFromSays w k b r c   to the least bracelet above w, which tells no moves
 -- Where there is none above, and where it refuses, nothing is written. That no two answers fit, the output included: proofs/Unique. That it is a start from the reading and then
 -- the step from the start's record: `walk_reading`, proofs/AsWalk.
-use Rattle.std.specs.Prelude.{ℕ, ◌≡◌, refl, Bool, List, [], ◌∷◌, length}
+use Rattle.std.specs.Prelude.{ℕ, ◌≡◌, refl, Bool, List, [], ◌∷◌, length, Result, Ok, Err}
 use Rattle.std.proofs.Math.Option.{none, some}
 use Rattle.rings.specs.Prenecklace.{prenecklace}
 use Rattle.rings.specs.Alike.{bracelet}
 use Rattle.rings.specs.Steps.{next_of, moves}
+use Rattle.refusal.specs.declared.Refusal.{Refusal}
 use Rattle.refusal.specs.Order.{Checks, Given, Passed, numbered}
 use Rattle.refusal.specs.Calls.{Asked, general}
 use Rattle.walk_spec.specs.declared.Outcome.{Outcome}
@@ -28,12 +29,12 @@ reading_order w k m = general (reading_asked w k m)
 pub reading-numbers : (w : List ℕ) (k m : ℕ) → numbered (reading_order w k m) ≡ (1 ∷ 10 ∷ 2 ∷ 3 ∷ 4 ∷ 6 ∷ 5 ∷ [])
 reading-numbers w k m = refl
 
-abbrev pub StepFromSays : (List ℕ → Bool) → List ℕ → ℕ → List ℕ → Outcome → List ℕ → Type 0
-StepFromSays kind w k b (O.Moved m) c = Passed (reading_order w k (length b)) × (next_of kind k w ≡ some c) × (m ≡ moves k w (some c))
-StepFromSays kind w k b (O.Done m) c = Passed (reading_order w k (length b)) × (next_of kind k w ≡ none) × (m ≡ moves k w none) × (c ≡ b)
-StepFromSays kind w k b (O.Refused r) c = Given (reading_order w k (length b)) r × (c ≡ b)
+abbrev pub StepFromSays : (List ℕ → Bool) → List ℕ → ℕ → List ℕ → Result Outcome Refusal → List ℕ → Type 0
+StepFromSays kind w k b (Ok (O.Moved m)) c = Passed (reading_order w k (length b)) × (next_of kind k w ≡ some c) × (m ≡ moves k w (some c))
+StepFromSays kind w k b (Ok (O.Done m)) c = Passed (reading_order w k (length b)) × (next_of kind k w ≡ none) × (m ≡ moves k w none) × (c ≡ b)
+StepFromSays kind w k b (Err r) c = Given (reading_order w k (length b)) r × (c ≡ b)
 
-abbrev pub BraceletFromSays : List ℕ → ℕ → List ℕ → Arrival → List ℕ → Type 0
-BraceletFromSays w k b A.Moved c = Passed (reading_order w k (length b)) × (next_of bracelet k w ≡ some c)
-BraceletFromSays w k b A.Done c = Passed (reading_order w k (length b)) × (next_of bracelet k w ≡ none) × (c ≡ b)
-BraceletFromSays w k b (A.Refused r) c = Given (reading_order w k (length b)) r × (c ≡ b)
+abbrev pub BraceletFromSays : List ℕ → ℕ → List ℕ → Result Arrival Refusal → List ℕ → Type 0
+BraceletFromSays w k b (Ok A.Moved) c = Passed (reading_order w k (length b)) × (next_of bracelet k w ≡ some c)
+BraceletFromSays w k b (Ok A.Done) c = Passed (reading_order w k (length b)) × (next_of bracelet k w ≡ none) × (c ≡ b)
+BraceletFromSays w k b (Err r) c = Given (reading_order w k (length b)) r × (c ≡ b)

@@ -1,5 +1,6 @@
 -- A record that passed its checks is the record of its ring; and what the code's tests of a class say.
---     off-loose, off-tag, off-value, on-class    the answers of `on_walk`
+--     tight                                      a class that is no Loose
+--     off-loose, off-other, on-class             the answers of `on_walk`
 --     off-class, off-counts, on-record           how the last check of a record ends
 --     good-ready, good-tail, good-is             what the checks of a record show
 --     start-off, start-on, start_is              what a start tests, and the record that it makes
@@ -11,15 +12,16 @@ use Rattle.words.proofs.Plain.{drop, replicate, List·get_d-append, length-drop,
 use Rattle.words.proofs.Plain.{get_or-take, get_or-drop, length-take-le, take_all, eq-eqb, ne_eqb, lt-ltb, le-ltb}
 use Rattle.words.specs.Order.{same}
 use Rattle.words.specs.Readings.{Sized, Shaded, Reading}
-use Rattle.words.proofs.Split.{lt, eq, gt, tri, both, both_left, not_left, not_right, clash}
+use Rattle.words.proofs.Split.{lt, eq, gt, tri, both, both_left, not_left, not_right, clash, refuted}
 use Rattle.words.proofs.Lex.{same_refl}
 use Rattle.rings.specs.{declared.Class.Class, Necklace.necklace, Necklace.period, Prenecklace.prenecklace, Prenecklace.lyn}
-use Rattle.rings.specs.Class.{class_of, tag_of, value_of, same_class, is_loose, loose_place, look_at}
+use Rattle.rings.specs.declared.Class.TheVariants.{Loose, Opening, Repeating, Single}
+use Rattle.rings.specs.Class.{class_of, same_class, is_loose, loose_place, look_at}
 use Rattle.rings.specs.Steps.{next_of}
 use Rattle.ring_laws.proofs.Lyndon.{lyn-run}
-use Rattle.ring_laws.proofs.Classes.{period-lyn, look-other, same-class-refl, loose-class, tight-class}
+use Rattle.ring_laws.proofs.Classes.{period-lyn, look-other, same_class_lem, same-class-refl, loose-class, tight-class}
 use Rattle.ring_laws.proofs.FullWalk.{next-facts, zeros, zeros-at}
-use Rattle.refusal.specs.{declared.Refusal.TheVariants.OffWalk, Order.Passed, Order.Given}
+use Rattle.refusal.specs.{declared.Refusal.Refusal, declared.Refusal.TheVariants.OffWalk, Order.Passed, Order.Given}
 use Rattle.refusal.specs.Calls.{ring_limit, walk_record, walk_start, one_reading}
 use Rattle.walk_spec.specs.declared.Walk.{Walk}
 use Rattle.walk_kind_laws.specs.declared.Kind as K
@@ -29,29 +31,32 @@ use Rattle.walk_kind_laws.proofs.ByLyn.{kind-only, class-at}
 
 -- ---- the answers of `on_walk`
 
+-- a class that is no Loose
+pub tight : (c : Class) → ((p : ℕ) → c ≡ Loose p → ⊥) → is_loose c ≡ false
+tight (Loose p) h = absurd (h p refl)
+tight (Opening p) h = refl
+tight (Repeating p) h = refl
+tight Single h = refl
+
 module _ (v : List ℕ) (c found : Class) (is : found ≡ class_of v) where
-  pub off-loose : is_loose found ≡ true → false ≡ on_walk v c
-  unfolding on_walk
-  off-loose h = sym (not_left (prenecklace v) (same_class c (class_of v)) (loose-class v (rw is at h)))
+  pub off-loose : (p : ℕ) → found ≡ Loose p → (on_walk v c ≡ false) × (OffWalk p ≡ OffWalk (look_at v))
+  unfolding on_walk look_at
+  off-loose p e =
+      let q : class_of v ≡ Loose p = sym is ∙ e in
+      (not_left (prenecklace v) (same_class c (class_of v)) (loose-class v (ap is_loose q)), ap (λ (x : Class). OffWalk (loose_place x)) (sym q))
 
-  pub off-tag : (tag_of c ≡ tag_of found → ⊥) → false ≡ on_walk v c
-  unfolding on_walk
-  off-tag h =
-      sym (not_right (prenecklace v) (same_class c (class_of v)) (not_left (eqb (tag_of c) (tag_of (class_of v))) (eqb (value_of c) (value_of (class_of v)))
-      (ne_eqb (tag_of c) (tag_of (class_of v)) (rw is at h))))
+  module _ (h : (p : ℕ) → found ≡ Loose p → ⊥) where
+    pre : prenecklace v ≡ true
+    pre = tight-class v (rw is at (tight found h))
 
-  pub off-value : (value_of c ≡ value_of found → ⊥) → false ≡ on_walk v c
-  unfolding on_walk
-  off-value h =
-      sym (not_right (prenecklace v) (same_class c (class_of v)) (not_right (eqb (tag_of c) (tag_of (class_of v))) (eqb (value_of c) (value_of (class_of v)))
-      (ne_eqb (value_of c) (value_of (class_of v)) (rw is at h))))
+    pub off-other : (c ≡ found → ⊥) → (on_walk v c ≡ false) × (OffWalk 0 ≡ OffWalk (look_at v))
+    unfolding on_walk
+    off-other n =
+        (not_right (prenecklace v) (same_class c (class_of v)) (refuted (same_class c (class_of v)) (λ t. n (same_class_lem c (class_of v) t ∙ sym is))), ap OffWalk (sym (look-other v pre)))
 
-  pub on-class : is_loose found ≡ false → tag_of c ≡ tag_of found → value_of c ≡ value_of found → true ≡ on_walk v c
-  unfolding on_walk
-  on-class h t u =
-      sym (both (prenecklace v) (same_class c (class_of v)) (tight-class v (rw is at h))
-      (both (eqb (tag_of c) (tag_of (class_of v))) (eqb (value_of c) (value_of (class_of v))) (eq-eqb (tag_of c) (tag_of (class_of v)) (rw is at t))
-      (eq-eqb (value_of c) (value_of (class_of v)) (rw is at u))))
+    pub on-class : c ≡ found → on_walk v c ≡ true
+    unfolding on_walk
+    on-class e = both (prenecklace v) (same_class c (class_of v)) pre (rw (e, is) (same-class-refl (class_of v)))
 
 -- ---- a record that passed its checks
 
@@ -64,30 +69,26 @@ module _ (w : Walk) (sectors : Passed (walk_record w.n w.k w.ring true)) where
   on_counts : Bool
   on_counts = same w.counts (shade_counts (ring_of w))
 
-  off-walk : (p : ℕ) → (on_class && on_counts) ≡ false → p ≡ look_at (ring_of w) → Given (walk_asked w) (OffWalk p)
+  pub off-class : on_walk (ring_of w) w.class ≡ false → (r : Refusal) → r ≡ OffWalk (look_at (ring_of w)) → Given (walk_asked w) r
   unfolding on_class on_counts
-  off-walk p e q = inr (sectors.0, (ap OffWalk q, λ t. clash (on_class && on_counts) t e))
-
-  pub off-class : (b : Bool) (p : ℕ) → b ≡ on_walk (ring_of w) w.class → p ≡ look_at (ring_of w) → b ≡ false → Given (walk_asked w) (OffWalk p)
-  unfolding on_class on_counts
-  off-class b p e q f = off-walk p (not_left on_class on_counts (sym e ∙ f)) q
+  off-class f r q = inr (sectors.0, (q, λ t. clash (on_class && on_counts) t (not_left on_class on_counts f)))
 
   -- the class is right, and the counts are compared with the ring's own
-  module _ (a : Bool) (is : a ≡ on_walk (ring_of w) w.class) (on : a ≡ true) (own : List ℕ) (b : Bool) (made : own ≡ shade_counts (ring_of w)) (told : b ≡ same w.counts own) where
+  module _ (on : on_walk (ring_of w) w.class ≡ true) (own : List ℕ) (b : Bool) (made : own ≡ shade_counts (ring_of w)) (told : b ≡ same w.counts own) where
     compared : b ≡ on_counts
     unfolding on_counts
     compared = told ∙ ap (same w.counts) made
 
     pub on-record : b ≡ true → Passed (walk_asked w)
     unfolding on_class on_counts
-    on-record h = (sectors.0, both on_class on_counts (sym is ∙ on) (sym compared ∙ h))
+    on-record h = (sectors.0, both on_class on_counts on (sym compared ∙ h))
 
     -- the ring is a prenecklace, so there is no sector to look at
     pub off-counts : b ≡ false → Given (walk_asked w) (OffWalk 0)
-    unfolding on_class on_walk
+    unfolding on_class on_counts on_walk
     off-counts h =
-        off-walk 0 (not_right on_class on_counts (sym compared ∙ h))
-        (sym (look-other (ring_of w) (both_left (prenecklace (ring_of w)) (same_class w.class (class_of (ring_of w))) (sym is ∙ on))))
+        let l = look-other (ring_of w) (both_left (prenecklace (ring_of w)) (same_class w.class (class_of (ring_of w))) on) in
+        inr (sectors.0, (ap OffWalk (sym l), λ t. clash (on_class && on_counts) t (not_right on_class on_counts (sym compared ∙ h))))
 
 -- its sectors are below k up to n, and below 1 past it
 limit-low : (n k i : ℕ) → i < n → ring_limit n k i ≡ k
@@ -166,14 +167,20 @@ went-period k s v p z e is =
 -- ---- a start, from a reading that passed 1, 2, 3
 
 module _ (s : List ℕ) (k : ℕ) (found : Class) (passed : Passed (one_reading s k)) (is : found ≡ class_of s) where
-  pub start-off : (p : ℕ) → is_loose found ≡ true → p ≡ loose_place found → Given (walk_start s k (prenecklace s)) (OffWalk p)
+  pub start-off : (p : ℕ) → found ≡ Loose p → Given (walk_start s k (prenecklace s)) (OffWalk p)
   unfolding look_at
-  start-off p h q =
-      inr
-      (passed.0, (ap OffWalk (q ∙ ap loose_place is ∙ ap look_at (sym (take_all (length s) s (omega arith)))), λ t. clash (prenecklace s) t (loose-class s (rw is at h))))
+  start-off p e =
+      let q : class_of s ≡ Loose p = sym is ∙ e in
+      inr (
+        passed.0,
+        (
+          ap (λ (x : Class). OffWalk (loose_place x)) (sym q) ∙ ap (λ (x : List ℕ). OffWalk (look_at x)) (sym (take_all (length s) s (omega arith))),
+          λ t. clash (prenecklace s) t (loose-class s (ap is_loose q)),
+        ),
+      )
 
-  pub start-on : is_loose found ≡ false → Passed (walk_start s k (prenecklace s))
-  start-on h = (passed.0, tight-class s (rw is at h))
+  pub start-on : ((p : ℕ) → found ≡ Loose p → ⊥) → Passed (walk_start s k (prenecklace s))
+  start-on h = (passed.0, tight-class s (rw is at (tight found h)))
 
   pub start_is : (ring cs : List ℕ) → ring ≡ laid_out s → cs ≡ shade_counts (take (length s) ring) → record { n = length s; k = k; ring = ring; class = found; counts = cs } ≡ walk_of k s
   start_is ring cs e f =

@@ -14,14 +14,14 @@ pub fn go_on(ring: &mut [u8], k: usize) -> Went
     ensures { WentSays k ring.old ring.new result.outcome result.period }
 {
     let reached = walk_moves_inner::advance(ring, k, Kind::Necklace);
-    if reached.lyn == 0 {
-        return Went {
+    match reached.lyn {
+        Some(period) => Went {
+            outcome: Outcome::Moved(reached.moves),
+            period,
+        },
+        None => Went {
             outcome: Outcome::Done(reached.moves),
             period: 0,
-        };
-    }
-    Went {
-        outcome: Outcome::Moved(reached.moves),
-        period: reached.lyn,
+        },
     }
 }

@@ -2,7 +2,7 @@
 
 #![tactic(auto)]
 
-use refusal::{Checked, Refusal};
+use refusal::Refusal;
 use rings::Class;
 
 // A walk: n, k, the ring with room for 64 sectors, those past n 0, its class, and how often each of the 16 shades stands in it, 0 for those from k up.
@@ -19,25 +19,24 @@ pub struct Walk {
 #[derive(Clone, Copy)]
 pub struct Started {
     pub walk: Walk,
-    pub answer: Checked,
+    pub answer: Result<(), Refusal>,
 }
 
-// How a step ended: onto the next ring in so many moves; there is none, and so many moves were left; or refused.
+// How a step that is not refused ended: onto the next ring in so many moves; or there is none, and so many moves were left.
 #[derive(Clone, Copy)]
 pub enum Outcome {
     Moved(usize),
     Done(usize),
-    Refused(Refusal),
 }
 
-// A step's outcome, and the record that it hands back: the one it was given unless it moved.
+// A step's outcome or refusal, and the record that it hands back: the one it was given unless it moved.
 #[derive(Clone, Copy)]
 pub struct Stepped {
     pub walk: Walk,
-    pub outcome: Outcome,
+    pub outcome: Result<Outcome, Refusal>,
 }
 
-// A step by necklaces that was made in the ring's own place: its outcome, and the period of the ring that it came to.
+// A step by necklaces that was made in the ring's own place, which nothing refuses: its outcome, and the period of the ring that it came to.
 #[derive(Clone, Copy)]
 pub struct Went {
     pub outcome: Outcome,

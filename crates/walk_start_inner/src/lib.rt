@@ -6,7 +6,8 @@ ghost use Rattle.refusal.specs.Order.{Passed};
 ghost use Rattle.refusal.specs.Calls.{one_reading};
 ghost use Rattle.walk_spec.specs.Says.{StartSays};
 
-use refusal::{Checked, Refusal};
+use refusal::Refusal;
+use rings::Class;
 use walk_spec::{Started, Walk};
 
 // A start from a reading that passed 1, 2, 3: 5.
@@ -15,11 +16,10 @@ pub fn start_good(s: &[u8], k: usize) -> Started
     ensures { StartSays s.now k result.walk result.answer }
 {
     let class = classify_inner::class_of(s);
-    if classify_inner::is_loose(class) {
-        let at = classify_inner::loose_place(class);
+    if let Class::Loose(at) = class {
         return Started {
             walk: walk_record_inner::empty(),
-            answer: Checked::Refused(Refusal::OffWalk(at)),
+            answer: Err(Refusal::OffWalk(at)),
         };
     }
     let ring = walk_record_inner::lay_out(s);
@@ -27,11 +27,11 @@ pub fn start_good(s: &[u8], k: usize) -> Started
     Started {
         walk: Walk {
             n: s.len(),
-            k: k,
-            ring: ring,
-            class: class,
-            counts: counts,
+            k,
+            ring,
+            class,
+            counts,
         },
-        answer: Checked::Good,
+        answer: Ok(()),
     }
 }

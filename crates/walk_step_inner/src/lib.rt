@@ -16,25 +16,24 @@ pub fn step_good(w: Walk, kind: Kind) -> Stepped
     ensures { StepSays (kind_of kind) w result.walk result.outcome }
 {
     let n = w.n;
-    let ring = w.ring;
-    let mut next = ring;
-    let r = walk_moves_inner::advance(&mut next[..n], w.k, kind);
-    let counts = walk_counts_inner::counts_of(next, n);
-    if r.lyn == 0 {
+    let mut next = w.ring;
+    let reached = walk_moves_inner::advance(&mut next[..n], w.k, kind);
+    let Some(lyn) = reached.lyn else {
         return Stepped {
             walk: w,
-            outcome: Outcome::Done(r.moves),
+            outcome: Ok(Outcome::Done(reached.moves)),
         };
-    }
-    let class = walk_moves_inner::class_at(n, r.lyn);
+    };
+    let class = walk_moves_inner::class_at(n, lyn);
+    let counts = walk_counts_inner::counts_of(next, n);
     Stepped {
         walk: Walk {
-            n: n,
+            n,
             k: w.k,
             ring: next,
-            class: class,
-            counts: counts,
+            class,
+            counts,
         },
-        outcome: Outcome::Moved(r.moves),
+        outcome: Ok(Outcome::Moved(reached.moves)),
     }
 }

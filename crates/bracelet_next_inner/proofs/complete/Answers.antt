@@ -9,19 +9,14 @@ loop-i-init c = leading-start c.args.k c.args.s.now c.args.m c.requires.2
 
 pub settle-requires : goal.settle-requires
 settle-requires c =
-    leading-settles c.args.k c.args.s.now c.args.m c.loop-i.s c.loop-i.i (c.args.k - 1) c.loop-i.invariant c.loop-i-test.true refl _
-    (omega (arith, c.requires.0))
-
-pub loop-i-preserved-then-near-s : goal.loop-i-preserved-then-near-s
-loop-i-preserved-then-near-s c =
-    leading-on c.args.k c.args.s.now c.args.m c.loop-i.s c.loop-i.i (c.args.k - 1) c.loop-i.invariant
-    c.loop-i-test.true refl _ (omega arith) _ (search rules) c.settle.ensures
+    leading-settles c.args.k c.args.s.now c.args.m c.loop-i.s c.loop-i.i (c.args.k - 1) c.loop-i.invariant
+    (omega (arith, c.loop-i.invariant.long, c.loop-i-test.true)) refl _ (omega (arith, c.requires.0))
 
 pub loop-i-preserved : goal.loop-i-preserved
 loop-i-preserved c =
     leading-on c.args.k c.args.s.now c.args.m c.loop-i.s c.loop-i.i (c.args.k - 1) c.loop-i.invariant
-    c.loop-i-test.true refl _ (omega arith) _ (search rules) c.settle.ensures
+    (omega (arith, c.loop-i.invariant.long, c.loop-i-test.true)) refl _ (omega arith) _ (search rules) c.settle.ensures
 
 pub returns : goal.returns
 returns c =
-    leading_end c.args.k c.args.s.now c.args.m c.loop-i.s c.loop-i.i c.loop-i.invariant c.loop-i-test.false
+    leading_end c.args.k c.args.s.now c.args.m c.loop-i.s c.loop-i.i c.loop-i.invariant (omega (arith, c.loop-i.invariant.long, c.loop-i-test.false))

@@ -1,5 +1,4 @@
 -- `bracelet_next_inner::lift` meets its contract. The loop's invariant, `Lifting`: from place i on, raising is of no use.
-use Rattle.words.proofs.Needs.{◌-◌}
 use Rattle.bracelet_next_inner.proofs.Lifting.{Lifting}
 use Rattle.bracelet_next_inner.proofs.lift.Given as goal
 

@@ -16,9 +16,9 @@ is_bracelet-requires c =
 pub loop-low-smaller-then-is_bracelet : goal.loop-low-smaller-then-is_bracelet
 loop-low-smaller-then-is_bracelet c =
     let b : c.loop-low.high < 256 = search rules in
-    tries-less (c.loop-low.high - c.loop-low.low) (c.between-shade.result - c.loop-low.low) c.loop-low.tries c.one_less-tries.result
+    tries-less (c.loop-low.high - c.loop-low.low) (c.between-shade.result - c.loop-low.low) c.loop-low.tries c.saturating_sub-tries.result
     (omega (arith, c.loop-low-test.true)) (omega arith) (omega (arith, c.between-shade.ensures.up, c.between-shade.ensures.down))
-    (λ z. omega (arith, c.between-shade.ensures.middle z)) c.one_less-tries.ensures
+    (λ z. omega (arith, c.between-shade.ensures.middle z)) c.saturating_sub-tries.ensures
 
 pub loop-low-preserved-then-is_bracelet : goal.loop-low-preserved-then-is_bracelet
 loop-low-preserved-then-is_bracelet c =
@@ -34,9 +34,9 @@ overflow_add-low c =
 pub loop-low-smaller : goal.loop-low-smaller
 loop-low-smaller c =
     let b : c.loop-low.high < 256 = search rules in
-    tries-less (c.loop-low.high - c.loop-low.low) (c.loop-low.high - (c.between-shade.result + 1)) c.loop-low.tries c.one_less-tries.result
+    tries-less (c.loop-low.high - c.loop-low.low) (c.loop-low.high - (c.between-shade.result + 1)) c.loop-low.tries c.saturating_sub-tries.result
     (omega (arith, c.loop-low-test.true)) (omega arith) (omega (arith, c.between-shade.ensures.up, c.between-shade.ensures.down))
-    (λ z. omega (arith, c.between-shade.ensures.middle z)) c.one_less-tries.ensures
+    (λ z. omega (arith, c.between-shade.ensures.middle z)) c.saturating_sub-tries.ensures
 
 pub loop-low-preserved : goal.loop-low-preserved
 loop-low-preserved c =

@@ -1,5 +1,4 @@
 -- `classify_inner::class_of` meets its contract: the class by what the scan found.
-use Rattle.words.proofs.Needs.{◌-◌}
 use Rattle.classify_inner.proofs.Scanning.{class-empty, class-broken, class-lyndon, class-repeats, class-opens}
 use Rattle.classify_inner.proofs.class_of.Goals as goal
 
@@ -11,9 +10,6 @@ returns-then-begun-n c = class-broken c.args.s.now c.scan-begun.result c.scan-be
 
 pub returns-then-p-n : goal.returns-then-p-n
 returns-then-p-n c = class-lyndon c.args.s.now c.scan-begun.result c.scan-begun.ensures c.if-begun-n.false c.if-p-n.true
-
-pub nonzero_rem-n : goal.nonzero_rem-n
-nonzero_rem-n c = c.scan-begun.ensures.run.pos
 
 pub returns-then-n-p-eq0 : goal.returns-then-n-p-eq0
 returns-then-n-p-eq0 c =

@@ -1,53 +1,37 @@
 -- `converter_program_inner::go_once` meets its contract. What is done so far are good records, and each block that is not the last has a whole one, so
 -- that the next begins further on.
-use Rattle.words.proofs.Needs.{◌-◌, arith, refl, sym, ◌∙◌, not-true, not-false}
-use Rattle.program_passes_inner.specs.Passes.{course_of}
-use Rattle.program_passes_inner.proofs.Courses.{course-more}
-use Rattle.converter_program_inner.proofs.Times.{fit-still, reached-none, at_on, at-ends, at-within}
+use Rattle.words.proofs.Needs.{◌+◌, arith, refl, ◌∙◌}
+use Rattle.refusal.proofs.{Handed.handed_on}
+use Rattle.program_passes_inner.specs.Passes.Course.{On, Done}
+use Rattle.converter_pass_inner.specs.Says.{AtSays}
+use Rattle.converter_program_inner.proofs.Times.{fit-still, reached-none, at_on, at_done, at-stopped}
 use Rattle.converter_program_inner.proofs.go_once.Goals as goal
 
-pub loop-t-init : goal.loop-t-init
-loop-t-init c =
-    (c.requires, refl, refl, omega arith, reached-none c.args.writing)
+pub loop-used-init : goal.loop-used-init
+loop-used-init c = (c.requires, refl, refl, omega arith, reached-none c.args.writing)
 
-pub take_at-t-requires : goal.take_at-t-requires
-take_at-t-requires c = record { at_lt_limit = c.loop-t.invariant.3; buffers_fit = c.loop-t.invariant.0 }
+pub returns-in_err-used : goal.returns-in_err-used
+returns-in_err-used c =
+    rw (handed_on _ c.from_residual.ensures.1) (at-stopped c.args.writing c.loop-used.at _ _ _ c.loop-used.invariant.4 _ refl c.in_err-used.ensures)
 
-pub goes_on-requires : goal.goes_on-requires
-goes_on-requires c =
-    c.loop-t.invariant.3
+pub returns-then-left-used : goal.returns-then-left-used
+returns-then-left-used c =
+    let h : AtSays c.args.writing c.loop-used.at c.take_at.new.block c.take_at.new.new (On c.in-On.used) = rw c.in-On.is at c.in_ok-used.ensures in
+    let g = at_on c.args.writing c.loop-used.at _ _ _ c.loop-used.invariant.4 _ refl (omega (arith, c.loop-used.invariant.0.some, c.block-1.given)) h in
+    (c.loop-used.at + c.in-On.used, omega (arith, c.if-left-used.true), g.2)
 
-pub finish-requires : goal.finish-requires
-finish-requires c =
-    at-within c.args.writing c.loop-t.at _ _ c.loop-t.invariant.4 (course_of c.take_at-t.result) c.loop-t.invariant.3 (omega (arith, c.loop-t.invariant.0.short, c.block-1.given)) c.take_at-t.ensures
+pub loop-used-preserved : goal.loop-used-preserved
+loop-used-preserved c =
+    let h : AtSays c.args.writing c.loop-used.at c.take_at.new.block c.take_at.new.new (On c.in-On.used) = rw c.in-On.is at c.in_ok-used.ensures in
+    let g = at_on c.args.writing c.loop-used.at _ _ _ c.loop-used.invariant.4 _ refl (omega (arith, c.loop-used.invariant.0.some, c.block-1.given)) h in (
+      fit-still _ _ _ _ c.loop-used.invariant.0 c.block-1.given c.new-1.given,
+      c.block-1.given ∙ c.loop-used.invariant.1,
+      c.new-1.given ∙ c.loop-used.invariant.2,
+      omega (arith, c.if-left-used.false),
+      g.2,
+    )
 
-pub shape_of-block-then-not-goes_on : goal.shape_of-block-then-not-goes_on
-shape_of-block-then-not-goes_on c =
-    c.block-1.given ∙ c.loop-t.invariant.1
-
-pub shape_of-new-then-not-goes_on : goal.shape_of-new-then-not-goes_on
-shape_of-new-then-not-goes_on c =
-    c.new-1.given ∙ c.loop-t.invariant.2
-
-pub returns-then-not-goes_on : goal.returns-then-not-goes_on
-returns-then-not-goes_on c =
-    let e = sym c.goes_on.ensures ∙ not-true c.goes_on.result c.if-not-goes_on.true-raw in
-    let h = at-ends c.args.writing c.loop-t.at _ _ c.loop-t.invariant.4 (course_of c.take_at-t.result) (omega (arith, c.loop-t.invariant.0.some, c.block-1.given)) e c.take_at-t.ensures in
-    rw c.finish.ensures h
-
-pub overflow_add-at : goal.overflow_add-at
-overflow_add-at c =
-    let e = sym c.goes_on.ensures ∙ not-false c.goes_on.result c.if-not-goes_on.false-raw in
-    omega (arith, (course-more c.take_at-t.result c.loop-t.at e).1)
-
-pub loop-t-smaller : goal.loop-t-smaller
-loop-t-smaller c =
-    let e = course-more c.take_at-t.result c.loop-t.at (sym c.goes_on.ensures ∙ not-false c.goes_on.result c.if-not-goes_on.false-raw) in
-    let g = at_on c.args.writing c.loop-t.at _ _ (course_of c.take_at-t.result) c.loop-t.invariant.4 _ e.0 (omega (arith, c.loop-t.invariant.0.some, c.block-1.given)) c.take_at-t.ensures in
-    omega (arith, g.0, e.1)
-
-pub loop-t-preserved : goal.loop-t-preserved
-loop-t-preserved c =
-    let e = course-more c.take_at-t.result c.loop-t.at (sym c.goes_on.ensures ∙ not-false c.goes_on.result c.if-not-goes_on.false-raw) in
-    let g = at_on c.args.writing c.loop-t.at _ _ (course_of c.take_at-t.result) c.loop-t.invariant.4 _ e.0 (omega (arith, c.loop-t.invariant.0.some, c.block-1.given)) c.take_at-t.ensures in
-    (fit-still _ _ _ _ c.loop-t.invariant.0 c.block-1.given c.new-1.given, c.block-1.given ∙ c.loop-t.invariant.1, c.new-1.given ∙ c.loop-t.invariant.2, e.1, g.2)
+pub returns-in-Over : goal.returns-in-Over
+returns-in-Over c =
+    let h : AtSays c.args.writing c.loop-used.at c.take_at.new.block c.take_at.new.new (Done c.in-Over.used) = rw c.in-Over.is at c.in_ok-used.ensures in
+    (at_done c.args.writing c.loop-used.at _ _ _ c.loop-used.invariant.4 _ refl h).1

@@ -6,9 +6,9 @@ use Rattle.converter_pass_inner.specs.Says.{BuffersFit}
 use Rattle.converter_program_inner.specs.Says.{Reached}
 use Rattle.converter_program_inner.proofs.go_once.Given as goal
 
-abbrev pub invariant-loop-t : goal.invariant-loop-t
-invariant-loop-t l =
+abbrev pub invariant-loop-used : goal.invariant-loop-used
+invariant-loop-used l =
     BuffersFit l.block l.new × (length l.block ≡ length l.initial.block) × (length l.new ≡ length l.initial.new) × (l.at < limit) × Reached l.writing l.at
 
-abbrev pub decreases-loop-t : goal.decreases-loop-t
-decreases-loop-t l = limit - l.at
+abbrev pub decreases-loop-used : goal.decreases-loop-used
+decreases-loop-used l = limit - l.at

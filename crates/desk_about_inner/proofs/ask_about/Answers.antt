@@ -6,8 +6,8 @@ use Rattle.desk_about_inner.proofs.ask_about.Goals as goal
 
 pub returns-then-not-spell : goal.returns-then-not-spell
 returns-then-not-spell c =
-    put-bad _ _ _ _ _ _ (rw (not-true c.spell.result
-    c.if-not-spell.true-raw) at c.spell.ensures) c.place_malformed.ensures
+    put-bad _ _ (rw (not-true c.spell.result
+    c.if-not-spell.true-raw) at c.spell.ensures) _
 
 pub answer_about-requires : goal.answer_about-requires
 answer_about-requires c =

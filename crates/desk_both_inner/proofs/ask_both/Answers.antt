@@ -7,13 +7,13 @@ pub returns-then-not-spell : goal.returns-then-not-spell
 returns-then-not-spell c =
     let n = rw (not-true c.spell.result c.if-not-spell.true-raw)
     at c.spell.ensures in
-    put-bad _ _ _ _ _ _ (λ q x. n q.0 x.0) c.place_malformed.ensures
+    put-bad _ _ (λ q x. n q.0 x.0) _
 
 pub returns-then-not-spell-2 : goal.returns-then-not-spell-2
 returns-then-not-spell-2 c =
     let n = rw (not-true c.spell-2.result c.if-not-spell-2.true-raw)
     at c.spell-2.ensures in
-    put-bad _ _ _ _ _ _ (λ q x. n q.1 x.1) c.place_malformed-then-not-spell-2.ensures
+    put-bad _ _ (λ q x. n q.1 x.1) _
 
 pub returns : goal.returns
 returns c =

@@ -6,7 +6,7 @@ use Rattle.desk_both_inner.proofs.ask_words.Goals as goal
 
 pub returns-then-t-e : goal.returns-then-t-e
 returns-then-t-e c =
-    put-bad _ _ _ _ _ _ (no_both c.args.v c.args.k c.args.t.now c.piece_end-e.result c.piece_end-e.ensures c.if-t-e.true) c.place_malformed.ensures
+    put-bad _ _ (no_both c.args.v c.args.k c.args.t.now c.piece_end-e.result c.piece_end-e.ensures c.if-t-e.true) _
 
 pub slice_bounds-ask_both-end : goal.slice_bounds-ask_both-end
 slice_bounds-ask_both-end c = simp length-take (omega (arith, c.piece_end-e.ensures.within))

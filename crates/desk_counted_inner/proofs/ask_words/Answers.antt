@@ -7,7 +7,7 @@ use Rattle.desk_counted_inner.proofs.ask_words.Goals as goal
 
 pub returns-then-t-e : goal.returns-then-t-e
 returns-then-t-e c =
-    put-bad _ _ _ _ _ _ (no_words c.args.t.now c.piece_end-e.result c.piece_end-e.ensures c.if-t-e.true) c.place_malformed.ensures
+    put-bad _ _ (no_words c.args.t.now c.piece_end-e.result c.piece_end-e.ensures c.if-t-e.true) _
 
 pub slice_bounds-ask_ring-end : goal.slice_bounds-ask_ring-end
 slice_bounds-ask_ring-end c = simp length-take (omega (arith, c.piece_end-e.ensures.within))

@@ -1,5 +1,5 @@
 -- `desk_counts_inner::counts_of` meets its contract.
-use Rattle.words.proofs.Needs.{◌-◌, arith, refl, ◌∙◌, length-set, length-drop}
+use Rattle.words.proofs.Needs.{arith, refl, ◌∙◌, length-set, length-drop}
 use Rattle.desk_words_inner.proofs.Shapes.{rest_all}
 use Rattle.desk_counts_inner.proofs.Counting.{begun-none, begun_more, begun-end}
 use Rattle.desk_counts_inner.proofs.counts_of.Goals as goal
@@ -29,12 +29,9 @@ pub last_count-requires : goal.last_count-requires
 last_count-requires c =
     omega (arith, c.loop-x.invariant.0.few, c.loop-x.invariant.0.within, c.loop-x.invariant.1, c.requires.t_in_bounds)
 
-pub shape_of-out-in_default : goal.shape_of-out-in_default
-shape_of-out-in_default c = c.last_count.auto.out ∙ c.loop-x.invariant.1
-
-pub returns-in_default : goal.returns-in_default
-returns-in_default c =
-    let h = rw (rest_all c.args.t.now c.loop-x.at) at (rw c.in_default.is at c.head_at.ensures) in
+pub returns : goal.returns
+returns c =
+    let h = rw (rest_all c.args.t.now c.loop-x.at) at c.in_default.ensures in
     let l = rw (rest_all c.args.t.now c.loop-x.at) at c.last_count.ensures in
     begun-end c.args.t.now c.loop-x.out c.loop-x.m c.loop-x.at c.loop-x.invariant.0
     (omega (arith, c.loop-x.invariant.0.few, c.loop-x.invariant.0.within, c.loop-x.invariant.1, c.requires.t_in_bounds)) h c.last_count.result c.last_count.new.out l
@@ -53,17 +50,17 @@ overflow_add-m c =
 
 pub overflow_add-at : goal.overflow_add-at
 overflow_add-at c =
-    let h = rw (rest_all c.args.t.now c.loop-x.at) at (rw c.in-Number.is at c.head_at.ensures) in
+    let h = rw (rest_all c.args.t.now c.loop-x.at) at c.in-Some.ensures in
     omega (arith, h.1, c.loop-x.invariant.0.within, c.requires.t_len_bound, length-drop c.loop-x.at c.args.t.now)
 
 pub loop-x-smaller : goal.loop-x-smaller
 loop-x-smaller c =
-    let h = rw (rest_all c.args.t.now c.loop-x.at) at (rw c.in-Number.is at c.head_at.ensures) in
+    let h = rw (rest_all c.args.t.now c.loop-x.at) at c.in-Some.ensures in
     omega (arith, h.1, h.3, c.loop-x.invariant.0.within, length-drop c.loop-x.at c.args.t.now)
 
 pub loop-x-preserved : goal.loop-x-preserved
 loop-x-preserved c =
-    let h = rw (rest_all c.args.t.now c.loop-x.at) at (rw c.in-Number.is at c.head_at.ensures) in (
+    let h = rw (rest_all c.args.t.now c.loop-x.at) at c.in-Some.ensures in (
       begun_more c.args.t.now c.loop-x.out c.loop-x.m c.loop-x.at c.loop-x.invariant.0
           (omega (arith, c.loop-x.invariant.0.few, c.loop-x.invariant.0.within, c.loop-x.invariant.1, c.requires.t_in_bounds)) _ _ h,
       length-set c.loop-x.out c.loop-x.m _ ∙ c.loop-x.invariant.1,

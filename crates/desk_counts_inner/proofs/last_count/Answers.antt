@@ -2,10 +2,8 @@
 use Rattle.words.proofs.Needs.{refl}
 use Rattle.desk_counts_inner.proofs.last_count.Goals as goal
 
-pub returns-in-Malformed : goal.returns-in-Malformed
-returns-in-Malformed c = rw c.in-Malformed.is at c.parse_number.ensures
+pub returns-in_err-x : goal.returns-in_err-x
+returns-in_err-x c = rw c.from_residual.ensures c.in_err-x.ensures
 
-pub returns-in-Value : goal.returns-in-Value
-returns-in-Value c =
-    let n = rw c.in-Value.is at c.parse_number.ensures in
-    (refl, (c.in-Value.x, n.0, n.1, refl))
+pub returns : goal.returns
+returns c = (refl, (_, c.in_ok-x.ensures.0, c.in_ok-x.ensures.1, refl))

@@ -1,23 +1,16 @@
 -- `desk_floats_inner::write_floats` meets its contract.
-use Rattle.words.proofs.Needs.{◌-◌, arith, refl, ap, ◌∙◌, length-set}
+use Rattle.words.proofs.Needs.{arith, refl, ap, ◌∙◌, length-set}
 use lib.Ieee.{binary32, of_bits}
 use Rattle.desk_floats_inner.proofs.Patterns.{floats-more}
 use Rattle.desk_floats_inner.proofs.write_floats.Goals as goal
 
 pub loop-i-init : goal.loop-i-init
-loop-i-init c = (omega arith, refl, λ j h. absurd (omega arith))
+loop-i-init c = (refl, λ j h. absurd (omega arith))
 
 pub loop-i-preserved : goal.loop-i-preserved
 loop-i-preserved c = (
-  omega arith,
-  simp length-set c.loop-i.invariant.1,
+  simp length-set c.loop-i.invariant.0,
   floats-more c.args.s.now c.loop-i.i c.loop-i.out
-      c.of_pattern.result c.loop-i.invariant.2 (omega (arith, c.requires.n_in_bounds_2, c.loop-i.invariant.1))
+      c.of_pattern.result c.loop-i.invariant.1 (omega (arith, c.loop-i.invariant.0))
       (c.of_pattern.ensures ∙ ap (of_bits binary32) c.pattern_at.ensures),
 )
-
-pub shape_of-out : goal.shape_of-out
-shape_of-out c = c.loop-i.invariant.1
-
-pub returns : goal.returns
-returns c = λ j h. c.loop-i.invariant.2 j (omega (arith, c.loop-i-test.false))

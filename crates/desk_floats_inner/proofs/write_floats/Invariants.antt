@@ -1,10 +1,7 @@
 -- `desk_floats_inner::write_floats` meets its contract.
-use Rattle.words.proofs.Needs.{◌-◌, ◌≤◌, ◌≡◌, length}
+use Rattle.words.proofs.Needs.{◌≡◌, length}
 use Rattle.desk_floats_inner.specs.Says.{FloatsSay}
 use Rattle.desk_floats_inner.proofs.write_floats.Given as goal
 
 abbrev pub invariant-loop-i : goal.invariant-loop-i
-invariant-loop-i l = (l.i ≤ l.n) × (length l.out ≡ length l.initial.out) × FloatsSay l.s l.i l.out
-
-abbrev pub decreases-loop-i : goal.decreases-loop-i
-decreases-loop-i l = l.n - l.i
+invariant-loop-i l = (length l.out ≡ length l.initial.out) × FloatsSay l.s l.i l.out

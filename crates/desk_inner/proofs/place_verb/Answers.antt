@@ -20,10 +20,10 @@ pub returns-in-Sight : goal.returns-in-Sight
 returns-in-Sight c = rw c.in-Sight.is c.place_sight.ensures
 
 pub returns-in-First : goal.returns-in-First
-returns-in-First c = rw c.in-First.is c.place_counted.ensures
+returns-in-First c = rw c.in-First.is c.place_first.ensures
 
 pub returns-in-After : goal.returns-in-After
-returns-in-After c = rw c.in-After.is c.place_counted-in-After.ensures
+returns-in-After c = rw c.in-After.is c.place_after.ensures
 
 pub returns-in-Shade : goal.returns-in-Shade
 returns-in-Shade c = rw c.in-Shade.is c.place_shade.ensures

@@ -6,7 +6,7 @@ place_outside-requires c = record { x_value = rw c.in-Outside.is at c.requires.o
 
 pub returns-in-Shade : goal.returns-in-Shade
 returns-in-Shade c =
-    rw c.in-Shade.is c.place_number.ensures
+    rw c.in-Shade.is (rw c.from.ensures at c.place_number.ensures)
 
 pub returns-in-Outside : goal.returns-in-Outside
 returns-in-Outside c =

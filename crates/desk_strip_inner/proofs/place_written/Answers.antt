@@ -6,11 +6,3 @@ use Rattle.desk_strip_inner.proofs.place_written.Goals as goal
 pub place_ring_line-requires : goal.place_ring_line-requires
 unfolding slots longest
 place_ring_line-requires c = search rules
-
-pub returns-in-Strip : goal.returns-in-Strip
-returns-in-Strip c =
-    rw c.in-Strip.is c.place_ring_line.ensures
-
-pub returns-in-Refused : goal.returns-in-Refused
-returns-in-Refused c =
-    rw c.in-Refused.is c.place_refusal.ensures

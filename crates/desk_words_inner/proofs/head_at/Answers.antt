@@ -9,10 +9,10 @@ returns-then-t-e c = head-alone _ c.args.t.now c.piece_end-e.result c.piece_end-
 pub slice_bounds-parse_number-end : goal.slice_bounds-parse_number-end
 slice_bounds-parse_number-end c = simp length-take (omega (arith, c.piece_end-e.ensures.within))
 
-pub returns-in-Malformed : goal.returns-in-Malformed
-returns-in-Malformed c =
-    head-none _ c.args.t.now c.piece_end-e.result c.piece_end-e.ensures (rw c.in-Malformed.is at c.parse_number.ensures)
+pub returns-in_err-k : goal.returns-in_err-k
+returns-in_err-k c =
+    rw c.from_residual.ensures (head-none _ c.args.t.now c.piece_end-e.result c.piece_end-e.ensures c.in_err-k.ensures)
 
-pub returns-in-Value : goal.returns-in-Value
-returns-in-Value c =
-    head-number _ c.args.t.now c.piece_end-e.result c.piece_end-e.ensures c.in-Value.k (rw c.in-Value.is at c.parse_number.ensures) (omega (arith, c.if-t-e.false))
+pub returns : goal.returns
+returns c =
+    head-number _ c.args.t.now c.piece_end-e.result c.piece_end-e.ensures _ c.in_ok-k.ensures (omega (arith, c.if-t-e.false))

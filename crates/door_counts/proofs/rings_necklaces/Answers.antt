@@ -2,4 +2,4 @@
 use Rattle.door_counts.proofs.rings_necklaces.Goals as goal
 
 pub returns : goal.returns
-returns c = record { answer = c.necklaces.result; says = c.necklaces.ensures; same = c.flat_counted.ensures }
+returns c = record { answer = c.necklaces.result; says = c.necklaces.ensures; same = c.number.ensures }

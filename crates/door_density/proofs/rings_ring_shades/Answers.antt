@@ -2,4 +2,4 @@
 use Rattle.door_density.proofs.rings_ring_shades.Goals as goal
 
 pub returns : goal.returns
-returns c = record { answer = c.ring_shades.result; says = c.ring_shades.ensures; same = c.flat_ring_read.ensures }
+returns c = record { answer = c.ring_shades.result; says = c.ring_shades.ensures; same = c.done.ensures }

@@ -2,4 +2,4 @@
 use Rattle.door_readings.proofs.rings_even_handed.Goals as goal
 
 pub returns : goal.returns
-returns c = record { answer = c.even_handed.result; says = c.even_handed.ensures; same = c.flat_told.ensures }
+returns c = record { answer = c.even_handed.result; says = c.even_handed.ensures; same = c.told.ensures }

@@ -2,4 +2,4 @@
 use Rattle.door_records.proofs.rings_convert.Goals as goal
 
 pub returns : goal.returns
-returns c = record { answer = c.convert.result; says = c.convert.ensures; same = c.flat_conversion.ensures }
+returns c = record { answer = c.convert.result; says = c.convert.ensures; same = c.done.ensures }

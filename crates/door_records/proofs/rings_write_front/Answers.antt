@@ -2,4 +2,4 @@
 use Rattle.door_records.proofs.rings_write_front.Goals as goal
 
 pub returns : goal.returns
-returns c = record { answer = c.write_record.result; says = c.write_record.ensures; same = c.flat_written.ensures }
+returns c = record { answer = c.write_record.result; says = c.write_record.ensures; same = c.number.ensures }

@@ -2,4 +2,4 @@
 use Rattle.door_walks.proofs.rings_first_ring.Goals as goal
 
 pub returns : goal.returns
-returns c = record { answer = c.first_ring.result; says = c.first_ring.ensures; same = c.flat_first.ensures }
+returns c = record { answer = c.first_ring.result; says = c.first_ring.ensures; same = c.done.ensures }

@@ -6,9 +6,9 @@ use Rattle.files_pass_inner.specs.Says.{RoomyFile}
 use Rattle.files_program_inner.specs.Says.{FileReached}
 use Rattle.files_program_inner.proofs.go_once.Given as goal
 
-abbrev pub invariant-loop-job : goal.invariant-loop-job
-invariant-loop-job l =
+abbrev pub invariant-loop-used : goal.invariant-loop-used
+invariant-loop-used l =
     RoomyFile l.block l.out × (length l.block ≡ length l.initial.block) × (length l.out ≡ length l.initial.out) × (l.at < limit) × FileReached l.job l.at
 
-abbrev pub decreases-loop-job : goal.decreases-loop-job
-decreases-loop-job l = limit - l.at
+abbrev pub decreases-loop-used : goal.decreases-loop-used
+decreases-loop-used l = limit - l.at

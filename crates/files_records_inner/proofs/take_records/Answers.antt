@@ -1,6 +1,6 @@
 -- `files_records_inner::take_records` meets its contract: what is done so far are records whose texts stand at the beginning of the output (Going), and each turn takes one more.
 use Rattle.words.proofs.Needs.{rules}
-use Rattle.words.proofs.Needs.{◌-◌, arith, length-take, length-drop}
+use Rattle.words.proofs.Needs.{arith, length-take, length-drop}
 use Rattle.files_records_inner.proofs.Going.{going-none, going-room, turn-size, turn_on, turn-same, turn-stop, turn-over}
 use Rattle.files_records_inner.proofs.take_records.Goals as goal
 
@@ -28,43 +28,43 @@ take_one-requires c =
 pub overflow_add-i : goal.overflow_add-i
 overflow_add-i c =
     let q = turn-size c.args.job c.args.place c.args.block.now c.args.out.now c.loop-ring.i c.loop-ring.len c.loop-ring.out c.loop-ring.invariant.0
-    c.take_one.result _ c.take_one.ensures _ _ c.in-After.is in
+    c.take_one.result _ c.take_one.ensures _ _ c.in-Ok.is in
     omega (arith, q, c.requires.held)
 
 pub loop-ring-smaller : goal.loop-ring-smaller
 loop-ring-smaller c =
     let q = turn-size c.args.job c.args.place c.args.block.now c.args.out.now c.loop-ring.i c.loop-ring.len c.loop-ring.out c.loop-ring.invariant.0
-    c.take_one.result _ c.take_one.ensures _ _ c.in-After.is in
+    c.take_one.result _ c.take_one.ensures _ _ c.in-Ok.is in
     omega (arith, q)
 
 pub loop-ring-preserved : goal.loop-ring-preserved
 loop-ring-preserved c = (
   turn_on c.args.job c.args.place c.args.block.now c.args.out.now c.loop-ring.i c.loop-ring.len c.loop-ring.out c.loop-ring.invariant.0 c.take_one.result _
-      c.take_one.ensures _ _ c.in-After.is,
+      c.take_one.ensures _ _ c.in-Ok.is,
   search rules,
 )
 
 pub stop-requires : goal.stop-requires
 stop-requires c =
     let q = turn-same c.args.job c.args.place c.args.block.now c.args.out.now c.loop-ring.i c.loop-ring.len c.loop-ring.out c.loop-ring.invariant.0
-    c.take_one.result _ c.take_one.ensures _ c.in-Refused.is in
+    c.take_one.result _ c.take_one.ensures _ c.in-Err.is in
     let r = going-room c.args.job c.args.place c.args.block.now c.args.out.now c.loop-ring.i c.loop-ring.len c.loop-ring.out c.loop-ring.invariant.0 c.requires.record_room_in_bounds in
     (omega (arith, c.requires.held, c.loop-ring.invariant.0.inside), rw q (omega (arith, r.1)))
 
-pub shape_of-out-in-Refused : goal.shape_of-out-in-Refused
-shape_of-out-in-Refused c =
+pub shape_of-out-in-Err : goal.shape_of-out-in-Err
+shape_of-out-in-Err c =
     omega (
       arith,
-      c.out-in-Refused-1.given,
+      c.out-in-Err-1.given,
       c.out-1.given,
       (going-room c.args.job c.args.place c.args.block.now c.args.out.now c.loop-ring.i c.loop-ring.len c.loop-ring.out c.loop-ring.invariant.0
           c.requires.record_room_in_bounds).0,
     )
 
-pub returns-in-Refused : goal.returns-in-Refused
-returns-in-Refused c =
+pub returns-in-Err : goal.returns-in-Err
+returns-in-Err c =
     turn-stop c.args.job c.args.place c.args.block.now c.args.out.now c.loop-ring.i c.loop-ring.len c.loop-ring.out c.loop-ring.invariant.0 c.take_one.result _ c.take_one.ensures
-    c.args.last _ c.stop.result _ c.enough.result c.in-Refused.is c.loop-ring-test.true c.enough.ensures c.requires.record_room_in_bounds c.stop.ensures
+    c.args.last _ c.stop.result _ c.enough.result c.in-Err.is c.loop-ring-test.true c.enough.ensures c.requires.record_room_in_bounds c.stop.ensures
 
 pub finish-requires : goal.finish-requires
 finish-requires c =

@@ -8,19 +8,13 @@ use Rattle.files_text_inner.proofs.place_line.Goals as goal
 pub place_filled-requires : goal.place_filled-requires
 place_filled-requires c =
     let few = answered-few _ _ _ c.requires.answered in
-    let f = line-short c.args.at_record Front c.args.n c.args.k c.args.ring.now (search rules) (search rules) (search rules) few in
-    let p = line-short c.args.at_record Packed c.args.n c.args.k c.args.ring.now (search rules) (search rules) (search rules) few in
+    let f = line-short c.args.at_record Front c.args.record.n c.args.record.k c.args.ring.now (search rules) (search rules) (search rules) few in
+    let p = line-short c.args.at_record Packed c.args.record.n c.args.record.k c.args.ring.now (search rules) (search rules) (search rules) few in
     omega (arith, c.requires.record_room_in_bounds, f, p)
 
 pub place_filled-requires-in-Packed : goal.place_filled-requires-in-Packed
 place_filled-requires-in-Packed c =
     let few = answered-few _ _ _ c.requires.answered in
-    let f = line-short c.args.at_record Front c.args.n c.args.k c.args.ring.now (search rules) (search rules) (search rules) few in
-    let p = line-short c.args.at_record Packed c.args.n c.args.k c.args.ring.now (search rules) (search rules) (search rules) few in
+    let f = line-short c.args.at_record Front c.args.record.n c.args.record.k c.args.ring.now (search rules) (search rules) (search rules) few in
+    let p = line-short c.args.at_record Packed c.args.record.n c.args.record.k c.args.ring.now (search rules) (search rules) (search rules) few in
     omega (arith, c.requires.record_room_in_bounds, f, p)
-
-pub returns-in-Front : goal.returns-in-Front
-returns-in-Front c = rw c.in-Front.is c.place_filled.ensures
-
-pub returns-in-Packed : goal.returns-in-Packed
-returns-in-Packed c = rw c.in-Packed.is c.place_filled-in-Packed.ensures

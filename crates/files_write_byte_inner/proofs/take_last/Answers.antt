@@ -6,10 +6,10 @@ use Rattle.files_write_byte_inner.proofs.take_last.Goals as goal
 pub returns-then-line-eq0 : goal.returns-then-line-eq0
 returns-then-line-eq0 c = (end_none _ _ _ c.if-line-eq0.true, refl, refl)
 
-pub returns-in-After : goal.returns-in-After
-returns-in-After c =
-    (end-some _ _ _ _ (omega (arith, c.if-line-eq0.false)) c.requires.record_room_in_bounds _ _ (rw c.in-After.is at c.place_line.ensures), refl, refl)
+pub returns-in-Ok : goal.returns-in-Ok
+returns-in-Ok c =
+    (end-some _ _ _ _ (omega (arith, c.if-line-eq0.false)) c.requires.record_room_in_bounds _ _ (rw c.in-Ok.is at c.place_line.ensures), refl, refl)
 
-pub returns-in-Refused : goal.returns-in-Refused
-returns-in-Refused c =
-    let h = rw c.in-Refused.is at c.place_line.ensures in (omega (arith, c.if-line-eq0.false), h.0, refl)
+pub returns-in-Err : goal.returns-in-Err
+returns-in-Err c =
+    let h = rw c.in-Err.is at c.place_line.ensures in (omega (arith, c.if-line-eq0.false), h.0, refl)

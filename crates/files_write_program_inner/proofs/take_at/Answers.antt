@@ -1,6 +1,6 @@
 -- `files_write_program_inner::take_at` meets its contract.
 use Rattle.words.proofs.Needs.{arith, ap, length-take}
-use Rattle.files_write_program_inner.specs.declared.Turn.TheVariants.{Stopped}
+use Rattle.std.specs.Prelude.{Err}
 use Rattle.files_write_program_inner.specs.Says.{unread, full, some, last}
 use Rattle.files_write_program_inner.proofs.Turns.{part_room}
 use Rattle.files_write_program_inner.proofs.take_at.Goals as goal
@@ -29,7 +29,7 @@ take_block-requires-in-Ended c =
     }
 
 pub returns-in-Failed : goal.returns-in-Failed
-returns-in-Failed c = unread (ap Stopped c.failed.ensures)
+returns-in-Failed c = unread (ap Err c.failed.ensures)
 
 pub returns-in-Full : goal.returns-in-Full
 returns-in-Full c = full c.take_block.ensures

@@ -1,32 +1,15 @@
 -- `home::bring_home` meets its contract: what the check answers, or else the turn by the shift.
-use Rattle.words.proofs.Needs.{arith, ◌∙◌, refl, length}
-use Rattle.home.proofs.Answers.{passed-pos, passed-room, shift_fits, turned-home}
-use Rattle.refusal.specs.Calls.{ask_room}
+use Rattle.words.proofs.Needs.{arith, ◌∙◌}
+use Rattle.home.proofs.Answers.{shift_fits, turned-home}
 use Rattle.home.proofs.bring_home.Goals as goal
 
-pub least_shift-i-requires : goal.least_shift-i-requires
-least_shift-i-requires c =
-    passed-pos (ask_room c.args.s.now c.args.k (length c.args.out.now)) (rw c.in-Good.is at c.check_room.ensures)
-
-pub period_of-p-requires : goal.period_of-p-requires
-period_of-p-requires c =
-    passed-pos (ask_room c.args.s.now c.args.k (length c.args.out.now)) (rw c.in-Good.is at
-    c.check_room.ensures)
-
 pub write_turn-requires : goal.write_turn-requires
-write_turn-requires c =
-    let g = rw c.in-Good.is at c.check_room.ensures in
-    let z = passed-pos (ask_room c.args.s.now c.args.k (length c.args.out.now)) g in
-    omega (arith, shift_fits c.args.s.now c.least_shift-i.result z c.least_shift-i.ensures, passed-room c.args.s.now c.args.k (length c.args.out.now) g)
+write_turn-requires c = omega (arith, shift_fits _ _ (omega (arith, (rw c.in-Ok.is at c.check_room.ensures))) c.least_shift-shift.ensures, (rw c.in-Ok.is at c.check_room.ensures))
 
-pub returns-in-Refused : goal.returns-in-Refused
-returns-in-Refused c = (rw c.in-Refused.is at c.check_room.ensures, refl)
-
-pub returns-in-Good : goal.returns-in-Good
-returns-in-Good c =
-    record {
-      passed = rw c.in-Good.is at c.check_room.ensures;
-      ring = c.write_turn.ensures ∙ turned-home c.args.s.now c.least_shift-i.result c.least_shift-i.ensures;
-      turns = c.least_shift-i.ensures;
-      repeats = c.period_of-p.ensures;
-    }
+pub returns-in-Ok : goal.returns-in-Ok
+returns-in-Ok c = record {
+  passed = rw c.in-Ok.is at c.check_room.ensures;
+  ring = c.write_turn.ensures ∙ turned-home _ _ c.least_shift-shift.ensures;
+  turns = c.least_shift-shift.ensures;
+  repeats = c.period_of-period.ensures;
+}

@@ -1,29 +1,8 @@
 -- `home_handed_inner::is_even_handed` meets its contract. The outer loop's invariant: no turn passed is the reading; the inner one's: this turn
 -- matches in each sector passed.
-use Rattle.words.proofs.Needs.{◌-◌, arith, ◌∙◌, refl}
-use Rattle.home_handed_inner.proofs.Mirror.{mirrors-start, mirrors-more, mirrors-yes, mirrors-no, unmirrored-start, unmirrored-more, unmirrored-end}
+use Rattle.words.proofs.Needs.{arith, ◌∙◌}
+use Rattle.home_handed_inner.proofs.Mirror.{mirrors-more, mirrors-yes, mirrors-no, unmirrored-more, unmirrored-end}
 use Rattle.home_handed_inner.proofs.is_even_handed.Goals as goal
-
-pub turns-init : goal.turns-init
-turns-init c = (omega arith, refl, unmirrored-start c.args.s.now)
-
-pub loop-m-init : goal.loop-m-init
-loop-m-init c = (refl, omega arith, mirrors-start c.args.s.now c.turns.t)
-
-pub around-requires : goal.around-requires
-around-requires c = omega (arith, c.loop-m.invariant.0)
-
-pub overflow_sub-p-in-loop-m : goal.overflow_sub-p-in-loop-m
-overflow_sub-p-in-loop-m c = omega (arith, c.around.ensures.inside)
-
-pub bounds-s-p : goal.bounds-s-p
-bounds-s-p c = omega (arith, c.around.ensures.inside)
-
-pub overflow_step-t : goal.overflow_step-t
-overflow_step-t c = omega (arith, c.loop-m.invariant.0)
-
-pub turns-smaller : goal.turns-smaller
-turns-smaller c = omega (arith, c.loop-m.invariant.0)
 
 pub turns-preserved : goal.turns-preserved
 turns-preserved c = (

@@ -1,5 +1,4 @@
 -- `home_nearest_inner::is_nearer` meets its contract. The loop's invariant: no turn passed is nearer than d.
-use Rattle.words.proofs.Needs.{◌-◌}
 use Rattle.home_nearest_inner.proofs.Nearer.{turns-start, turns_more, turns-found, turns-end}
 use Rattle.home_nearest_inner.proofs.is_nearer.Goals as goal
 

@@ -1,10 +1,6 @@
 -- `home_nearest_inner::is_nearer` meets its contract. The loop's invariant: no turn passed is nearer than d.
-use Rattle.words.proofs.Needs.{◌-◌, length}
 use Rattle.home_nearest_inner.proofs.Nearer.{NoneNearer}
 use Rattle.home_nearest_inner.proofs.is_nearer.Given as goal
 
 abbrev pub invariant-loop-j : goal.invariant-loop-j
 invariant-loop-j l = NoneNearer l.a l.b l.d l.j
-
-abbrev pub decreases-loop-j : goal.decreases-loop-j
-decreases-loop-j l = length l.a - l.j

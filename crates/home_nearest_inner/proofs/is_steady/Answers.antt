@@ -1,5 +1,5 @@
 -- `home_nearest_inner::is_steady` meets its contract. The loop's invariant: none of the turns passed comes nearer than d.
-use Rattle.words.proofs.Needs.{◌-◌, arith}
+use Rattle.words.proofs.Needs.{arith}
 use Rattle.home_nearest_inner.proofs.Turning.{turned-start, turned_on, turned-near, turned-all}
 use Rattle.home_nearest_inner.proofs.is_steady.Goals as goal
 

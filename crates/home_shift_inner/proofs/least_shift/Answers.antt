@@ -1,26 +1,8 @@
 -- `home_shift_inner::least_shift` meets its contract. The loop's invariant: the shift is i, or it is not below j, and the two turns agree at the first m
 -- places. The measure, 3 n less i + j + m, bounds the comparisons of two sectors: each turn of the loop makes one.
-use Rattle.words.proofs.Plain.{◌-◌, arith, ⊎_elim}
-use Rattle.home_shift_inner.proofs.Seek.{seeks-start, seeks-smaller, seeks-greater, seeks-on, seeks-alike, seeks-end}
+use Rattle.words.proofs.Plain.{arith}
+use Rattle.home_shift_inner.proofs.Seek.{seeks-smaller, seeks-greater, seeks-alike, seeks-end}
 use Rattle.home_shift_inner.proofs.least_shift.Goals as goal
-
-pub loop-j-init : goal.loop-j-init
-loop-j-init c = seeks-start c.args.s.now c.requires
-
-pub sector-x-requires : goal.sector-x-requires
-sector-x-requires c = omega (arith, c.loop-j.invariant.inside, c.loop-j.invariant.short)
-
-pub sector-y-requires : goal.sector-y-requires
-sector-y-requires c = omega (arith, c.loop-j.invariant.short)
-
-pub overflow_add-j : goal.overflow_add-j
-overflow_add-j c = omega (arith, c.loop-j.invariant.order, c.loop-j.invariant.inside, c.loop-j.invariant.short)
-
-pub overflow_add-j-then-x-y : goal.overflow_add-j-then-x-y
-overflow_add-j-then-x-y c = omega (arith, c.loop-j.invariant.order, c.loop-j.invariant.inside, c.loop-j.invariant.short)
-
-pub loop-j-smaller-then-x-y : goal.loop-j-smaller-then-x-y
-loop-j-smaller-then-x-y c = omega (arith, c.loop-j.invariant.order, c.loop-j.invariant.inside, c.loop-j.invariant.short)
 
 pub loop-j-preserved-then-x-y : goal.loop-j-preserved-then-x-y
 loop-j-preserved-then-x-y c =
@@ -28,32 +10,13 @@ loop-j-preserved-then-x-y c =
     c.sector-y.result c.loop-j.invariant c.loop-j-test.true c.sector-x.ensures
     c.sector-y.ensures c.if-x-y.true
 
-pub overflow_add-past : goal.overflow_add-past
-overflow_add-past c = omega (arith, c.loop-j.invariant.order, c.loop-j.invariant.inside, c.loop-j.invariant.short)
-
-pub overflow_add-past-then-y-x : goal.overflow_add-past-then-y-x
-overflow_add-past-then-y-x c = omega (arith, c.loop-j.invariant.order, c.loop-j.invariant.inside, c.loop-j.invariant.short)
-
-pub overflow_add-j-then-y-x : goal.overflow_add-j-then-y-x
-overflow_add-j-then-y-x c =
-    ⊎_elim (λ e. omega (arith, c.loop-j.invariant.order, c.loop-j.invariant.inside, c.loop-j.invariant.short))
-    (λ e. omega (arith, c.loop-j.invariant.order, c.loop-j.invariant.inside, c.loop-j.invariant.short)) c.if-i-past.branch-raw
-
-pub loop-j-smaller-then-y-x : goal.loop-j-smaller-then-y-x
-loop-j-smaller-then-y-x c =
-    ⊎_elim (λ e. omega (arith, c.loop-j.invariant.order, c.loop-j.invariant.inside, c.loop-j.invariant.short))
-    (λ e. omega (arith, c.loop-j.invariant.order, c.loop-j.invariant.inside, c.loop-j.invariant.short)) c.if-i-past.branch-raw
-
 pub loop-j-preserved-then-y-x : goal.loop-j-preserved-then-y-x
 loop-j-preserved-then-y-x c =
     let past = seeks-greater c.args.s.now c.loop-j.i c.loop-j.j c.loop-j.m
     c.sector-x.result c.sector-y.result c.loop-j.invariant
     c.loop-j-test.true c.sector-x.ensures
     c.sector-y.ensures c.if-y-x.true in
-    ⊎_elim (λ e. past c.if-i-past.i (omega arith) (omega arith) (λ b h k. omega arith)) (λ e. past c.if-i-past.i (omega arith) (omega arith) (λ b h k. omega arith)) c.if-i-past.branch-raw
-
-pub overflow_add-m : goal.overflow_add-m
-overflow_add-m c = omega (arith, c.loop-j.invariant.order, c.loop-j.invariant.inside, c.loop-j.invariant.short)
+    past c.max-i.result (omega arith) (omega arith) (λ b h k. omega arith)
 
 pub returns-then-m-n : goal.returns-then-m-n
 returns-then-m-n c =
@@ -61,16 +24,6 @@ returns-then-m-n c =
     c.sector-x.result c.sector-y.result c.loop-j.invariant
     c.loop-j-test.true c.sector-x.ensures
     c.sector-y.ensures (omega (arith, c.if-x-y.false, c.if-y-x.false)) c.if-m-n.true
-
-pub loop-j-smaller : goal.loop-j-smaller
-loop-j-smaller c = omega (arith, c.loop-j.invariant.order, c.loop-j.invariant.inside, c.loop-j.invariant.short)
-
-pub loop-j-preserved : goal.loop-j-preserved
-loop-j-preserved c =
-    seeks-on c.args.s.now c.loop-j.i c.loop-j.j c.loop-j.m
-    c.sector-x.result c.sector-y.result c.loop-j.invariant
-    c.loop-j-test.true c.sector-x.ensures
-    c.sector-y.ensures (omega (arith, c.if-x-y.false, c.if-y-x.false)) c.if-m-n.false
 
 pub returns : goal.returns
 returns c = seeks-end c.args.s.now c.loop-j.i c.loop-j.j c.loop-j.m c.loop-j.invariant c.loop-j-test.false

@@ -1,12 +1,9 @@
 -- `home_turns_inner::same_turns` meets its contract. The loop's invariant: what is left of the two turns from place m on decides.
-use Rattle.words.proofs.Needs.{◌-◌, arith, ◌∙◌, sym, refl, length}
+use Rattle.words.proofs.Needs.{arith, ◌∙◌, sym, length}
 use Rattle.words.specs.{Turn.turn}
 use Rattle.words.proofs.Turn.{length-turn}
 use Rattle.home_turns_inner.proofs.Rests.{same-no, same-on, same_end}
 use Rattle.home_turns_inner.proofs.same_turns.Goals as goal
-
-pub loop-m-init : goal.loop-m-init
-loop-m-init c = (omega arith, refl)
 
 pub returns-then-sector : goal.returns-then-sector
 returns-then-sector c =

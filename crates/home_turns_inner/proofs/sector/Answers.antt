@@ -1,11 +1,6 @@
 -- `home_turns_inner::sector` meets its contract: `around` gives the place of the sector.
-use Rattle.words.proofs.Needs.{arith}
 use Rattle.home_turns_inner.proofs.Places.{sector-around}
 use Rattle.home_turns_inner.proofs.sector.Goals as goal
-
--- `home_turns_inner::sector` meets its contract: `around` gives the place of the sector.
-pub bounds-s-p : goal.bounds-s-p
-bounds-s-p c = omega (arith, c.around-p.ensures.inside)
 
 pub returns : goal.returns
 returns c =

@@ -6,6 +6,3 @@ use Rattle.how_many_phi_inner.proofs.gcd_of.Given as goal
 
 abbrev pub invariant-loop-g : goal.invariant-loop-g
 invariant-loop-g l = gcd l.a l.b ≡ greatest l.g (divides_both l.a l.b)
-
-abbrev pub decreases-loop-g : goal.decreases-loop-g
-decreases-loop-g l = l.g

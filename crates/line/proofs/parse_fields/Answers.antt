@@ -1,13 +1,10 @@
 -- `line::parse_fields` meets its contract: k stands before the first space, n behind it.
-use Rattle.words.proofs.Needs.{◌+◌, ◌-◌, arith, ◌≡◌, length, take, drop, length-take, length-drop, take_all}
+use Rattle.words.proofs.Needs.{◌+◌, ◌-◌, arith, ◌≡◌, length, take, drop, length-drop, take_all}
 use Rattle.line_spec.proofs.Lines.{two_fields, no_fields}
 use Rattle.line.proofs.parse_fields.Goals as goal
 
 pub returns-then-s-at : goal.returns-then-s-at
 returns-then-s-at c = no_fields _ _ c.piece_end-at.ensures c.if-s-at.true
-
-pub slice_bounds-parse_two-end : goal.slice_bounds-parse_two-end
-slice_bounds-parse_two-end c = simp length-take (omega arith)
 
 pub returns : goal.returns
 returns c =

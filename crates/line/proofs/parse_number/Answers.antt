@@ -1,6 +1,6 @@
 -- `line::parse_number` meets its contract. The loop's invariant: the characters passed are digits, and x is what they spell.
-use Rattle.words.proofs.Needs.{◌-◌, arith}
-use Rattle.line.proofs.Spelling.{spelling-start, spelling-on, spelling-small, spelling-end, too_short, too_long, zero-first, no_digit, zero-text}
+use Rattle.words.proofs.Needs.{arith}
+use Rattle.line.proofs.Spelling.{spelling-on, spelling-small, spelling-end, too_short, too_long, zero-first, no_digit, zero-text}
 use Rattle.line.proofs.parse_number.Goals as goal
 
 pub returns-then-m-lt1 : goal.returns-then-m-lt1
@@ -9,52 +9,23 @@ returns-then-m-lt1 c = λ x h e. too_short c.args.s.now x e c.if-m-lt1.true
 pub returns-then-m-gt-DIGITS : goal.returns-then-m-gt-DIGITS
 returns-then-m-gt-DIGITS c = λ x h e. too_long c.args.s.now x e h c.if-m-gt-DIGITS.true
 
-pub returns-then-m-ne1 : goal.returns-then-m-ne1
-returns-then-m-ne1 c = λ x h e. zero-first c.args.s.now x e c.if-s-eq48.true c.if-m-ne1.true
+pub returns-then-m-eq1 : goal.returns-then-m-eq1
+returns-then-m-eq1 c = (omega arith, zero-text c.args.s.now c.if-m-eq1.true c.if-s-eq48.true)
 
-pub returns-then-s-eq48 : goal.returns-then-s-eq48
-returns-then-s-eq48 c = (omega arith, zero-text c.args.s.now c.if-m-ne1.false c.if-s-eq48.true)
+pub returns-else-m-eq1 : goal.returns-else-m-eq1
+returns-else-m-eq1 c = λ x h e. zero-first c.args.s.now x e c.if-s-eq48.true c.if-m-eq1.false
 
-pub loop-i-init : goal.loop-i-init
-loop-i-init c = spelling-start c.args.s.now
+pub returns-then-not-is_ascii_digit : goal.returns-then-not-is_ascii_digit
+returns-then-not-is_ascii_digit c =
+    λ x h e. no_digit c.args.s.now x e c.loop-a.a-index c.loop-a-test.true (λ lo hi. omega (arith, c.if-not-is_ascii_digit.ensures.cases))
 
-pub returns-then-a-lt48 : goal.returns-then-a-lt48
-returns-then-a-lt48 c =
-    λ x h e. no_digit c.args.s.now x e c.loop-i.i
-    (omega arith) (λ lo hi. omega (arith, c.if-a-lt48.true))
-
-pub returns-then-a-gt57 : goal.returns-then-a-gt57
-returns-then-a-gt57 c =
-    λ x h e. no_digit c.args.s.now x e
-    c.loop-i.i (omega arith) (λ lo hi. omega (arith, c.if-a-gt57.true))
-
-pub overflow_mul-x : goal.overflow_mul-x
-overflow_mul-x c =
-    omega (
-      arith,
-      spelling-small c.args.s.now
-          c.loop-i.x c.loop-i.i c.loop-i.invariant
-          (omega arith),
-    )
-
-pub overflow_add-x : goal.overflow_add-x
-overflow_add-x c =
-    omega (
-      arith,
-      spelling-small c.args.s.now
-          c.loop-i.x c.loop-i.i c.loop-i.invariant
-          (omega arith),
-    )
-
-pub loop-i-preserved : goal.loop-i-preserved
-loop-i-preserved c =
-    spelling-on c.args.s.now c.loop-i.x
-    c.loop-i.i c.loop-i.invariant (omega arith) c.if-a-lt48.false c.if-a-gt57.false
+pub loop-a-preserved : goal.loop-a-preserved
+loop-a-preserved c =
+    let f = c.if-not-is_ascii_digit.ensures.cases in
+    rw c.from.ensures (spelling-on c.args.s.now c.loop-a.x c.loop-a.a-index c.loop-a.invariant c.loop-a-test.true f.0 f.1)
 
 pub returns : goal.returns
 returns c = (
-  spelling-small c.args.s.now c.loop-i.x c.loop-i.i c.loop-i.invariant
-      (omega arith),
-  spelling-end c.args.s.now c.loop-i.x
-      c.loop-i.i c.loop-i.invariant (omega arith) (omega arith) c.if-s-eq48.false,
+  spelling-small c.args.s.now c.loop-a.x c.loop-a.a-index c.loop-a.invariant (omega arith),
+  spelling-end c.args.s.now c.loop-a.x c.loop-a.a-index c.loop-a.invariant (omega arith) (omega arith) c.if-s-eq48.false,
 )

@@ -11,14 +11,14 @@ refused_page-requires c = omega (arith, c.if-buf-lt-LINE_ROOM.false)
 
 pub open_page-requires : goal.open_page-requires
 open_page-requires c =
-    let p = rw c.in-Accepted.is at c.plan.ensures in record { listable = p.1; row_room_in_bounds = omega (arith, c.if-buf-lt-LINE_ROOM.false) }
+    let p = rw c.in-Ok.is at c.plan.ensures in record { listable = p.1; row_room_in_bounds = omega (arith, c.if-buf-lt-LINE_ROOM.false) }
 
-pub returns-in-Refused : goal.returns-in-Refused
-returns-in-Refused c =
+pub returns-in-Err : goal.returns-in-Err
+returns-in-Err c =
     first-refused c.args.line.now c.args.buf.now _ _ (omega (arith, c.if-buf-lt-LINE_ROOM.false))
-    c.in-Refused.r (rw c.in-Refused.is at c.plan.ensures) c.refused_page.ensures
+    c.in-Err.r (rw c.in-Err.is at c.plan.ensures) c.refused_page.ensures
 
-pub returns-in-Accepted : goal.returns-in-Accepted
-returns-in-Accepted c =
+pub returns-in-Ok : goal.returns-in-Ok
+returns-in-Ok c =
     first-listed c.args.line.now c.args.buf.now _ _ (omega (arith, c.if-buf-lt-LINE_ROOM.false))
-    c.in-Accepted.k c.in-Accepted.n (rw c.in-Accepted.is at c.plan.ensures) c.open_page.ensures
+    c.in-Ok.k c.in-Ok.n (rw c.in-Ok.is at c.plan.ensures) c.open_page.ensures

@@ -1,7 +1,7 @@
 -- `listing_rows_inner::fill_rows` meets its contract. The loop's invariant, `Along`: what is placed so far is the beginning of the page, and the rings and moves are counted
 -- right.
 use Rattle.words.proofs.Needs.{rules}
-use Rattle.words.proofs.Needs.{◌-◌, arith, ◌≡◌, refl, length, length-take}
+use Rattle.words.proofs.Needs.{arith, ◌≡◌, refl, length, length-take}
 use Rattle.listing_rows_inner.proofs.Loop.{along-start, along-fits, along-size, along-ready, along-rings, along-on}
 use Rattle.listing_rows_inner.proofs.Loop.{came, came-size, came-moves, line-room, line-further, stops, keeps-length, says-full, says-ended}
 use Rattle.listing_rows_inner.proofs.fill_rows.Goals as goal

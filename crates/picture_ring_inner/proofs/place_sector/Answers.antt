@@ -7,15 +7,8 @@ pub returns-then-s-before : goal.returns-then-s-before
 returns-then-s-before c =
     fits_on c.args.tone _ c.args.k c.args.before (c.args.o + c.args.i) c.args.ring.now c.args.i c.requires.le_k.4 c.args.buf.now c.args.at c.if-s-before.true
 
-pub gray_of-g-requires : goal.gray_of-g-requires
-gray_of-g-requires c = (
-  c.requires.le_k.0,
-  c.requires.le_k.1,
-  c.requires.below _ c.requires.le_k.4,
-)
-
-pub place_arc-requires : goal.place_arc-requires
-place_arc-requires c = record { n_nonzero = (omega (arith, c.requires.le_k.4), c.requires.le_k.2, run-le _ c.args.ring.now c.args.i _ c.run_at-d.ensures); at_in_bounds = c.requires.at_in_bounds }
+pub place_arc-requires-clause-n_nonzero : goal.place_arc-requires-clause-n_nonzero
+place_arc-requires-clause-n_nonzero c = (omega (arith, c.requires.le_k.4), c.requires.le_k.2, run-le _ c.args.ring.now c.args.i _ c.run_at-d.ensures)
 
 pub returns : goal.returns
 returns c =

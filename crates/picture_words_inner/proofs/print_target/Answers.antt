@@ -2,13 +2,13 @@
 use Rattle.picture_words_inner.proofs.Words.{drawn-put, refused-put}
 use Rattle.picture_words_inner.proofs.print_target.Goals as goal
 
-pub returns-in-Whole : goal.returns-in-Whole
-returns-in-Whole c =
+pub returns-in-Ok : goal.returns-in-Ok
+returns-in-Ok c =
     drawn-put c.args.k c.args.w.now
     c.args.tone c.args.buf.now _ _
-    (rw c.in-Whole.is at c.draw.ensures)
+    (rw c.in-Ok.is at c.draw.ensures)
 
-pub returns-in-Refused : goal.returns-in-Refused
-returns-in-Refused c =
-    refused-put c.args.k c.args.w.now c.args.tone c.args.buf.now c.in-Refused.r _ _ _ c.requires
-    (rw c.in-Refused.is at c.draw.ensures) c.place_refusal.ensures
+pub returns-in-Err : goal.returns-in-Err
+returns-in-Err c =
+    refused-put c.args.k c.args.w.now c.args.tone c.args.buf.now c.in-Err.r _ _ _ c.requires
+    (rw c.in-Err.is at c.draw.ensures) c.place_refusal.ensures

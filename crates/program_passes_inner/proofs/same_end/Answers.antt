@@ -5,5 +5,5 @@ use Rattle.program_passes_inner.proofs.same_end.Goals as goal
 pub returns-then-first-second : goal.returns-then-first-second
 returns-then-first-second c = same_whole c.args.first c.args.second c.if-first-second.true
 
-pub returns : goal.returns
-returns c = same-changed c.args.first c.args.second c.if-first-second.false
+pub returns-else-first-second : goal.returns-else-first-second
+returns-else-first-second c = same-changed c.args.first c.args.second c.if-first-second.false

@@ -5,16 +5,8 @@ use Rattle.ring_home_laws.proofs.Home.{home-turn-of, shift-lt}
 use Rattle.record_stored_inner.proofs.put_home.Goals as goal
 
 pub write_turn-requires : goal.write_turn-requires
-write_turn-requires c = (
-  omega (
-    arith,
-    c.least_shift-i.ensures,
-    shift-lt c.args.reading.now
-        c.requires.0,
-  ),
-  c.requires.1,
-)
+write_turn-requires c = (omega (arith, c.least_shift.ensures, shift-lt c.args.reading.now c.requires.0), c.requires.1)
 
 pub returns : goal.returns
 returns c =
-    c.write_turn.ensures ∙ ap (λ (i : ℕ). turn i c.args.reading.now) c.least_shift-i.ensures ∙ sym (home-turn-of c.args.reading.now)
+    c.write_turn.ensures ∙ ap (λ (i : ℕ). turn i c.args.reading.now) c.least_shift.ensures ∙ sym (home-turn-of c.args.reading.now)

@@ -1,9 +1,11 @@
 -- `set_choose_inner::choose` meets its contract. Its loop is that of Along: the choice from the Lyndon words above the ring that the walk has come to, from those
 -- taken on, is the set; each turn leaves fewer readings above.
-use Rattle.words.proofs.Needs.{arith, sym, length-take, length-take-le}
+use Rattle.std.specs.Prelude.{Ok}
+use Rattle.words.proofs.Needs.{ℕ, ◌≡◌, rules, arith, sym, length-take, length-take-le}
+use Rattle.walk_spec.specs.declared.Outcome.TheVariants.{Moved}
 use Rattle.set_choose_inner.proofs.Along.{zeros-part, taken-few, started, along-start, along-ended, Turned, turned, along-full}
 use Rattle.set_choose_inner.proofs.choose.Goals as goal
-use Rattle.set_choose_inner.proofs.choose.Goals.{In-Moved}
+use Rattle.set_choose_inner.proofs.choose.Goals.{In-Ok-Moved}
 
 pub slice_bounds-zeros-end : goal.slice_bounds-zeros-end
 slice_bounds-zeros-end c = omega (arith, c.requires.short)
@@ -21,36 +23,40 @@ loop-taken-init c =
 
 pub returns-in_default : goal.returns-in_default
 returns-in_default c =
-    along-ended c.requires c.loop-taken.invariant c.next_word-stepped.result.walk c.next_word-stepped.result.outcome c.in_default.not-Moved c.next_word-stepped.ensures
+    let n : (m : ℕ) → c.next_word-stepped.result.outcome ≡ Ok (Moved m) → ⊥ = λ m e. search rules in
+    along-ended c.requires c.loop-taken.invariant c.next_word-stepped.result.walk c.next_word-stepped.result.outcome n c.next_word-stepped.ensures
+    (omega (arith, c.loop-taken-test.true))
+
+pub returns-in_default-2 : goal.returns-in_default-2
+returns-in_default-2 c =
+    let n : (m : ℕ) → c.next_word-stepped.result.outcome ≡ Ok (Moved m) → ⊥ = λ m e. search rules in
+    along-ended c.requires c.loop-taken.invariant c.next_word-stepped.result.walk c.next_word-stepped.result.outcome n c.next_word-stepped.ensures
     (omega (arith, c.loop-taken-test.true))
 
 -- behind a step that moved
-moved : (c : In-Moved) →
+moved : (c : In-Ok-Moved) →
     Turned c.args.rule c.args.n c.args.k c.args.d c.args.wanted c.loop-taken.w c.loop-taken.places c.loop-taken.tallies c.loop-taken.taken c.next_word-stepped.result.walk
 moved c =
     turned c.requires c.loop-taken.invariant (omega (arith, c.loop-taken-test.true))
-    (rw c.in-Moved.is at c.next_word-stepped.ensures)
+    (let e : c.next_word-stepped.result.outcome ≡ Ok (Moved c.in-Ok-Moved.field-0-0) = search rules in rw e at c.next_word-stepped.ensures)
 
 pub slice_bounds-offer-end : goal.slice_bounds-offer-end
-slice_bounds-offer-end c = sym (moved (goal.at.slice_bounds-offer-end c).In-Moved).places
+slice_bounds-offer-end c = sym (moved (goal.at.slice_bounds-offer-end c).In-Ok-Moved).places
 
 pub slice_bounds-offer-end-in-loop-taken : goal.slice_bounds-offer-end-in-loop-taken
-slice_bounds-offer-end-in-loop-taken c = sym (moved (goal.at.slice_bounds-offer-end-in-loop-taken c).In-Moved).tallies
-
-pub slice_bounds-ring-end : goal.slice_bounds-ring-end
-slice_bounds-ring-end c = (moved (goal.at.slice_bounds-ring-end c).In-Moved).size
+slice_bounds-offer-end-in-loop-taken c = sym (moved (goal.at.slice_bounds-offer-end-in-loop-taken c).In-Ok-Moved).tallies
 
 pub slice_bounds-offer-end-in-loop-taken-2 : goal.slice_bounds-offer-end-in-loop-taken-2
-slice_bounds-offer-end-in-loop-taken-2 c = sym (length-take-le _ _ (moved (goal.at.slice_bounds-offer-end-in-loop-taken-2 c).In-Moved).size)
+slice_bounds-offer-end-in-loop-taken-2 c = sym (length-take-le _ _ (moved (goal.at.slice_bounds-offer-end-in-loop-taken-2 c).In-Ok-Moved).size)
 
 pub offer-taken-requires : goal.offer-taken-requires
-offer-taken-requires c = record { comparable = ((moved (goal.at.offer-taken-requires c).In-Moved).asked).0; taken_bound = ((moved (goal.at.offer-taken-requires c).In-Moved).asked).1 }
+offer-taken-requires c = record { comparable = ((moved (goal.at.offer-taken-requires c).In-Ok-Moved).asked).0; taken_bound = ((moved (goal.at.offer-taken-requires c).In-Ok-Moved).asked).1 }
 
 pub loop-taken-smaller : goal.loop-taken-smaller
-loop-taken-smaller c = (moved (goal.at.loop-taken-smaller c).In-Moved).less
+loop-taken-smaller c = (moved (goal.at.loop-taken-smaller c).In-Ok-Moved).less
 
 pub loop-taken-preserved : goal.loop-taken-preserved
-loop-taken-preserved c = (moved (goal.at.loop-taken-preserved c).In-Moved).on _ _ _ c.offer-taken.ensures
+loop-taken-preserved c = (moved (goal.at.loop-taken-preserved c).In-Ok-Moved).on _ _ _ c.offer-taken.ensures
 
 pub returns : goal.returns
 returns c = along-full c.requires c.loop-taken.invariant (omega (arith, c.loop-taken-test.false))

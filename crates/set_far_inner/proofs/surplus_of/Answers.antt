@@ -1,23 +1,19 @@
--- `set_far_inner::surplus_of` meets its contract. The loop's invariant: `more` is the surplus of the shades below s.
-use Rattle.words.proofs.Needs.{◌-◌, arith, ◌≡◌, refl}
+-- `set_far_inner::surplus_of` meets its contract. The loop's invariant: `more` is the surplus of the shades that are passed.
+use Rattle.words.proofs.Needs.{arith, rules, refl, length, length-append}
 use Rattle.words.proofs.Sequence.{sec}
+use Rattle.std.proofs.lemmas.Slice.Zip.{zip_turn}
 use Rattle.ring_home_laws.proofs.Counts.{surplus}
 use Rattle.set_far_inner.proofs.Far.{surplus-more}
 use Rattle.set_far_inner.proofs.surplus_of.Goals as goal
 
-pub loop-s-init : goal.loop-s-init
+pub loop-x-init : goal.loop-x-init
 unfolding surplus
-loop-s-init c = (omega arith, omega arith, refl)
+loop-x-init c = (omega arith, refl)
 
-pub overflow_add-more : goal.overflow_add-more
-overflow_add-more c =
-    omega (arith, c.loop-s.invariant.1, c.type_inv.a c.loop-s.s)
-
-pub loop-s-preserved : goal.loop-s-preserved
-loop-s-preserved c =
-    let m = surplus-more (sec c.args.a.now) (sec c.args.b.now) c.loop-s.s c.loop-s.more c.above-more.result c.loop-s.invariant.2 c.loop-s.invariant.1 c.above-more.ensures
-    (omega (arith, c.type_inv.a c.loop-s.s)) in
-    (omega arith, m.1, m.0)
-
-pub returns : goal.returns
-returns c = let e : c.loop-s.s ≡ 16 = omega arith in rw e at c.loop-s.invariant.2
+pub loop-x-preserved : goal.loop-x-preserved
+loop-x-preserved c =
+    let z = zip_turn c.args.a.now c.args.b.now c.loop-x.yielded c.into_iter-x-iterator.result c.loop-x.x-iterator c.next.new.self _ (search rules)
+    (search rules) c.loop-x.yielded_by _ c.in-Some.is c.next.ensures.steps in
+    let m = surplus-more (sec c.args.a.now) (sec c.args.b.now) (length c.loop-x.yielded) c.loop-x.more c.from-more.result c.loop-x.invariant.1 c.loop-x.invariant.0
+    (omega (arith, c.from-more.ensures, c.saturating_sub.ensures, z.2 0, z.3 0)) (omega (arith, c.type_inv.a (length c.loop-x.yielded))) in
+    simp length-append (m.1, m.0)

@@ -1,18 +1,10 @@
 -- `set_line::parse_set` meets its contract: the last character says whether there is a newline.
-use Rattle.words.proofs.Needs.{arith, length-take}
-use Rattle.set_line_spec.proofs.Four.{set-line-some, ended-four, bare-four}
+use Rattle.words.proofs.Needs.{arith}
+use Rattle.set_line_spec.proofs.Four.{set-line-some, split-four}
 use Rattle.set_line.proofs.parse_set.Goals as goal
 
-pub returns-then-m-lt1 : goal.returns-then-m-lt1
-returns-then-m-lt1 c = λ n k d want p. omega (arith, set-line-some c.args.s.now n k d want p, c.if-m-lt1.true)
+pub returns-in_err-last : goal.returns-in_err-last
+returns-in_err-last c = rw c.from_residual.ensures (λ n k d want p. omega (arith, set-line-some c.args.s.now n k d want p, c.in_err-last.ensures.cases))
 
-pub slice_bounds-parse_four-length : goal.slice_bounds-parse_four-length
-slice_bounds-parse_four-length c = simp length-take (omega arith)
-
-pub returns-then-s-m-eq10 : goal.returns-then-s-m-eq10
-returns-then-s-m-eq10 c =
-    ended-four c.args.s.now c.parse_four.result
-    c.if-m-lt1.false c.if-s-m-eq10.true c.parse_four.ensures
-
-pub returns : goal.returns
-returns c = bare-four c.args.s.now c.parse_four-2.result c.if-s-m-eq10.false c.parse_four-2.ensures
+pub returns-then-last-eq10 : goal.returns-then-last-eq10
+returns-then-last-eq10 c = split-four _ _ _ _ c.in_ok-last.ensures.cases.0 c.if-last-eq10.true c.parse_four.ensures

@@ -7,13 +7,13 @@ use Rattle.set_output.proofs.print_by.Goals as goal
 pub returns-then-buf-lt-ROOM : goal.returns-then-buf-lt-ROOM
 returns-then-buf-lt-ROOM c = small c.if-buf-lt-ROOM.true refl refl
 
-pub returns-in-Malformed : goal.returns-in-Malformed
-returns-in-Malformed c =
+pub returns-in-None : goal.returns-in-None
+returns-in-None c =
     line-malformed c.args.rule c.args.line.now c.args.buf.now _ _ c.if-buf-lt-ROOM.false
-    (rw c.in-Malformed.is at c.parse_set.ensures)
+    c.in-None.ensures
     c.print_refused.ensures
 
-pub returns-in-Numbers : goal.returns-in-Numbers
-returns-in-Numbers c =
-    line-numbers c.args.rule c.args.line.now c.args.buf.now _ _ c.in-Numbers.n c.in-Numbers.k c.in-Numbers.d c.in-Numbers.wanted
-    c.if-buf-lt-ROOM.false (rw c.in-Numbers.is at c.parse_set.ensures) c.print_numbers.ensures
+pub returns-in-Some : goal.returns-in-Some
+returns-in-Some c =
+    line-numbers c.args.rule c.args.line.now c.args.buf.now _ _ c.in-Some.n c.in-Some.k c.in-Some.d c.in-Some.wanted
+    c.if-buf-lt-ROOM.false c.in-Some.ensures c.print_numbers.ensures

@@ -1,5 +1,5 @@
 -- `shades_completable_inner::completable` meets its contract. The least letter that is left decides, or the pool does.
-use Rattle.words.proofs.Needs.{◌-◌, arith}
+use Rattle.words.proofs.Needs.{arith}
 use Rattle.ring_laws.proofs.Lyndon.{lyndon-pos}
 use Rattle.shades_completable_inner.proofs.Testing.{test-none, test_low, test-high, test-letter, test-opened}
 use Rattle.shades_completable_inner.proofs.completable.Goals as goal

@@ -1,6 +1,6 @@
 -- `shades_completable_inner::decide` meets its contract. The loop: the arrays hold the groups of a pool; the last group's place falls, or the least word grows.
 use Rattle.words.proofs.Needs.{rules}
-use Rattle.words.proofs.Needs.{◌-◌, arith, sym}
+use Rattle.words.proofs.Needs.{arith, sym}
 use Rattle.shades_completable_inner.proofs.Testing.{test-start, test-stuck, test-bounds, test-dropped, test-pushed}
 use Rattle.shades_completable_inner.proofs.Testing.{test-chained, test-under, test-over, test_on, test-longer}
 use Rattle.shades_completable_inner.proofs.decide.Goals as goal

@@ -1,10 +1,6 @@
 -- `shades_completable_inner::numbers` meets its contract. The loop: the numbers of the letters below b are written.
-use Rattle.words.proofs.Needs.{◌-◌, length}
 use Rattle.shades_completable_inner.proofs.Testing.{Counting}
 use Rattle.shades_completable_inner.proofs.numbers.Given as goal
 
 abbrev pub invariant-loop-b : goal.invariant-loop-b
 invariant-loop-b l = Counting l.rem l.num l.b
-
-abbrev pub decreases-loop-b : goal.decreases-loop-b
-decreases-loop-b l = length l.rem - l.b

@@ -1,5 +1,5 @@
 -- `shades_pool_inner::against` meets its contract. The loop: the first a letters of al and the word of node g are the first c and the word of node i.
-use Rattle.words.proofs.Needs.{◌-◌, arith, sym, refl, length-take-le}
+use Rattle.words.proofs.Needs.{arith, sym, refl, length-take-le}
 use Rattle.shades_pool_inner.proofs.Chains.{follow-start, follow-whole, follow-under, follow-over, follow-on, letter-under, letter-over, letter-same}
 use Rattle.shades_pool_inner.proofs.against.Goals as goal
 

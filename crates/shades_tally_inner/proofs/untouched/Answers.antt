@@ -1,13 +1,6 @@
--- `shades_tally_inner::untouched` meets its contract. The loop: the first b counts are copied.
-use Rattle.words.proofs.Needs.{◌-◌}
-use Rattle.shades_tally_inner.proofs.Leaving.{leave-start, leave-untouched, leave-end}
+-- `shades_tally_inner::untouched` meets its contract. The counts stand in front of zeros.
+use Rattle.shades_tally_inner.proofs.Leaving.{untouched}
 use Rattle.shades_tally_inner.proofs.untouched.Goals as goal
 
-pub loop-b-init : goal.loop-b-init
-loop-b-init c = leave-start _ _
-
-pub loop-b-preserved : goal.loop-b-preserved
-loop-b-preserved c = leave-untouched _ _ _ c.requires c.loop-b.invariant c.loop-b-test.true
-
 pub returns : goal.returns
-returns c = leave-end _ _ _ _ c.loop-b.invariant c.loop-b-test.false
+returns c = untouched _ _ c.requires c.copy_from_slice.ensures.after

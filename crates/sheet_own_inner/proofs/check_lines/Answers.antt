@@ -42,10 +42,10 @@ overflow_add-result c = omega (
   c.loop-at-test.true,
 )
 
-pub returns-in-Refused : goal.returns-in-Refused
-returns-in-Refused c =
+pub returns-in-Err : goal.returns-in-Err
+returns-in-Err c =
     let x = reached-line c.args.s.now c.loop-at.at c.loop-at.i c.loop-at.invariant.0 _ c.line_end-e.ensures in
-    lines-wrong c.args.sheet (lines c.args.s.now) c.loop-at.i _ x.1 c.in-Refused.r (rw c.in-Refused.is at c.check_line.ensures) x.0 c.loop-at.invariant.1
+    lines-wrong c.args.sheet (lines c.args.s.now) c.loop-at.i _ x.1 c.in-Err.refusal (rw c.in-Err.is at c.check_line.ensures) x.0 c.loop-at.invariant.1
 
 pub overflow_add-at : goal.overflow_add-at
 overflow_add-at c = omega (arith, c.line_end-e.ensures.within)
@@ -63,7 +63,7 @@ loop-at-smaller c = omega (arith, c.line_end-e.ensures.from, c.line_end-e.ensure
 pub loop-at-preserved : goal.loop-at-preserved
 loop-at-preserved c =
     let x = reached-line c.args.s.now c.loop-at.at c.loop-at.i c.loop-at.invariant.0 _ c.line_end-e.ensures in
-    let v = rw c.in-Good.is at c.check_line.ensures in
+    let v = rw c.in_default.is at c.check_line.ensures in
     let k = relent-length (c.line_end-e.result - c.loop-at.at) c.loop-at.ring c.check_line.new.ring
     c.check_line.auto.ring (omega (
       arith,

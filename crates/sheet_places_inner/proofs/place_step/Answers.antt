@@ -1,6 +1,6 @@
 -- `sheet_places_inner::place_step` meets its contract.
 use Rattle.words.proofs.Needs.{arith}
-use Rattle.picture_spec.specs.declared.Drawn.TheVariants.{Whole, Refused}
+use Rattle.std.specs.Prelude.{Ok, Err}
 use Rattle.sheet_places_inner.proofs.Places.{step-placed, step-never}
 use Rattle.sheet_places_inner.proofs.place_step.Goals as goal
 
@@ -22,16 +22,16 @@ slice_bounds-target-end c = omega (arith, c.requires.set_places.size, c.requires
 pub overflow_add-i : goal.overflow_add-i
 overflow_add-i c = omega (arith, c.requires.set_places.most, c.requires.i_lt_count)
 
-pub returns-in-Whole : goal.returns-in-Whole
-returns-in-Whole c =
+pub returns-in-Ok : goal.returns-in-Ok
+returns-in-Ok c =
     step-placed c.args.sheet c.args.places.now c.args.i _ c.args.buf.now
-    c.target.result (Whole c.in-Whole.m) _
-    c.target.ensures c.in-Whole.is
+    c.target.result (Ok c.in-Ok.m) _
+    c.target.ensures c.in-Ok.is
 
-pub returns-in-Refused : goal.returns-in-Refused
-returns-in-Refused c =
+pub returns-in-Err : goal.returns-in-Err
+returns-in-Err c =
     let s = step-placed c.args.sheet c.args.places.now c.args.i _ c.args.buf.now
-    c.target.result (Refused c.in-Refused.field-0) _
-    c.target.ensures c.in-Refused.is in
+    c.target.result (Err c.in-Err.field-0) _
+    c.target.ensures c.in-Err.is in
     absurd (step-never c.args.sheet c.args.places.now c.args.count c.args.i c.requires.i_lt_count.0
-    c.args.buf.now c.requires.i_lt_count.1 c.requires.passed c.in-Refused.field-0 s.0)
+    c.args.buf.now c.requires.i_lt_count.1 c.requires.passed c.in-Err.field-0 s.0)

@@ -1,10 +1,6 @@
 -- `sheet_print_inner::check_targets` meets its contract: the targets below the place pass.
-use Rattle.words.proofs.Needs.{◌-◌, ◌≤◌}
 use Rattle.sheet_print_inner.specs.Says.{AllPass}
 use Rattle.sheet_print_inner.proofs.check_targets.Given as goal
 
 abbrev pub invariant-loop-j : goal.invariant-loop-j
-invariant-loop-j l = (l.j ≤ l.count) × AllPass l.sheet l.places l.count l.j
-
-abbrev pub decreases-loop-j : goal.decreases-loop-j
-decreases-loop-j l = l.count - l.j
+invariant-loop-j l = AllPass l.sheet l.places l.count l.j

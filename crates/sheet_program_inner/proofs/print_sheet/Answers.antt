@@ -7,8 +7,4 @@ pub prepare-job-requires : goal.prepare-job-requires
 prepare-job-requires c = c.requires.input_in_bounds
 
 pub print_job-requires : goal.print_job-requires
-print_job-requires c = record {
-  answer_ready = ready_of _ c.prepare-job.result.sheet c.prepare-job.result.places c.prepare-job.result.from c.prepare-job.result.count c.prepare-job.result.answer c.prepare-job.ensures;
-  target_room_in_bounds = omega
-      (arith, c.prepare-job.auto.ring, c.requires.target_room_in_bounds);
-}
+print_job-requires c = record { answer_ready = ready_of _ _ c.prepare-job.ensures; target_room_in_bounds = omega (arith, c.prepare-job.auto.ring, c.requires.target_room_in_bounds) }

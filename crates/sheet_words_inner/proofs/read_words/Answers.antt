@@ -1,35 +1,19 @@
--- `sheet_words_inner::read_words` meets its contract: the words from the place on mean what all of them mean behind the first.
-use Rattle.words.proofs.Needs.{◌-◌, arith, refl, sym, ◌∙◌}
-use Rattle.sheet_words_inner.proofs.Reading.{asked-on, asked-end}
+-- `sheet_words_inner::read_words` meets its contract.
+use Rattle.words.proofs.Needs.{ℕ, sym, ap, ◌∙◌, List, eqb}
+use borrow.Author.Tests.{tests}
+use Rattle.std.proofs.Common.{rules}
+use Rattle.std.proofs.lemmas.Iterator.Consumers.{fold_from_yields_List}
+use Rattle.std.proofs.lemmas.Iterator.Splits.{YieldsList-from_slice_split}
+use Rattle.std.specs.List.{fold}
+use Rattle.sheet_words_spec.specs.declared.Asked.{Asked}
+use Rattle.sheet_words_spec.specs.Words.{word_of, meant, asked}
+use Rattle.sheet_words_inner.proofs.Reading.{split-pieces, asked-fold}
 use Rattle.sheet_words_inner.proofs.read_words.Goals as goal
 
-pub loop-at-init : goal.loop-at-init
-loop-at-init c = (omega arith, refl)
-
-pub word_end-e-requires : goal.word_end-e-requires
-word_end-e-requires c = omega (arith, c.loop-at-test.true)
-
-pub slice_bounds-word_of-count : goal.slice_bounds-word_of-count
-slice_bounds-word_of-count c = omega (arith, c.word_end-e.ensures.from)
-
-pub slice_bounds-word_of-start : goal.slice_bounds-word_of-start
-slice_bounds-word_of-start c = omega (arith, c.word_end-e.ensures.from)
-
-pub slice_bounds-word_of-end : goal.slice_bounds-word_of-end
-slice_bounds-word_of-end c = omega (arith, c.word_end-e.ensures.within)
-
-pub overflow_add-at : goal.overflow_add-at
-overflow_add-at c = omega (arith, c.word_end-e.ensures.within, c.type_inv.t 0)
-
-pub loop-at-smaller : goal.loop-at-smaller
-loop-at-smaller c = omega (arith, c.word_end-e.ensures.from, c.word_end-e.ensures.within)
-
-pub loop-at-preserved : goal.loop-at-preserved
-loop-at-preserved c = (
-  omega (arith, c.word_end-e.ensures.within),
-  asked-on _ _ _ c.word_end-e.ensures c.loop-at.a _ _ c.word_of.ensures
-      c.meant_by-a.ensures ∙ c.loop-at.invariant.1,
-)
-
 pub returns : goal.returns
-returns c = sym (asked-end c.args.t.now c.loop-at.at c.loop-at.a (omega (arith, c.loop-at-test.false))) ∙ c.loop-at.invariant.1
+returns c =
+    let h = λ (a : Asked) (w : List ℕ). meant (word_of w) a in
+    fold_from_yields_List _ h _ _ c.fold.ensures.ran
+    (YieldsList-from_slice_split _ (λ (x : ℕ). eqb x 32) c.args.t.now c.split.ensures.rest c.split.ensures.done c.split.ensures.closure (λ x r q k. search (rules, tests)))
+    (λ a x b q k. search rules)
+    ∙ ap (fold h c.args.first) (split-pieces 32 c.args.t.now) ∙ asked-fold _ c.args.first

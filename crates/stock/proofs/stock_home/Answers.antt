@@ -5,4 +5,4 @@ use Rattle.stock.proofs.stock_home.Goals as goal
 
 pub returns : goal.returns
 unfolding homes
-returns c = entry c.args.b (search rules)
+returns c = rw c.from.ensures (entry c.args.b (search rules))

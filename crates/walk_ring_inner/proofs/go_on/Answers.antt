@@ -1,20 +1,17 @@
 -- `walk_ring_inner::go_on` meets its contract.
-use Rattle.words.proofs.Needs.{◌<◌, arith, refl}
+use Rattle.words.proofs.Needs.{refl}
 use Rattle.walk_kind_laws.specs.Kinds.{kind_of}
 use Rattle.walk_record_laws.proofs.Good.{went-period}
 use Rattle.walk_ring_inner.proofs.go_on.Goals as goal
 
-pub returns-then-reached-eq0 : goal.returns-then-reached-eq0
+pub returns-in-Some : goal.returns-in-Some
 unfolding kind_of
-returns-then-reached-eq0 c =
-    let d = c.advance-reached.ensures.done c.if-reached-eq0.true in
-    (d.0, d.1, c.advance-reached.ensures.kept c.if-reached-eq0.true refl)
+returns-in-Some c =
+    let f = rw c.in-Some.is at c.advance-reached.ensures in
+    (f.0, f.1, went-period c.args.k c.args.ring.now _ _ c.requires.pos f.0 f.2)
 
-pub returns : goal.returns
+pub returns-in-None : goal.returns-in-None
 unfolding kind_of
-returns c =
-    let z : 0 < c.advance-reached.result.lyn = omega (arith, c.if-reached-eq0.false) in (
-      c.advance-reached.ensures.next z,
-      c.advance-reached.ensures.moved z,
-      went-period c.args.k c.args.ring.now _ _ c.requires.pos (c.advance-reached.ensures.next z) (c.advance-reached.ensures.lyn-of z),
-    )
+returns-in-None c =
+    let f = rw c.in-None.is at c.advance-reached.ensures in
+    (f.0, f.1, f.2 refl)

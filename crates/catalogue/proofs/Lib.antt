@@ -1,2 +1,0 @@
--- A start in the catalogue (Starts).
-pub mod Starts

@@ -1,2 +1,0 @@
--- What a sector's answer says to the loops over a ring's values (Telling).
-pub mod Telling

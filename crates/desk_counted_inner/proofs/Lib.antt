@@ -1,2 +1,0 @@
--- From what stands behind k to what the question prints (Asking).
-pub mod Asking

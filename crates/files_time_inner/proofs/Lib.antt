@@ -1,2 +1,0 @@
--- How a run ends (Times).
-pub mod Times

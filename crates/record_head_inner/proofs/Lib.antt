@@ -1,2 +1,0 @@
--- The mark of a record (Reading).
-pub mod Reading

@@ -1,2 +1,0 @@
--- The ring of a good record (Showing).
-pub mod Showing

@@ -1,2 +1,0 @@
--- What the checks of the numbers and of the distance say together (Checks).
-pub mod Checks

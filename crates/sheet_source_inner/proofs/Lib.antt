@@ -1,2 +1,0 @@
--- Where lines begin (Begins).
-pub mod Begins

@@ -1,2 +1,0 @@
--- What was seen, where the checks have passed (Passing).
-pub mod Passing

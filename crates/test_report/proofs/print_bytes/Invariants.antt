@@ -1,9 +1,0 @@
--- `test_report::print_bytes` is safe and ends.
-use Rattle.words.proofs.Needs.{◌-◌, ◌≤◌, length}
-use Rattle.test_report.proofs.print_bytes.Given as goal
-
-abbrev pub invariant-loop-i : goal.invariant-loop-i
-invariant-loop-i l = l.i ≤ length l.s
-
-abbrev pub decreases-loop-i : goal.decreases-loop-i
-decreases-loop-i l = length l.s - l.i

@@ -1,9 +1,0 @@
--- `test_sets::others` is safe and ends.
-use Rattle.words.proofs.Needs.{◌≤◌, ◌-◌, length}
-use Rattle.test_sets.proofs.others.Given as goal
-
-abbrev pub invariant-loop-i : goal.invariant-loop-i
-invariant-loop-i l = l.i ≤ length l.places
-
-abbrev pub decreases-loop-i : goal.decreases-loop-i
-decreases-loop-i l = length l.places - l.i

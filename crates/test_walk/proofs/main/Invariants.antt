@@ -1,9 +1,0 @@
--- `test_walk::main` is safe and ends: it counts the cases, and the line keeps its length.
-use Rattle.words.proofs.Needs.{◌≤◌, ◌-◌, ◌≡◌, length}
-use Rattle.test_walk.proofs.main.Given as goal
-
-abbrev pub invariant-loop : goal.invariant-loop
-invariant-loop l = (length l.line ≡ 128) × (l.counter ≤ 1000)
-
-abbrev pub decreases-loop : goal.decreases-loop
-decreases-loop l = 1000 - l.counter

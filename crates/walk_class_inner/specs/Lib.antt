@@ -1,0 +1,2 @@
+-- What looking at the class in a record answers (Looked), which serves the code alone.
+pub mod Looked

@@ -1,2 +1,0 @@
--- The record in its place in the buffer (Places).
-pub mod Places
