@@ -1,7 +1,7 @@
 -- A time through the catalogue, block after block.
 --     fit-still                        lent and given back, there is as much room
 --     reached-none                     before the first block
---     at_on, at_done, at-stopped       behind a block: another is read, or none
+--     at_on, at-ends, at-within        behind a block: another is read, or none
 --     written-through, through-whole   how both times ended
 use Rattle.words.proofs.Plain.{ℕ, ◌+◌, ◌<◌, ◌≤◌, arith, ◌≡◌, refl, sym, inl, inr, Bool, true, false, true≢false, List, [], ◌++◌, eqb, length}
 use Rattle.words.proofs.Plain.{take, length-append, length-take, eqb-true}
@@ -14,11 +14,12 @@ use Rattle.converter_blocks_spec.proofs.Places.{number-moved, damage-moved, dama
 use Rattle.converter_blocks_spec.proofs.Through.{goes_on}
 use Rattle.program_ending_inner.specs.declared.Ending.{Ending}
 use Rattle.program_ending_inner.specs.declared.Ending.TheVariants as E
-use Rattle.program_passes_inner.specs.Passes.{failed_of, same_end, Course}
+use Rattle.program_passes_inner.specs.Passes.{limit, failed_of, same_end, Course, goes_further, EndWithin, finish_at}
 use Rattle.program_passes_inner.specs.Passes.Course.{On, Done, Stopped}
-use Rattle.converter_pass_inner.specs.Says.{BuffersFit, Why, BlockBecomes, AtSays}
+use Rattle.program_passes_inner.proofs.Courses.{too_far}
+use Rattle.converter_pass_inner.specs.Says.{most_block, BuffersFit, Why, BlockBecomes, AtSays}
 use Rattle.converter_pass_inner.specs.Says.AtSays.{unread, read}
-use Rattle.converter_program_inner.specs.Says.{Reached, StopSays, WrittenSays, ThroughSays}
+use Rattle.converter_program_inner.specs.Says.{Reached, StopSays, PassSays, WrittenSays, ThroughSays}
 use Rattle.converter_program_inner.specs.Says.ThroughSays.{stopped, whole}
 
 pub fit-still : (b d f g : List ℕ) → BuffersFit b d → length f ≡ length b → length g ≡ length d → BuffersFit f g
@@ -61,15 +62,27 @@ module _ (w : Bool) (p : ℕ) (b d : List ℕ) (v : Course) (q : Reached w p) wh
       let j : length (take n b) ≡ length b = omega (arith, i, length-take n b) in
       (goes_on (take n b) m h.1 (omega (arith, j, l)), omega (arith, j, h.1.0), on-reached w p (take n b) (take n d) m h q)
 
-  pub at_done : (m : ℕ) → v ≡ Done m → AtSays w p b d v → (m ≤ length b) × Reached w (p + m)
+  at_done : (m : ℕ) → v ≡ Done m → AtSays w p b d v → (m ≤ length b) × Reached w (p + m)
   at_done m e (unread f) = absurd (cc)
   at_done m e (read last n i k) =
       let h : BlockBecomes w p (take n b) last (take n d) (Done m) = rw e at k in
       (omega (arith, h.1, length-take n b), done-reached w p (take n b) last (take n d) m h q)
 
-  pub at-stopped : (t : Ending) → v ≡ Stopped t → AtSays w p b d v → StopSays w t
+  at-stopped : (t : Ending) → v ≡ Stopped t → AtSays w p b d v → StopSays w t
   at-stopped t e (unread f) = let g : t ≡ failed_of w = cc in rw g (failed-stops w)
   at-stopped t e (read last n i k) = let h : BlockBecomes w p (take n b) last (take n d) (Stopped t) = rw e at k in why-stops w p (take n b) last t h q
+
+module _ (w : Bool) (p : ℕ) (b d : List ℕ) (q : Reached w p) where
+  -- how a time ends with a block
+  pub at-ends : (v : Course) → 68 ≤ length b → goes_further p v ≡ false → AtSays w p b d v → PassSays w (finish_at p v)
+  at-ends (On m) l e h = (p + m, too_far p m e, (at_on w p b d (On m) q m refl l h).2)
+  at-ends (Done m) l e h = (at_done w p b d (Done m) q m refl h).1
+  at-ends (Stopped t) l e h = at-stopped w p b d (Stopped t) q t refl h
+
+  pub at-within : (v : Course) → p < limit → length b ≤ most_block → AtSays w p b d v → EndWithin p v
+  at-within (On m) i l h = tt
+  at-within (Done m) i l h = omega (arith, (at_done w p b d (Done m) q m refl h).0)
+  at-within (Stopped t) i l h = tt
 
 -- ---- how a time ended
 

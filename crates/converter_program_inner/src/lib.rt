@@ -9,7 +9,7 @@ ghost use Rattle.converter_pass_inner.specs.Says.{BuffersFit};
 ghost use Rattle.converter_program_inner.specs.Says.{PassSays, WrittenSays, ThroughSays};
 
 use program_ending_inner::Ending;
-use program_passes_inner::{LIMIT, Turn};
+use program_passes_inner::Turn;
 use std::fs::File;
 use std::rt::HostRuntime;
 
@@ -28,15 +28,10 @@ fn go_once(
 {
     let mut at = 0;
     loop {
-        let left = LIMIT - at;
-        match converter_pass_inner::take_at(input, writing, at, block, new)? {
-            Turn::On(used) => {
-                if left <= used {
-                    return Err(Ending::TooLong);
-                }
-                at += used;
-            }
-            Turn::Over(used) => return Ok(at + used),
+        let turn = converter_pass_inner::take_at(input, writing, at, block, new);
+        match turn {
+            Ok(Turn::On(used)) if program_passes_inner::goes_on(at, turn) => at += used,
+            _ => return program_passes_inner::finish(at, turn),
         }
     }
 }

@@ -1,7 +1,7 @@
 -- What becomes of a time through the file.
 --     roomy-still                      lent and given back, there is as much room
 --     reached-none                     before the first block
---     at_on, at_done, at-stopped       behind a block: another is read, or none
+--     at_on, at-ends, at-within        behind a block: another is read, or none
 --     written-told, through-written    how both times ended
 use Rattle.words.proofs.Plain.{ℕ, ◌+◌, ◌*◌, ◌<◌, ◌≤◌, arith, ◌≡◌, refl, sym, ap, ◌∙◌, ◌⊎◌, inl, inr, Bool, true, false, true≢false, List, [], ◌++◌, eqb, length}
 use Rattle.words.proofs.Plain.{take, drop, length-append, length-take, length-drop, eqb-true}
@@ -113,13 +113,25 @@ module _ (j : Job) (w : Time) (p : ℕ) (q : FileReached j p) (v : Course) where
       let k = turn_on (take n b) false d m e (omega (arith, j, l)) h in
       (k.0, omega (arith, j, k.1), k.2)
 
-  pub at_done : (b d : List ℕ) (m : ℕ) → v ≡ Done m → FileAtSays j w p b d v → (m ≤ length b) × FileTold j (p + m)
+  at_done : (b d : List ℕ) (m : ℕ) → v ≡ Done m → FileAtSays j w p b d v → (m ≤ length b) × FileTold j (p + m)
   at_done b d m e (unread f) = absurd (cc)
   at_done b d m e (read last n i h) = let k = turn-done (take n b) last d m e h in (omega (arith, k.0, length-take n b), k.1)
 
-  pub at-stopped : (b d : List ℕ) (t : Ending) → v ≡ Stopped t → FileAtSays j w p b d v → FileStopSays j w t
+  at-stopped : (b d : List ℕ) (t : Ending) → v ≡ Stopped t → FileAtSays j w p b d v → FileStopSays j w t
   at-stopped b d t e (unread f) = let k : t ≡ file_failed_of w = cc in rw k (failed-stops j w)
   at-stopped b d t e (read last n i h) = turn_stopped (take n b) last d t e h
+
+module _ (j : Job) (w : Time) (p : ℕ) (b d : List ℕ) (q : FileReached j p) where
+  -- how a time ends with a block
+  pub at-ends : (v : Course) → 68 ≤ length b → goes_further p v ≡ false → FileAtSays j w p b d v → FilePassSays j w (finish_at p v)
+  at-ends (On m) l e h = (p + m, too_far p m e, (at_on j w p q (On m) b d m refl l h).2)
+  at-ends (Done m) l e h = (at_done j w p q (Done m) b d m refl h).1
+  at-ends (Stopped t) l e h = at-stopped j w p q (Stopped t) b d t refl h
+
+  pub at-within : (v : Course) → p < limit → length b ≤ most → FileAtSays j w p b d v → EndWithin p v
+  at-within (On m) i l h = tt
+  at-within (Done m) i l h = omega (arith, (at_done j w p q (Done m) b d m refl h).0)
+  at-within (Stopped t) i l h = tt
 
 -- ---- how a time ended
 

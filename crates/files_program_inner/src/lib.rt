@@ -12,7 +12,7 @@ ghost use Rattle.files_program_inner.specs.Says.{once_for, FilePassSays, FileWri
 use files_spec::Job;
 use files_time_inner::Time;
 use program_ending_inner::Ending;
-use program_passes_inner::{LIMIT, Turn};
+use program_passes_inner::Turn;
 use std::fs::File;
 use std::rt::HostRuntime;
 
@@ -32,15 +32,10 @@ fn go_once(
 {
     let mut at = 0;
     loop {
-        let left = LIMIT - at;
-        match files_pass_inner::take_at(input, job, time, at, block, out)? {
-            Turn::On(used) => {
-                if left <= used {
-                    return Err(Ending::TooLong);
-                }
-                at += used;
-            }
-            Turn::Over(used) => return Ok(at + used),
+        let turn = files_pass_inner::take_at(input, job, time, at, block, out);
+        match turn {
+            Ok(Turn::On(used)) if program_passes_inner::goes_on(at, turn) => at += used,
+            _ => return program_passes_inner::finish(at, turn),
         }
     }
 }

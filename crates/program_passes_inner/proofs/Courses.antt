@@ -5,10 +5,11 @@
 --     same_whole, same-changed    the two ends compared
 use Rattle.words.proofs.Plain.{ℕ, ◌+◌, ◌-◌, ◌<◌, ◌≤◌, arith, ◌≡◌, refl, Bool, true, false, false≢true, List, length, eq-eqb, ne_eqb}
 use Rattle.words.proofs.Plain.{ltb-true, ltb-false}
+use Rattle.program_ending_inner.specs.declared.Ending.{Ending}
 use Rattle.program_ending_inner.specs.declared.Ending.TheVariants as E
 use Rattle.program_reading_inner.specs.{declared.Most.Most, Says.MostSays}
 use Rattle.program_reading_inner.specs.declared.Most.TheVariants as M
-use Rattle.std.specs.Prelude.{Some, Ok}
+use Rattle.std.specs.Prelude.{Some, Result, Ok, Err}
 use Rattle.program_passes_inner.specs.{declared.Part.Part, declared.Turn.Turn}
 use Rattle.program_passes_inner.specs.declared.Turn.TheVariants as T
 use Rattle.program_passes_inner.specs.Passes.{limit, part_of, PartSays, ReadTo, course_of, goes_further, same_end}
@@ -33,9 +34,10 @@ part-within b r h = read-within b r.last r.len (part-read b r h)
 
 -- ---- which course
 
-pub course-more : (v : Turn) (p : ℕ) → goes_further p (course_of (Ok v)) ≡ true → (m : ℕ) × (v ≡ T.On m) × (p + m < limit)
-course-more (T.On m) p e = (m, refl, omega (arith, ltb-true m (limit - p) e))
-course-more (T.Over m) p e = absurd (false≢true e)
+pub course-more : (v : Result Turn Ending) (p : ℕ) → goes_further p (course_of v) ≡ true → (m : ℕ) × (v ≡ Ok (T.On m)) × (p + m < limit)
+course-more (Ok (T.On m)) p e = (m, refl, omega (arith, ltb-true m (limit - p) e))
+course-more (Ok (T.Over m)) p e = absurd (false≢true e)
+course-more (Err t) p e = absurd (false≢true e)
 
 pub too_far : (p m : ℕ) → goes_further p (On m) ≡ false → limit ≤ p + m
 too_far p m e = omega (arith, ltb-false m (limit - p) e)

@@ -47,22 +47,22 @@ pub fn turn_by(last: bool, used: usize) -> Turn
 }
 
 // Whether another block is read behind one that began at `at`.
-pub fn goes_on(at: usize, t: Turn) -> bool
+pub fn goes_on(at: usize, turn: Result<Turn, Ending>) -> bool
     requires { at < limit }
-    ensures { result ≡ goes_further at (course_of (Ok t)) }
+    ensures { result ≡ goes_further at (course_of turn) }
 {
-    match t {
-        Turn::On(used) => used < LIMIT - at,
-        Turn::Over(_) => false,
+    match turn {
+        Ok(Turn::On(used)) => used < LIMIT - at,
+        Ok(Turn::Over(_)) | Err(_) => false,
     }
 }
 
 // How a time through the file ended with a block that began at `at`, behind which none is read: at its end, which is at that place; or before it, and why.
-pub fn finish(at: usize, t: Turn) -> Result<usize, Ending>
-    requires { EndWithin at (course_of (Ok t)) }
-    ensures { finish_of result ≡ finish_at at (course_of (Ok t)) }
+pub fn finish(at: usize, turn: Result<Turn, Ending>) -> Result<usize, Ending>
+    requires { EndWithin at (course_of turn) }
+    ensures { finish_of result ≡ finish_at at (course_of turn) }
 {
-    match t {
+    match turn? {
         Turn::On(_) => Err(Ending::TooLong),
         Turn::Over(used) => Ok(at + used),
     }
