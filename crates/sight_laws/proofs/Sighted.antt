@@ -5,11 +5,12 @@
 --     sighted-once     never several, where 2 e is below d
 --     front-missed     with x misread, where x and e together are below d, that ring, from the front, turned by i, or Unknown: never another and never the wrong side
 --     back-missed      the same from behind
-use Rattle.std.specs.Prelude.{Ok}
+-- The answer is any that the contract of `sight` admits, a refusal too: so all of these but sighted-once say, too, that the reading is not refused.
+use Rattle.std.specs.Prelude.{Result, Ok}
 use Rattle.words.proofs.Plain.{ℕ, ◌+◌, ◌*◌, ◌<◌, ◌≤◌, arith, ◌≡◌, refl, sym, ap, subst, ◌∙◌, Bool, List, [], reverse, length, get_or, length-reverse}
 use Rattle.words.specs.{Turn.turn, Readings.Reading}
 use Rattle.rings.specs.Alike.{differing, apart, mirrored}
-use Rattle.refusal.specs.Order.{Passed}
+use Rattle.refusal.specs.{declared.Refusal.Refusal, Order.Passed}
 use Rattle.home_spec.specs.Turns.{nearest_turn, Steady}
 use Rattle.home_turns_laws.proofs.Nearest.{nearest-at, nearest-is}
 use Rattle.set_spec.specs.{Worth.Spread, Places.place_at, Places.set_in}
@@ -28,7 +29,7 @@ use Rattle.sight_laws.proofs.Tells.{OrUnknown, told, missed, never-several, fron
 -- the answer p, t, f of `pick_guarded`, what `lay_out` left in the output, and the answer a of `sight` for a reading r
 module _
     (n k d want : ℕ) (p : List ℕ) (t : ℕ) (f : Bool) (c : GuardChosen n k d want p t f) (b rs : List ℕ) (o : LayoutSays n p t b (Ok tt) rs) (e : ℕ) (r : List ℕ)
-    (read : Reading n k r) (a : Sighting) (s : SightSays rs r k e (Ok a)) where
+    (read : Reading n k r) (a : Result Sighting Refusal) (s : SightSays rs r k e a) where
   abbrev ts : List (List ℕ)
   ts = set_in n p t
 
@@ -79,20 +80,21 @@ module _
   -- ---- from the front
 
   -- with x misread, where x and e together are below d: that ring, from the front and turned as it was, or Unknown
-  pub front-missed : (x : ℕ) → x + e < d → (j i : ℕ) → j < t → i < n → differing (turn i r) (place_at n p j) ≤ x → OrUnknown a (Front j i (differing (turn i r) (place_at n p j)))
+  pub front-missed : (x : ℕ) → x + e < d → (j i : ℕ) → j < t → i < n → differing (turn i r) (place_at n p j) ≤ x → OrUnknown a (Ok (Front j i (differing (turn i r) (place_at n p j))))
   front-missed x small j i h l near =
       go (front-or-none rs r k e d x passed guards small a s j (within j h) (rw (ring j h) (close x small r read.long j i h l near)))
     where
-      go : OrUnknown a (Front j (nearest_turn r (ring_at (length r) rs j)) (apart r (ring_at (length r) rs j))) → OrUnknown a (Front j i (differing (turn i r) (place_at n p j)))
+      go : OrUnknown a (Ok (Front j (nearest_turn r (ring_at (length r) rs j)) (apart r (ring_at (length r) rs j)))) → OrUnknown a (Ok (Front j i (differing (turn i r) (place_at n p j))))
       go (missed q) = missed q
       go (told q) =
-          let m = (front-means rs r k e j _ _ (subst (λ y. SightSays rs r k e (Ok y)) q s)).1 in
+          let m = (front-means rs r k e j _ _ (subst (SightSays rs r k e) q s)).1 in
           let w = turned_right x small r read.long j i h l near (rw (ring j h) at m) in
           told (q ∙ rw (ring j h, w.0, w.1) refl)
 
   -- ---- from behind
 
-  pub back-missed : (x : ℕ) → x + e < d → (j i : ℕ) → j < t → i < n → differing (turn i (reverse r)) (place_at n p j) ≤ x → OrUnknown a (Back j i (differing (turn i (reverse r)) (place_at n p j)))
+  pub back-missed : (x : ℕ) → x + e < d → (j i : ℕ) → j < t → i < n → differing (turn i (reverse r)) (place_at n p j) ≤ x → OrUnknown a
+      (Ok (Back j i (differing (turn i (reverse r)) (place_at n p j))))
   back-missed x small j i h l near =
       go (back-or-none rs r k e d x passed guards small a s j (within j h) (rw (ring j h) (omega (arith, other, close x small (reverse r) back_long j i h l near))))
     where
@@ -102,25 +104,25 @@ module _
       other : apart r (mirrored (place_at n p j)) ≡ apart (reverse r) (place_at n p j)
       other = other-side r (place_at n p j) (omega (arith, read.long)) (read.long ∙ sym (size j h))
 
-      go : OrUnknown a (Back j (nearest_turn (reverse r) (ring_at (length r) rs j)) (apart r (mirrored (ring_at (length r) rs j)))) → OrUnknown a
-          (Back j i (differing (turn i (reverse r)) (place_at n p j)))
+      go : OrUnknown a (Ok (Back j (nearest_turn (reverse r) (ring_at (length r) rs j)) (apart r (mirrored (ring_at (length r) rs j))))) → OrUnknown a
+          (Ok (Back j i (differing (turn i (reverse r)) (place_at n p j))))
       go (missed q) = missed q
       go (told q) =
-          let m = (back-means rs r k e j _ _ (subst (λ y. SightSays rs r k e (Ok y)) q s)).1 in
+          let m = (back-means rs r k e j _ _ (subst (SightSays rs r k e) q s)).1 in
           let w = turned_right x small (reverse r) back_long j i h l near (omega (arith, other, rw (ring j h) at m)) in
           told (q ∙ rw (ring j h, other, w.0, w.1) refl)
 
   -- ---- where no more are misread than are looked for, and 2 e is below d
 
   -- it is not Unknown
-  pub seen : (b : Sighting) → (a ≡ Unknown → ⊥) → OrUnknown a b → a ≡ b
+  pub seen : (b : Result Sighting Refusal) → (a ≡ Ok Unknown → ⊥) → OrUnknown a b → a ≡ b
   seen b no_one (told q) = q
   seen b no_one (missed q) = absurd (no_one q)
 
   module _ (small : 2 * e < d) where
-    pub sighted-back : (j i : ℕ) → j < t → i < n → differing (turn i (reverse r)) (place_at n p j) ≤ e → a ≡ Back j i (differing (turn i (reverse r)) (place_at n p j))
+    pub sighted-back : (j i : ℕ) → j < t → i < n → differing (turn i (reverse r)) (place_at n p j) ≤ e → a ≡ Ok (Back j i (differing (turn i (reverse r)) (place_at n p j)))
     sighted-back j i h l near =
-        seen (Back j i (differing (turn i (reverse r)) (place_at n p j))) (λ q. not-unknown (subst (λ y. SightSays rs r k e (Ok y)) q s)) (back-missed e (omega arith) j i h l near)
+        seen (Ok (Back j i (differing (turn i (reverse r)) (place_at n p j)))) (λ q. not-unknown (subst (SightSays rs r k e) q s)) (back-missed e (omega arith) j i h l near)
       where
         not-unknown : SightSays rs r k e (Ok Unknown) → ⊥
         not-unknown u =
@@ -128,5 +130,5 @@ module _
             back-seen-not rs r k e j u (within j h) (rw (ring j h) (omega (arith, z, close e (omega arith) (reverse r) (length-reverse r ∙ read.long) j i h l near)))
 
     -- never several
-    pub sighted-once : a ≡ Several → ⊥
+    pub sighted-once : a ≡ Ok Several → ⊥
     sighted-once = never-several rs r k e d passed guards small a s

@@ -1,13 +1,15 @@
 -- What is answered where the rings are guarded, by the contract alone: whichever ring is seen, from whichever side, turned anyhow, and with as many sectors misread as its guard stands.
 --     never-several                  two are never seen
---     front-or-none, back-or-none    where the sectors misread and those looked for are together below the distance, it is that ring or Unknown: never another, nor from the wrong side
+--     front-or-none, back-or-none    where the sectors misread and those looked for are together below the distance, it is that ring or Unknown: never another, nor from the wrong side,
+--                                    and no refusal, since the checks pass
 --     front-seen-not, back-seen-not  it is not Unknown where no more are misread than are looked for, guarded or not
 --     front-means, back-means    turned as the answer says, the reading, or its reversal, differs from the ring at as many places as it says, and these are no more than may be misread
-use Rattle.std.specs.Prelude.{Ok}
+use Rattle.std.specs.Prelude.{Result, Ok}
 use Rattle.words.proofs.Plain.{ℕ, ◌+◌, ◌*◌, ◌/◌, ◌<◌, ◌≤◌, arith, ◌≡◌, refl, sym, List, [], reverse, length, get_or, length-reverse}
 use Rattle.words.specs.Turn.{turn}
 use Rattle.words.proofs.Split.{lt, eq, gt, tri}
 use Rattle.rings.specs.Alike.{differing, apart, mirrored}
+use Rattle.refusal.specs.declared.Refusal.{Refusal}
 use Rattle.refusal.specs.Order.{Passed}
 use Rattle.home_spec.specs.Turns.{nearest_turn}
 use Rattle.home_turns_laws.proofs.Nearest.{nearest-at}
@@ -20,9 +22,11 @@ use Rattle.sight_spec.specs.declared.Sighting.TheVariants.{Front, Back, Several,
 use Rattle.sight_spec.specs.Rings.{ring_at, rings_in, sight_order}
 use Rattle.sight_spec.specs.Says.{Alone, None, SightSays}
 use Rattle.sight_spec.proofs.Rings.{length-first, first-at, ring-length, rings-long}
-use Rattle.sight_spec.proofs.Unique.{alone-two, one-seen}
+use Rattle.sight_spec.proofs.Unique.{alone-two, one-sight}
 
-module _ (rs r : List ℕ) (k e d : ℕ) (p : Passed (sight_order r rs k)) (g : Spread d (sides (rings_in (length r) rs))) (small : 2 * e < d) (a : Sighting) (s : SightSays rs r k e (Ok a)) where
+module _
+    (rs r : List ℕ) (k e d : ℕ) (p : Passed (sight_order r rs k)) (g : Spread d (sides (rings_in (length r) rs))) (small : 2 * e < d)
+    (a : Result Sighting Refusal) (s : SightSays rs r k e a) where
   abbrev ts : List (List ℕ)
   ts = rings_in (length r) rs
 
@@ -45,7 +49,7 @@ module _ (rs r : List ℕ) (k e d : ℕ) (p : Passed (sight_order r rs k)) (g : 
       }
 
   -- two are never seen
-  pub never-several : a ≡ Several → ⊥
+  pub never-several : a ≡ Ok Several → ⊥
   never-several q = two-seen (rw q at s)
     where
       two-seen : SightSays rs r k e (Ok Several) → ⊥
@@ -54,12 +58,14 @@ module _ (rs r : List ℕ) (k e d : ℕ) (p : Passed (sight_order r rs k)) (g : 
 -- ---- more misread than is looked for
 
 -- the answer is b, or Unknown
-pub data OrUnknown (a b : Sighting) : Type 0 where
+pub data OrUnknown (a b : Result Sighting Refusal) : Type 0 where
   told : a ≡ b → OrUnknown a b
-  missed : a ≡ Unknown → OrUnknown a b
+  missed : a ≡ Ok Unknown → OrUnknown a b
 
 -- x sectors are misread, and rings are looked for with up to e: where both together are below d, no other ring and no other side is ever told
-module _ (rs r : List ℕ) (k e d x : ℕ) (p : Passed (sight_order r rs k)) (g : Spread d (sides (rings_in (length r) rs))) (small : x + e < d) (a : Sighting) (s : SightSays rs r k e (Ok a)) where
+module _
+    (rs r : List ℕ) (k e d x : ℕ) (p : Passed (sight_order r rs k)) (g : Spread d (sides (rings_in (length r) rs))) (small : x + e < d)
+    (a : Result Sighting Refusal) (s : SightSays rs r k e a) where
   abbrev rings : List (List ℕ)
   rings = rings_in (length r) rs
 
@@ -82,19 +88,19 @@ module _ (rs r : List ℕ) (k e d x : ℕ) (p : Passed (sight_order r rs k)) (g 
       others i m f = alone (length r) d x e (sides rings) r (sides-long (length r) d rings lit (rings-long (length r) rs)) refl g small j i h m f near
 
   -- a ring seen from the front: that ring or none
-  pub front-or-none : (t : ℕ) → t < length rings → apart r (ring_at (length r) rs t) ≤ x → OrUnknown a (Front t (nearest_turn r (ring_at (length r) rs t)) (apart r (ring_at (length r) rs t)))
+  pub front-or-none : (t : ℕ) → t < length rings → apart r (ring_at (length r) rs t) ≤ x → OrUnknown a (Ok (Front t (nearest_turn r (ring_at (length r) rs t)) (apart r (ring_at (length r) rs t))))
   front-or-none t h near =
       settled t (omega (arith, length-sides rings)) (rw (front_at rings t h, placed t h) near)
-      (λ o. told (one-seen rs r k e a (Front t (nearest_turn r (ring_at (length r) rs t)) (apart r (ring_at (length r) rs t))) s.1 (record { target = h; alone = o; turned = refl; misread = refl })))
-      (λ o. missed (one-seen rs r k e a Unknown s.1 o))
+      (λ o. told (one-sight rs r k e a (Ok (Front t (nearest_turn r (ring_at (length r) rs t)) (apart r (ring_at (length r) rs t)))) s
+      (p, record { target = h; alone = o; turned = refl; misread = refl }))) (λ o. missed (one-sight rs r k e a (Ok Unknown) s (p, o)))
 
   -- a ring seen from behind: that ring, from behind, or none
   pub back-or-none : (t : ℕ) → t < length rings → apart r (mirrored (ring_at (length r) rs t)) ≤ x → OrUnknown a
-      (Back t (nearest_turn (reverse r) (ring_at (length r) rs t)) (apart r (mirrored (ring_at (length r) rs t))))
+      (Ok (Back t (nearest_turn (reverse r) (ring_at (length r) rs t)) (apart r (mirrored (ring_at (length r) rs t)))))
   back-or-none t h near =
       settled (length rings + t) (omega (arith, length-sides rings)) (rw (back_at rings t h, placed t h) near)
-      (λ o. told (one-seen rs r k e a (Back t (nearest_turn (reverse r) (ring_at (length r) rs t)) (apart r (mirrored (ring_at (length r) rs t)))) s.1
-      (record { target = h; alone = o; turned = refl; misread = refl }))) (λ o. missed (one-seen rs r k e a Unknown s.1 o))
+      (λ o. told (one-sight rs r k e a (Ok (Back t (nearest_turn (reverse r) (ring_at (length r) rs t)) (apart r (mirrored (ring_at (length r) rs t))))) s
+      (p, record { target = h; alone = o; turned = refl; misread = refl }))) (λ o. missed (one-sight rs r k e a (Ok Unknown) s (p, o)))
 
 -- what an answer means, guarded or not
 module _ (rs r : List ℕ) (k e t i x : ℕ) where
