@@ -36,7 +36,7 @@ fn answer_home(
     ensures { Answered (AboutSays asks.Home k w.now) buf.old at result buf.new }
 {
     let h = home::bring_home(w, k, out)?;
-    Ok(desk_texts_inner::place_homed(buf, at, h, out))
+    Ok(desk_texts_inner::place_homed(buf, at, Ok(h), out))
 }
 
 fn answer_even(k: usize, w: &[u8], buf: &mut [u8], at: usize) -> Result<usize, Refusal>
@@ -44,7 +44,7 @@ fn answer_even(k: usize, w: &[u8], buf: &mut [u8], at: usize) -> Result<usize, R
     ensures { Answered (AboutSays asks.Even k w.now) buf.old at result buf.new }
 {
     let yes = home::even_handed(w, k)?;
-    Ok(desk_texts_inner::place_told(buf, at, yes))
+    Ok(desk_texts_inner::place_told(buf, at, Ok(yes)))
 }
 
 fn answer_place(k: usize, w: &[u8], buf: &mut [u8], at: usize) -> Result<usize, Refusal>
@@ -52,7 +52,7 @@ fn answer_place(k: usize, w: &[u8], buf: &mut [u8], at: usize) -> Result<usize, 
     ensures { Answered (AboutSays asks.Place k w.now) buf.old at result buf.new }
 {
     let p = strip::place_of(w, k)?;
-    Ok(desk_texts_inner::place_position(buf, at, p))
+    Ok(desk_texts_inner::place_position(buf, at, Ok(p)))
 }
 
 fn answer_about(

@@ -20,7 +20,7 @@ fn answer_same(k: usize, a: &[u8], b: &[u8], buf: &mut [u8], at: usize) -> Resul
     ensures { Answered (BothSays asks.Same k a.now b.now) buf.old at result buf.new }
 {
     let yes = home::same_ring(a, b, k)?;
-    Ok(desk_texts_inner::place_told(buf, at, yes))
+    Ok(desk_texts_inner::place_told(buf, at, Ok(yes)))
 }
 
 fn answer_apart(k: usize, a: &[u8], b: &[u8], buf: &mut [u8], at: usize) -> Result<usize, Refusal>
@@ -28,7 +28,7 @@ fn answer_apart(k: usize, a: &[u8], b: &[u8], buf: &mut [u8], at: usize) -> Resu
     ensures { Answered (BothSays asks.Apart k a.now b.now) buf.old at result buf.new }
 {
     let d = home::apart(a, b, k)?;
-    Ok(desk_texts_inner::place_distance(buf, at, d))
+    Ok(desk_texts_inner::place_distance(buf, at, Ok(d)))
 }
 
 fn answer_both(

@@ -16,7 +16,7 @@ fn answer_many(k: usize, n: usize, buf: &mut [u8], at: usize) -> Result<usize, R
 {
     let a = how_many::necklaces(k, n)?;
     let b = how_many::lyndon_words(k, n)?;
-    Ok(desk_texts_inner::place_many(buf, at, a, b))
+    Ok(desk_texts_inner::place_many(buf, at, Ok(a), Ok(b)))
 }
 
 // What the text behind `many` prints, the line of a refusal left out.

@@ -44,13 +44,14 @@ pub fn of_pattern(bits: u32) -> f32
     0.0 / 0.0
 }
 
-// Writes the floats of the first patterns, as many as there is room for.
-pub fn write_floats(s: &[u8], out: &mut [f32])
+// Writes the floats of the first n patterns.
+pub fn write_floats(s: &[u8], n: usize, out: &mut [f32])
     requires nibbles { Nibbles s.now }
-    requires out_in_bounds { 8 * length out.old ≤ length s.now }
-    ensures { FloatsSay s.now (length out.old) out.new }
+    requires n_in_bounds { 8 * n ≤ length s.now }
+    requires n_in_bounds_2 { n ≤ length out.old }
+    ensures { FloatsSay s.now n out.new }
 {
-    for i in 0..out.len() {
+    for i in 0..n {
         out[i] = of_pattern(pattern_at(s, 8 * i));
     }
 }

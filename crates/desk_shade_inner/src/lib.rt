@@ -38,7 +38,7 @@ fn answer_digits(k: usize, s: &[u8], buf: &mut [u8], at: usize) -> Result<usize,
     let n = s.len() / 8;
     let mut room = [0.0f32; 512];
     let xs = &mut room[..n];
-    desk_floats_inner::write_floats(s, xs);
+    desk_floats_inner::write_floats(s, n, xs);
     answer_shades(k, xs, buf, at)
 }
 

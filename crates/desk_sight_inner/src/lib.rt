@@ -32,7 +32,7 @@ fn answer_sight(
     ensures { Answered (AnswerShows (TellSays (take l sectors.now) (take (m - l) (drop l sectors.now)) k most alike) sight_text) buf.old at result buf.new }
 {
     let a = desk_sight_lengths_inner::tell(&sectors[..l], &sectors[l..m], alike, k, most)?;
-    Ok(desk_sight_text_inner::place_sighting(buf, at, a))
+    Ok(desk_sight_text_inner::place_sighting(buf, at, Ok(a)))
 }
 
 // The rings and the reading are spelt into the lent bytes, end to end.

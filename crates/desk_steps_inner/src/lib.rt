@@ -25,7 +25,7 @@ fn answer_kind(
     ensures { Answered (λ t. t ≡ step_text a ring.now) buf.old at result buf.new }
 {
     let m = a?;
-    Ok(desk_steps_text_inner::place_outcome(buf, at, m, ring))
+    Ok(desk_steps_text_inner::place_outcome(buf, at, Ok(m), ring))
 }
 
 // One ring from each mirror pair: its answer tells no moves.
@@ -42,7 +42,7 @@ fn answer_bracelet(
     ensures { Answered (StepPrints steps.Bracelet k w.now) buf.old at result buf.new }
 {
     let a = walk_reading::next_bracelet(w, k, out)?;
-    Ok(desk_steps_text_inner::place_arrival(buf, at, a, out))
+    Ok(desk_steps_text_inner::place_arrival(buf, at, Ok(a), out))
 }
 
 // What a step prints, the line of a refusal left out.

@@ -122,51 +122,69 @@ pub fn place_class(buf: &mut [u8], at: usize, c: Class) -> usize
     }
 }
 
-pub fn place_homed(buf: &mut [u8], at: usize, h: Home, ring: &[u8]) -> usize
+pub fn place_homed(buf: &mut [u8], at: usize, a: Result<Home, Refusal>, ring: &[u8]) -> usize
     requires ring_len_bound { length ring.now ≤ longest_ring }
     requires desk_room_in_bounds { at + desk_room ≤ length buf.old }
-    ensures { LinePrinted buf.old at (home_text (Ok h) ring.now) result buf.new }
+    ensures { LinePrinted buf.old at (home_text a ring.now) result buf.new }
 {
-    place_line(
-        buf,
-        at,
-        b"home @ shift % period %\n",
-        &[h.shift, h.period],
-        ring.len(),
-        ring,
-    )
-}
-
-pub fn place_told(buf: &mut [u8], at: usize, yes: bool) -> usize
-    requires { at + desk_room ≤ length buf.old }
-    ensures { LinePrinted buf.old at (told_text (Ok yes)) result buf.new }
-{
-    if yes {
-        return place_words(buf, at, b"yes\n");
+    match a {
+        Ok(Home { shift, period }) => place_line(
+            buf,
+            at,
+            b"home @ shift % period %\n",
+            &[shift, period],
+            ring.len(),
+            ring,
+        ),
+        Err(r) => place_refusal(buf, at, r),
     }
-    place_words(buf, at, b"no\n")
 }
 
-pub fn place_distance(buf: &mut [u8], at: usize, d: usize) -> usize
+pub fn place_told(buf: &mut [u8], at: usize, a: Result<bool, Refusal>) -> usize
     requires { at + desk_room ≤ length buf.old }
-    ensures { LinePrinted buf.old at (distance_text (Ok d)) result buf.new }
+    ensures { LinePrinted buf.old at (told_text a) result buf.new }
 {
-    place_number(buf, at, b"apart %\n", d)
+    match a {
+        Ok(true) => place_words(buf, at, b"yes\n"),
+        Ok(false) => place_words(buf, at, b"no\n"),
+        Err(r) => place_refusal(buf, at, r),
+    }
 }
 
-pub fn place_position(buf: &mut [u8], at: usize, p: usize) -> usize
+pub fn place_distance(buf: &mut [u8], at: usize, a: Result<usize, Refusal>) -> usize
     requires { at + desk_room ≤ length buf.old }
-    ensures { LinePrinted buf.old at (place_text (Ok p)) result buf.new }
+    ensures { LinePrinted buf.old at (distance_text a) result buf.new }
 {
-    place_number(buf, at, b"place %\n", p)
+    match a {
+        Ok(x) => place_number(buf, at, b"apart %\n", x),
+        Err(r) => place_refusal(buf, at, r),
+    }
+}
+
+pub fn place_position(buf: &mut [u8], at: usize, a: Result<usize, Refusal>) -> usize
+    requires { at + desk_room ≤ length buf.old }
+    ensures { LinePrinted buf.old at (place_text a) result buf.new }
+{
+    match a {
+        Ok(p) => place_number(buf, at, b"place %\n", p),
+        Err(r) => place_refusal(buf, at, r),
+    }
 }
 
 // How many rings there are, and those that look different at each turn.
-pub fn place_many(buf: &mut [u8], at: usize, all: usize, lyndon: usize) -> usize
+pub fn place_many(
+    buf: &mut [u8],
+    at: usize,
+    all: Result<usize, Refusal>,
+    lyndon: Result<usize, Refusal>,
+) -> usize
     requires { at + desk_room ≤ length buf.old }
-    ensures { LinePrinted buf.old at (many_text (Ok all) (Ok lyndon)) result buf.new }
+    ensures { LinePrinted buf.old at (many_text all lyndon) result buf.new }
 {
-    place_plain(buf, at, b"% %\n", &[all, lyndon])
+    match (all, lyndon) {
+        (Ok(x), Ok(y)) => place_plain(buf, at, b"% %\n", &[x, y]),
+        (Err(r), _) | (Ok(_), Err(r)) => place_refusal(buf, at, r),
+    }
 }
 
 pub fn place_stock(buf: &mut [u8], at: usize, b: u8) -> usize

@@ -11,6 +11,6 @@ pub loop-i-preserved : goal.loop-i-preserved
 loop-i-preserved c = (
   simp length-set c.loop-i.invariant.0,
   floats-more c.args.s.now c.loop-i.i c.loop-i.out
-      c.of_pattern.result c.loop-i.invariant.1 (omega (arith, c.loop-i.invariant.0))
+      c.of_pattern.result c.loop-i.invariant.1 (omega (arith, c.requires.n_in_bounds_2, c.loop-i.invariant.0))
       (c.of_pattern.ensures ∙ ap (of_bits binary32) c.pattern_at.ensures),
 )

@@ -1,5 +1,5 @@
 -- `desk_shade_inner::answer_digits` meets its contract.
-use Rattle.words.proofs.Needs.{arith, subst, List, length-take}
+use Rattle.words.proofs.Needs.{◌/◌, arith, ◌≡◌, refl, subst, List, length, length-take}
 use Rattle.desk_texts_inner.proofs.Putting.{answered-on}
 use Rattle.desk_spec.specs.Answers.{ShadesSays}
 use lib.Ieee.{Float}
@@ -16,5 +16,6 @@ answer_shades-requires c =
 
 pub returns : goal.returns
 returns c =
-    let e = floats-all c.args.s.now _ _ c.write_floats.auto.out c.write_floats.ensures (simp length-take (omega (arith, c.requires.s_len_bound))) in
+    let l : length c.write_floats.new.out ≡ length c.args.s.now / 8 = rw c.write_floats.auto.out (simp length-take (omega (arith, c.requires.s_len_bound))) in
+    let e = floats-all c.args.s.now _ _ l c.write_floats.ensures refl in
     answered-on _ _ (λ t z. subst (λ (xs : List Float). ShadesSays c.args.k xs t) e z) _ _ _ _ c.answer_shades.ensures
