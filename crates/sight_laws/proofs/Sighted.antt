@@ -80,7 +80,8 @@ module _
   -- ---- from the front
 
   -- with x misread, where x and e together are below d: that ring, from the front and turned as it was, or Unknown
-  pub front-missed : (x : ℕ) → x + e < d → (j i : ℕ) → j < t → i < n → differing (turn i r) (place_at n p j) ≤ x → OrUnknown a (Ok (Front j i (differing (turn i r) (place_at n p j))))
+  pub front-missed : (x : ℕ) → x + e < d → (j i : ℕ) → j < t → i < n → differing (turn i r) (place_at n p j) ≤ x → OrUnknown a
+      (Ok (Front j i (differing (turn i r) (place_at n p j))))
   front-missed x small j i h l near =
       go (front-or-none rs r k e d x passed guards small a s j (within j h) (rw (ring j h) (close x small r read.long j i h l near)))
     where

@@ -88,7 +88,8 @@ module _
       others i m f = alone (length r) d x e (sides rings) r (sides-long (length r) d rings lit (rings-long (length r) rs)) refl g small j i h m f near
 
   -- a ring seen from the front: that ring or none
-  pub front-or-none : (t : ℕ) → t < length rings → apart r (ring_at (length r) rs t) ≤ x → OrUnknown a (Ok (Front t (nearest_turn r (ring_at (length r) rs t)) (apart r (ring_at (length r) rs t))))
+  pub front-or-none : (t : ℕ) → t < length rings → apart r (ring_at (length r) rs t) ≤ x → OrUnknown a
+      (Ok (Front t (nearest_turn r (ring_at (length r) rs t)) (apart r (ring_at (length r) rs t))))
   front-or-none t h near =
       settled t (omega (arith, length-sides rings)) (rw (front_at rings t h, placed t h) near)
       (λ o. told (one-sight rs r k e a (Ok (Front t (nearest_turn r (ring_at (length r) rs t)) (apart r (ring_at (length r) rs t)))) s
