@@ -1,10 +1,11 @@
 -- What counts leave beside some sectors.
---     untouched    the counts in front of zeros are what they leave where no sector is taken
+--     Leaving cs rem b    rem has the first b counts, and nothing of the others
+--     leave-start, leave-more, leave-end    the loop over the counts
 --     remains-more, remains-less    one sector more, and one less
 --     exceeds-one                   a sector of which none is left
 --     sum-le, remains-sum   what is left is no more than the counts
 use Rattle.words.proofs.Plain.{ℕ, zero, suc, ◌+◌, ◌-◌, ◌<◌, ◌≤◌, add-one, arith, ◌≡◌, refl, sym, ap, ◌∙◌, List, [], ◌∷◌, ◌++◌, length, get_or, take, drop}
-use Rattle.words.proofs.Plain.{List·get_d-append, get_or-append-add, get_or-drop, length-append, length-drop, set}
+use Rattle.words.proofs.Plain.{set}
 use Rattle.words.proofs.Plain.{replicate, length-set, length-replicate, get_or-set_same, get_or-set_other, take-suc, take-add}
 use Rattle.words.proofs.Split.{lt, eq, gt, tri}
 use Rattle.rings.specs.Counts.{occurs}
@@ -15,15 +16,37 @@ use Rattle.shades_laws.proofs.Copies.{occurs-append}
 use Rattle.shades_tally_inner.proofs.Tallying.{occurs-none, occurs-here, occurs-other}
 use Rattle.shades_tally_inner.specs.Remaining.{Remains, Exceeds}
 
--- the counts in front of zeros are what they leave where no sector is taken
-pub untouched : (cs u : List ℕ) → length cs ≤ 16 → u ≡ cs → Remains cs [] (u ++ drop (length cs) (replicate 16 0))
-untouched cs u few e = record {
-  size = rw (e, length-append) (omega (arith, length-drop (length cs) (replicate {A = ℕ} 16 0), length-replicate {A = ℕ} 16 0));
-  left = λ b h. rw (e, List·get_d-append cs (drop (length cs) (replicate 16 0)) 0 b h) (omega (arith, occurs-none b));
-  past = λ b h.
-      let q : b ≡ length cs + (b - length cs) = omega arith in
-      rw (e, q, get_or-append-add cs (drop (length cs) (replicate 16 0)) (b - length cs) 0, get_or-drop) (zeros-at 16 (length cs + (b - length cs)));
+-- rem has the first b counts, and nothing of the others
+pub record Leaving (cs rem : List ℕ) (b : ℕ) : Type 0 where
+  pub size : length rem ≡ 16
+  pub within : b ≤ length cs
+  pub left : (x : ℕ) → x < b → get_or rem x 0 ≡ get_or cs x 0
+  pub past : (x : ℕ) → b ≤ x → get_or rem x 0 ≡ 0
+
+-- no count is looked at yet
+pub leave-start : (cs : List ℕ) → Leaving cs (replicate 16 0) 0
+leave-start cs = record { size = length-replicate {A = ℕ} 16 0; within = omega arith; left = λ x h. absurd (omega arith); past = λ x h. zeros-at 16 x }
+
+-- one count more
+pub leave-more : (cs rem : List ℕ) (b : ℕ) → length cs ≤ 16 → Leaving cs rem b → b < length cs → Leaving cs (set rem b (get_or cs b 0)) (b + 1)
+leave-more cs rem b few l h = record {
+  size = length-set rem b a ∙ l.size;
+  within = omega arith;
+  left = λ x m. elim (tri x b) [
+    | lt q ↦ get_or-set_other rem b x a 0 (λ z. omega arith) ∙ l.left x q
+    | eq q ↦ rw q (get_or-set_same rem b a 0 (omega (arith, l.size)))
+    | gt q ↦ absurd (omega arith)
+  ];
+  past = λ x m. get_or-set_other rem b x a 0 (λ z. omega arith) ∙ l.past x (omega arith);
 }
+  where
+    a : ℕ
+    a = get_or cs b 0
+
+-- where every count is looked at, they are what is left where no sector is taken
+pub leave-end : (cs rem : List ℕ) (b : ℕ) → Leaving cs rem b → length cs ≤ b → Remains cs [] rem
+leave-end cs rem b l h =
+    record { size = l.size; left = λ x m. omega (arith, l.left x (omega arith), occurs-none x); past = λ x m. l.past x (omega (arith, l.within)) }
 
 -- counts that are nowhere greater have no greater sum
 pub sum-le : (xs ys : List ℕ) → ((b : ℕ) → get_or xs b 0 ≤ get_or ys b 0) → sum_of xs ≤ sum_of ys

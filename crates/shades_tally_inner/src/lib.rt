@@ -41,13 +41,15 @@ pub fn is_counted(s: &[u8], p: usize, counts: &[usize]) -> bool
     s.len() % p == 0 && has_counts(s, counts)
 }
 
-// What the counts leave where no sector is taken.
+// What the counts leave where no sector is taken. By a loop: `copy_from_slice` lays them on the stack once more (docs/C.md).
 fn untouched(counts: &[usize]) -> [usize; 16]
     requires { length counts.now ≤ 16 }
     ensures { Remains counts.now [] result }
 {
     let mut rem = [0usize; 16];
-    rem[..counts.len()].copy_from_slice(counts);
+    for (b, &count) in counts.iter().enumerate() {
+        rem[b] = count;
+    }
     rem
 }
 
