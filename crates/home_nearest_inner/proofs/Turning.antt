@@ -1,10 +1,9 @@
 -- The search for the first turn of v that comes as near to w as the two are apart, and the turns of w that come near to itself.
---     first-near                                                 the first turn that comes so near is the nearest; there is one
+--     NotYet v w i                                               no turn of v by less than i comes so near
+--     not-yet-start, not-yet-on, not-yet-found, not-yet-never    from the first turn on, until one does; one does
 --     FarTurns d w j                                             no turn by 1 up to j comes nearer than d
 --     turned-start, turned_on, turned-near, turned-all           from the first turn on, until one does or half are passed
-use Rattle.words.proofs.Plain.{ℕ, ◌+◌, ◌-◌, ◌<◌, ◌≤◌, min, arith, ◌≡◌, sym, ◌∙◌, true, false, List, length, eq-eqb, ne_eqb}
-use Rattle.std.specs.Prelude.{Option, Some, None, MatchOption}
-use Rattle.std.specs.Option.{unwrap_or}
+use Rattle.words.proofs.Plain.{ℕ, ◌+◌, ◌-◌, ◌<◌, ◌≤◌, min, arith, ◌≡◌, sym, ap, true, false, List, length, eq-eqb, ne_eqb}
 use Rattle.words.specs.Turn.{turn}
 use Rattle.words.proofs.Split.{lt, eq, gt, tri, refuted}
 use Rattle.words.proofs.Search.{least-is}
@@ -15,19 +14,35 @@ use Rattle.home_turns_laws.proofs.Steady.{steady-each, each-steady, half-steady}
 
 -- ---- the nearest turn
 
-pub first-near :
-    (v w : List ℕ) (best : ℕ) → 0 < length v → best ≡ apart v w → (r : Option ℕ)
-    → MatchOption r ((j : ℕ) → 0 ≤ j → j < length v → differing (turn j v) w ≡ best → ⊥)
-    (λ i. (0 ≤ i) × (i < length v) × (differing (turn i v) w ≡ best) × ((j : ℕ) → 0 ≤ j → j < i → differing (turn j v) w ≡ best → ⊥))
-    → unwrap_or r 0 ≡ nearest_turn v w
-unfolding nearest_turn as_near
-first-near v w best z b None m = absurd (at (apart-at v w z))
+-- no turn by less than i comes as near
+pub record NotYet (v w : List ℕ) (i : ℕ) : Type 0 where
+  pub within : i ≤ length v
+  pub far : (j : ℕ) → j < i → differing (turn j v) w ≡ apart v w → ⊥
+
+pub not-yet-start : {v w : List ℕ} → NotYet v w 0
+not-yet-start = record { within = omega arith; far = λ j h e. omega arith }
+
+module _ {v w : List ℕ} {i : ℕ} (f : NotYet v w i) {best d : ℕ} (b : best ≡ apart v w) (q : d ≡ min (differing (turn i v) w) (best + 1)) (h : i < length v) where
+  -- this one does not
+  pub not-yet-on : (d ≡ best → ⊥) → NotYet v w (i + 1)
+  not-yet-on o =
+      record {
+        within = omega arith;
+        far = λ j m e. elim (tri j i) [ lt l ↦ f.far j l e | eq l ↦ o (omega (arith, ap (λ (x : ℕ). differing (turn x v) w) l)) | gt l ↦ omega arith ];
+      }
+
+  -- this one does
+  pub not-yet-found : d ≡ best → i ≡ nearest_turn v w
+  unfolding nearest_turn as_near
+  not-yet-found e =
+      sym (least-is (length v) (as_near v w) i h (eq-eqb (differing (turn i v) w) (apart v w) (omega arith)) (λ j m. ne_eqb (differing (turn j v) w) (apart v w) (f.far j m)))
+
+-- one does
+pub not-yet-never : {v w : List ℕ} {i : ℕ} → 0 < length v → NotYet v w i → length v ≤ i → ⊥
+not-yet-never {v = v} {w = w} z f h = at (apart-at v w z)
   where
     at : (j : ℕ) × (j < length v) × (differing (turn j v) w ≡ apart v w) → ⊥
-    at (j, l, e) = m j (omega arith) l (e ∙ sym b)
-first-near v w best z b (Some i) m =
-    sym (least-is (length v) (as_near v w) i m.1 (eq-eqb (differing (turn i v) w) (apart v w) (m.2 ∙ b))
-    (λ j l. ne_eqb (differing (turn j v) w) (apart v w) (λ e. m.3 j (omega arith) l (e ∙ sym b))))
+    at (j, l, e) = f.far j (omega arith) e
 
 -- ---- the turns of w that come near to itself
 

@@ -42,9 +42,12 @@ pub fn nearest_turn(a: &[u8], b: &[u8], best: usize) -> usize
     ensures { result ≡ nearest_turn a.now b.now }
 {
     let limit = best + 1;
-    (0..a.len())
-        .find(|&t| home_differing_inner::differing_below(a, t, b, limit) == best)
-        .unwrap_or(0)
+    for t in 0..a.len() {
+        if home_differing_inner::differing_below(a, t, b, limit) == best {
+            return t;
+        }
+    }
+    0
 }
 
 // Whether each turn of s but itself differs from it at d places at least. The turns by more than half of its length are those the other way round.

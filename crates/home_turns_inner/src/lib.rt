@@ -41,14 +41,12 @@ pub fn same_turns(a: &[u8], i: usize, b: &[u8], j: usize) -> bool
     true
 }
 
-// Writes s turned by i. By two copies, for `rotate_left` has a room of its own on the stack (02, request e).
-#[tactic(auto, unfolding(words::specs::Turn::turn))]
+// Writes s turned by i, place by place: two copies take more of the stack (02, request e), and `rotate_left` a room of its own.
 pub fn write_turn(s: &[u8], i: usize, out: &mut [u8])
     requires { (i ≤ length s.now) × (length out.old ≡ length s.now) }
     ensures { out.new ≡ turn i s.now }
 {
-    let (front, behind) = s.split_at(i);
-    let (to, rest) = out.split_at_mut(behind.len());
-    to.copy_from_slice(behind);
-    rest.copy_from_slice(front);
+    for m in 0..s.len() {
+        out[m] = sector(s, i, m);
+    }
 }
