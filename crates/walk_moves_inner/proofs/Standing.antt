@@ -39,12 +39,13 @@ pub record Stands (kind : K.Kind) (k : ℕ) (start ring : List ℕ) (p m : ℕ) 
   pub short : p < length start
   pub lyn-is : (p ≡ 0) ⊎ (p ≡ lyn ring)
 
--- the ring was raised at place i, and is next: what is then known, and what it is by the test of its kind
+-- the ring was raised at place i, and is next: what is then known; it is of each kind where i is the last place, and else by the test of its kind
 pub record Risen (kind : K.Kind) (k : ℕ) (start : List ℕ) (p m i : ℕ) (next : List ℕ) : Type 0 where
   pub fits : i ≤ length next
   pub long : length next ≡ length start
   pub short : p < length start
   pub rises : p < i
+  pub last : i ≡ length next → FoundAt kind k start next (Some i) (m + 1)
   pub found : kind_at kind (length next) i ≡ true → FoundAt kind k start next (Some i) (m + 1)
   pub on : kind_at kind (length next) i ≡ false → Stands kind k start next i (m + 1)
 
@@ -131,6 +132,7 @@ module _ {kind : K.Kind} {k : ℕ} {start : List ℕ} (ready : ReadyToStep k sta
             long = moved-long ∙ at.walked.long;
             short = at.short;
             rises = stands-rises z;
+            last = λ e. stands-found (rw e (kind-full kind (length next)));
             found = stands-found;
             on = stands_on;
           }

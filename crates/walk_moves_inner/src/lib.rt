@@ -61,9 +61,17 @@ pub fn advance(ring: &mut [u8], k: usize, kind: Kind) -> Reached
     let mut lyn = 0;
     let mut moves = 0;
     while let Some(at) = walk_raise_inner::last_low(ring, k) {
+        moves += 1;
+        if at == ring.len() - 1 {
+            // Most rings: with the last sector raised it is a Lyndon word, and nothing is repeated behind it. It stands apart so that the compiler sees that.
+            walk_raise_inner::raise(ring, at);
+            return Reached {
+                lyn: Some(at + 1),
+                moves,
+            };
+        }
         walk_raise_inner::raise(ring, at);
         lyn = at + 1;
-        moves += 1;
         if of_kind(kind, ring.len(), lyn) {
             return Reached {
                 lyn: Some(lyn),

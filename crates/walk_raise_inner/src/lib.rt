@@ -7,7 +7,7 @@ ghost use Rattle.rings.specs.Next.{raised, repeated};
 ghost use Rattle.walk_raise_inner.specs.Low.{LastLow};
 
 // The last place that holds less than k - 1, if there is one. The last sector is tested apart: it is the one in most rings. The others are counted down by hand: with
-// `rposition` in place of either a listing and a strip take some tenths more instructions.
+// `rposition` in place of either, a listing and a strip take some tenths more instructions.
 pub fn last_low(s: &[u8], k: usize) -> Option<usize>
     ensures { LastLow k s.now result }
 {

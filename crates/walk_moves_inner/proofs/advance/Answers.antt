@@ -9,20 +9,28 @@ loop-at-init c = stands-start c.requires
 pub raise-requires : goal.raise-requires
 raise-requires c = stands-low c.requires c.loop-at.invariant c.in-Some.ensures _ refl
 
+pub returns-then-at-ring : goal.returns-then-at-ring
+returns-then-at-ring c =
+    let r = risen c.requires c.loop-at.invariant c.in-Some.ensures (omega arith) c.raise.ensures in
+    r.last (omega (arith, r.long, c.loop-at.invariant.walked.long, r.rises, c.if-at-ring.true))
+
+pub raise-requires-in-Some : goal.raise-requires-in-Some
+raise-requires-in-Some c = stands-low c.requires c.loop-at.invariant c.in-Some.ensures _ refl
+
 pub overflow_add-lyn : goal.overflow_add-lyn
 overflow_add-lyn c = omega (arith, (stands-low c.requires c.loop-at.invariant c.in-Some.ensures _ refl).0)
 
 pub of_kind-requires : goal.of_kind-requires
-of_kind-requires c = omega (arith, risen c.requires c.loop-at.invariant c.in-Some.ensures (omega arith) c.raise.ensures)
+of_kind-requires c = omega (arith, risen c.requires c.loop-at.invariant c.in-Some.ensures (omega arith) c.raise-in-Some.ensures)
 
 pub returns-then-of_kind : goal.returns-then-of_kind
-returns-then-of_kind c = (risen c.requires c.loop-at.invariant c.in-Some.ensures (omega arith) c.raise.ensures).found (sym c.of_kind.ensures ∙ c.if-of_kind.true)
+returns-then-of_kind c = (risen c.requires c.loop-at.invariant c.in-Some.ensures (omega arith) c.raise-in-Some.ensures).found (sym c.of_kind.ensures ∙ c.if-of_kind.true)
 
 pub loop-at-smaller : goal.loop-at-smaller
-loop-at-smaller c = omega (arith, risen c.requires c.loop-at.invariant c.in-Some.ensures (omega arith) c.raise.ensures)
+loop-at-smaller c = omega (arith, risen c.requires c.loop-at.invariant c.in-Some.ensures (omega arith) c.raise-in-Some.ensures)
 
 pub loop-at-preserved : goal.loop-at-preserved
-loop-at-preserved c = (risen c.requires c.loop-at.invariant c.in-Some.ensures (omega arith) c.raise.ensures).on (sym c.of_kind.ensures ∙ c.if-of_kind.false)
+loop-at-preserved c = (risen c.requires c.loop-at.invariant c.in-Some.ensures (omega arith) c.raise-in-Some.ensures).on (sym c.of_kind.ensures ∙ c.if-of_kind.false)
 
 pub returns : goal.returns
 returns c = stands-none c.requires c.loop-at.invariant refl c.in_default.ensures
