@@ -1,7 +1,8 @@
 -- A time through the catalogue, block after block.
 --     fit-still                        lent and given back, there is as much room
 --     reached-none                     before the first block
---     at_on, at-ends, at-within        behind a block: another is read, or none
+--     at_on, at_done, at-stopped       behind a block: another is read, or none
+--     at-ends, at-within               how a time ends with a block
 --     written-through, through-whole   how both times ended
 use Rattle.words.proofs.Plain.{ℕ, ◌+◌, ◌<◌, ◌≤◌, arith, ◌≡◌, refl, sym, inl, inr, Bool, true, false, true≢false, List, [], ◌++◌, eqb, length}
 use Rattle.words.proofs.Plain.{take, length-append, length-take, eqb-true}
@@ -62,13 +63,13 @@ module _ (w : Bool) (p : ℕ) (b d : List ℕ) (v : Course) (q : Reached w p) wh
       let j : length (take n b) ≡ length b = omega (arith, i, length-take n b) in
       (goes_on (take n b) m h.1 (omega (arith, j, l)), omega (arith, j, h.1.0), on-reached w p (take n b) (take n d) m h q)
 
-  at_done : (m : ℕ) → v ≡ Done m → AtSays w p b d v → (m ≤ length b) × Reached w (p + m)
+  pub at_done : (m : ℕ) → v ≡ Done m → AtSays w p b d v → (m ≤ length b) × Reached w (p + m)
   at_done m e (unread f) = absurd (cc)
   at_done m e (read last n i k) =
       let h : BlockBecomes w p (take n b) last (take n d) (Done m) = rw e at k in
       (omega (arith, h.1, length-take n b), done-reached w p (take n b) last (take n d) m h q)
 
-  at-stopped : (t : Ending) → v ≡ Stopped t → AtSays w p b d v → StopSays w t
+  pub at-stopped : (t : Ending) → v ≡ Stopped t → AtSays w p b d v → StopSays w t
   at-stopped t e (unread f) = let g : t ≡ failed_of w = cc in rw g (failed-stops w)
   at-stopped t e (read last n i k) = let h : BlockBecomes w p (take n b) last (take n d) (Stopped t) = rw e at k in why-stops w p (take n b) last t h q
 

@@ -1,7 +1,8 @@
 -- What becomes of a time through the file.
 --     roomy-still                      lent and given back, there is as much room
 --     reached-none                     before the first block
---     at_on, at-ends, at-within        behind a block: another is read, or none
+--     at_on, at_done, at-stopped       behind a block: another is read, or none
+--     at-ends, at-within               how a time ends with a block
 --     written-told, through-written    how both times ended
 use Rattle.words.proofs.Plain.{ℕ, ◌+◌, ◌*◌, ◌<◌, ◌≤◌, arith, ◌≡◌, refl, sym, ap, ◌∙◌, ◌⊎◌, inl, inr, Bool, true, false, true≢false, List, [], ◌++◌, eqb, length}
 use Rattle.words.proofs.Plain.{take, drop, length-append, length-take, length-drop, eqb-true}
@@ -113,11 +114,11 @@ module _ (j : Job) (w : Time) (p : ℕ) (q : FileReached j p) (v : Course) where
       let k = turn_on (take n b) false d m e (omega (arith, j, l)) h in
       (k.0, omega (arith, j, k.1), k.2)
 
-  at_done : (b d : List ℕ) (m : ℕ) → v ≡ Done m → FileAtSays j w p b d v → (m ≤ length b) × FileTold j (p + m)
+  pub at_done : (b d : List ℕ) (m : ℕ) → v ≡ Done m → FileAtSays j w p b d v → (m ≤ length b) × FileTold j (p + m)
   at_done b d m e (unread f) = absurd (cc)
   at_done b d m e (read last n i h) = let k = turn-done (take n b) last d m e h in (omega (arith, k.0, length-take n b), k.1)
 
-  at-stopped : (b d : List ℕ) (t : Ending) → v ≡ Stopped t → FileAtSays j w p b d v → FileStopSays j w t
+  pub at-stopped : (b d : List ℕ) (t : Ending) → v ≡ Stopped t → FileAtSays j w p b d v → FileStopSays j w t
   at-stopped b d t e (unread f) = let k : t ≡ file_failed_of w = cc in rw k (failed-stops j w)
   at-stopped b d t e (read last n i h) = turn_stopped (take n b) last d t e h
 
